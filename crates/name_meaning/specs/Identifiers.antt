@@ -1,5 +1,5 @@
 -- Which texts are identifiers (this profile). A text is the list of its bytes.
-use Rattle.std.specs.Prelude.{ℕ, Bool, false, List, [], ◌∷◌, ◌&&◌, not, nat_eq, codes}
+use Rattle.std.specs.Prelude.{ℕ, Bool, List, [], ◌∷◌, length, ◌==◌, ◌&&◌, not, nat_eq, codes}
 use Rattle.std.specs.Cmp.Lexicographic.{pointwise}
 use Rattle.std.specs.List.{list_any, list_all}
 use Rattle.name_meaning.specs.Characters.{is_identifier_byte}
@@ -14,8 +14,7 @@ is_reserved text = list_any (pointwise nat_eq text) reserved_words
 
 -- Read: the text is a run of at least one identifier byte and nothing else.
 abbrev pub is_run : List ℕ → Bool
-is_run [] = false
-is_run (byte ∷ bytes) = list_all is_identifier_byte (byte ∷ bytes)
+is_run text = not (length text == 0) && list_all is_identifier_byte text
 
 -- Read: the text is an identifier, that is a run which is no reserved word.
 abbrev pub is_identifier : List ℕ → Bool

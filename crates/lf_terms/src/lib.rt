@@ -1,0 +1,16 @@
+//! Terms of the logical framework, and the small types that all crates share.
+//! So far: names, places in a text, want of memory, and lists of bytes and of texts.
+#![tactic(auto)]
+
+mod bytes;
+mod identifier;
+mod memory;
+mod name;
+mod span;
+mod texts;
+
+pub use bytes::Bytes;
+pub use memory::Memory;
+pub use name::{Name, NameFault};
+pub use span::Span;
+pub use texts::Texts;

@@ -1,0 +1,133 @@
+//! Names: identifiers whose bytes are shared, so that a copy costs the same for a name of any length.
+ghost use Rattle.std.specs.Prelude.{◌≡◌, ◌↔◌, IfOk, OnOk, IsErrOf, IsTrue, not, nat_eq, refl, Some};
+ghost use Rattle.std.specs.Ordering.{nat_cmp};
+ghost use Rattle.std.specs.Hash as fed;
+ghost use Rattle.std.specs.Cmp.{partial_equiv_from_equiv};
+ghost use Rattle.std.specs.Cmp.Rules.{hashing};
+ghost use Rattle.std.specs.Cmp.Lexicographic.{pointwise, slice_cmp, nat_list_eq_equiv, nat_list_cmp_total, texts_ties, texts_po};
+ghost use Rattle.name_meaning.specs.Identifiers.{is_identifier};
+ghost use Rattle.lf_terms.specs.declared.name.NameFault.TheVariants.{NotAName, Memory as WantOfMemory};
+
+use crate::Memory;
+use crate::identifier::is_identifier;
+use std::alloc::{AllocError, Global};
+use std::cmp::Ordering;
+use std::hash::{Hash, Hasher};
+use std::marker::Model;
+use std::sync::ArcStr;
+
+/// Why a text gave no name.
+#[derive(Clone, Copy, Debug, PartialEq, Eq)]
+pub enum NameFault {
+    /// The text is no identifier, or it is a reserved word.
+    NotAName,
+    Memory,
+}
+
+impl From<AllocError> for NameFault {
+    ghost from_gives = { λ _ e. e ≡ WantOfMemory };
+
+    fn from(_: AllocError) -> Self {
+        NameFault::Memory
+    }
+}
+
+/// A name, seen as its bytes, which are an identifier.
+#[derive(Debug, Drop)]
+pub struct Name {
+    text: ArcStr,
+}
+
+impl Model for Name {
+    ghost use Rattle.std.specs.Prelude.{List, ℕ, IsTrue};
+    ghost use Rattle.std.specs.Arc.{arc_str_bytes};
+    ghost use Rattle.name_meaning.specs.Identifiers.{is_identifier};
+
+    ghost Value = { List ℕ };
+
+    ghost view = { λ n. arc_str_bytes n.text };
+
+    ghost invariant = { λ n. IsTrue (is_identifier (arc_str_bytes n.text)) };
+}
+
+impl Name {
+    /// The name with the bytes of a text.
+    pub fn new(alloc: Global, text: &str) -> Result<Name, NameFault>
+        ensures name { IfOk result (λ name. name ≡ text.now) }
+        ensures identifier { OnOk result (IsTrue (is_identifier text.now)) }
+        ensures not_a_name { IsErrOf result NotAName ↔ IsTrue (not (is_identifier text.now)) }
+    {
+        if !is_identifier(text) {
+            return Err(NameFault::NotAName);
+        }
+        Ok(Name {
+            text: ArcStr::from_str(alloc, text)?,
+        })
+    }
+
+    pub fn as_str(&self) -> &str
+        ensures text { result.now ≡ self.now }
+        ensures identifier { IsTrue (is_identifier self.now) }
+    {
+        self.text.as_str()
+    }
+
+    /// An equal name, over the same bytes.
+    pub fn copy(&self, _alloc: Global) -> Result<Name, Memory>
+        ensures { IfOk result (λ name. name ≡ self.now) }
+    {
+        Ok(Name {
+            text: self.text.clone()?,
+        })
+    }
+}
+
+impl PartialEq for Name {
+    ghost eq = { pointwise nat_eq };
+
+    ghost laws = { partial_equiv_from_equiv nat_list_eq_equiv };
+
+    fn eq(&self, other: &Self) -> bool {
+        self.text == other.text
+    }
+}
+
+impl Eq for Name {
+    ghost laws = { nat_list_eq_equiv };
+}
+
+impl PartialOrd for Name {
+    ghost partial_cmp = { λ x y. Some (slice_cmp nat_cmp x y) };
+
+    ghost laws = { texts_po };
+
+    fn partial_cmp(&self, other: &Self) -> Option<Ordering> {
+        Some(self.cmp(other))
+    }
+}
+
+impl Ord for Name {
+    ghost cmp = { slice_cmp nat_cmp };
+
+    ghost total = { nat_list_cmp_total };
+
+    ghost matches_partial_cmp = { λ x y. refl };
+
+    ghost matches_eq = { texts_ties };
+
+    fn cmp(&self, other: &Self) -> Ordering {
+        self.text.cmp(&other.text)
+    }
+}
+
+impl Hash for Name {
+    ghost use Rattle.std.proofs.Common.{rules};
+
+    ghost hash_input = { fed.str };
+
+    ghost respects_eq = { Prim.search (hashing, rules) };
+
+    fn hash<H: Hasher>(&self, state: &mut H) {
+        self.text.hash(state);
+    }
+}
