@@ -1,5 +1,5 @@
 -- Which declarations of the first form are accepted, and the first fault of the others (this profile).
-use Rattle.std.specs.Prelude.{◌≡◌, ℕ, Bool, true, List, [], ◌∷◌, ◌++◌, ◌⊎◌, Option, Some, None, is_none, ◌&&◌, if◌then◌else◌}
+use Rattle.std.specs.Prelude.{◌≡◌, ℕ, Bool, true, List, [], ◌∷◌, ◌⊎◌, Option, Some, None, is_none, ◌&&◌, if◌then◌else◌}
 use Rattle.std.specs.Str.{bytes_eq}
 use Rattle.output_meaning.specs.Pieces.{Piece}
 use Rattle.output_meaning.specs.FirstForm.{Row, kind, names, Declaration}
@@ -59,22 +59,24 @@ Breaks above name unknown_name = declared above name ≡ None
 Breaks above name level = declared above name ≡ Some object
 Breaks above name unsupported = ⊥
 
--- Read: the refusal names a place in the row of this declaration, at which a name breaks a rule, and the names before it stand.
-pub record BreaksIn (above : List Declaration) (declaration : Declaration) (refusal : Refusal) : Type 0 where
-  pub before : List Piece
-  pub name : Piece
-  pub after : List Piece
-  pub row : names_in declaration.row ≡ before ++ (name ∷ after)
-  pub stand : AllStand above before
+-- Read: the refusal is at this name, by a rule that the name breaks, with this label.
+pub record FaultsAt (above : List Declaration) (label : List ℕ) (name : Piece) (refusal : Refusal) : Type 0 where
   pub breaks : Breaks above name.bytes refusal.rule
   pub place : refusal.at ≡ name.at
-  pub about : refusal.label ≡ declaration.name.bytes
+  pub about : refusal.label ≡ label
 
--- Read: the refusal is that of the first test which fails: the declarations are tested in order.
+-- Read: the refusal is that of the first name of the row which does not stand.
+abbrev pub IsRowFault : List Declaration → List ℕ → List Piece → Refusal → Type 0
+IsRowFault above label [] refusal = ⊥
+IsRowFault above label (name ∷ others) refusal =
+    FaultsAt above label name refusal ⊎ ((declared above name.bytes ≡ Some family) × IsRowFault above label others refusal)
+
+-- Read: the refusal is that of the first test which fails. The declarations are tested in order, and the names of a row
+-- from left to right; the label is the declared name.
 abbrev pub IsFirstFault : List Declaration → List Declaration → Refusal → Type 0
 IsFirstFault above [] refusal = ⊥
 IsFirstFault above (declaration ∷ declarations) refusal =
-    BreaksIn above declaration refusal
+    IsRowFault above declaration.name.bytes (names_in declaration.row) refusal
     ⊎ (AllStand above (names_in declaration.row) × IsFirstFault (declaration ∷ above) declarations refusal)
 
 -- Read: what the level of a name in a row makes of it: nothing where it is a family.
@@ -100,10 +102,13 @@ first_fault above [] = None
 first_fault above (declaration ∷ declarations) =
     or_else (row_fault above declaration.name.bytes (names_in declaration.row)) (first_fault (declaration ∷ above) declarations)
 
--- Read: declarations have exactly one of these: they are accepted, or the function answers the one first fault.
-abbrev pub HasOneVerdict : List Declaration → List Declaration → Option Refusal → Type 0
-HasOneVerdict above declarations None =
-    IsAccepted above declarations × ((refusal : Refusal) → IsFirstFault above declarations refusal → ⊥)
-HasOneVerdict above declarations (Some fault) =
-    IsFirstFault above declarations fault × ((refusal : Refusal) → IsFirstFault above declarations refusal → refusal ≡ fault)
-    × (IsAccepted above declarations → ⊥)
+-- Read: there is exactly one of these: what is accepted holds, and nothing is a fault; or this is the one fault, and what
+-- is accepted does not hold.
+abbrev pub HasOne : Type 0 → (Refusal → Type 0) → Option Refusal → Type 0
+HasOne Accepted IsFault None = Accepted × ((refusal : Refusal) → IsFault refusal → ⊥)
+HasOne Accepted IsFault (Some fault) =
+    IsFault fault × ((refusal : Refusal) → IsFault refusal → refusal ≡ fault) × (Accepted → ⊥)
+
+-- Read: declarations are accepted, or have one first fault, which the function answers.
+abbrev pub HasOneVerdict : List Declaration → Type 0
+HasOneVerdict declarations = HasOne (IsAccepted [] declarations) (IsFirstFault [] declarations) (first_fault [] declarations)
