@@ -1,3 +1,4 @@
 pub mod Examples
 pub mod FirstFaults
+pub mod LineLemmas
 pub mod Items
