@@ -1,12 +1,9 @@
 -- Bytes without a line feed, and the first line of bytes.
-use Rattle.std.proofs.Common.{◌≡◌, ◌≢◌, ℕ, zero, suc, ◌+◌, ◌-◌, ◌<◌, ◌≤◌, Bool, true, false, cond, List, [], ◌∷◌, ◌++◌, length, take, drop, get_or, refl, sym, ap, ◌∙◌, arith, append_assoc}
+use Rattle.std.proofs.Common.{◌≡◌, ◌≢◌, ℕ, ◌+◌, ◌<◌, ◌≤◌, false, List, [], ◌∷◌, ◌++◌, length, take, get_or, refl, subst, arith}
+use Rattle.std.proofs.lemmas.Bool.Decides.{nat_tests}
+use Rattle.std.proofs.lemmas.List.{take_more, take_all}
 use Rattle.std.specs.Prelude.{◌==◌}
-use Rattle.output_meaning.specs.Lines.{onto_first, lines_of}
-
--- no byte is a line feed
-abbrev pub NoFeed : List ℕ → Type 0
-NoFeed [] = Unit {0}
-NoFeed (byte ∷ bytes) = ((byte == 10) ≡ false) × NoFeed bytes
+use Rattle.output_meaning.specs.Lines.{onto_first, lines_of, NoFeed}
 
 pub NoFeed-append : (xs ys : List ℕ) → NoFeed xs → NoFeed ys → NoFeed (xs ++ ys)
 NoFeed-append [] ys p q = q
@@ -24,3 +21,10 @@ pub lines_of-last : (x : ℕ) (xs : List ℕ) → NoFeed (x ∷ xs) → lines_of
 unfolding lines_of
 lines_of-last x [] p = rw p.0 refl
 lines_of-last x (y ∷ xs) p = rw (p.0, lines_of-last y xs p.1) refl
+
+pub NoFeed-take_more : (bytes : List ℕ) (i : ℕ) → i < length bytes → NoFeed (take i bytes) → get_or bytes i 0 ≢ 10 → NoFeed (take (i + 1) bytes)
+NoFeed-take_more bytes i lt front other =
+    rw (take_more bytes i 0 lt) (NoFeed-append (take i bytes) (get_or bytes i 0 ∷ []) front (grind (arith, nat_tests), tt))
+
+pub NoFeed-all : (bytes : List ℕ) (i : ℕ) → length bytes ≤ i → NoFeed (take i bytes) → NoFeed bytes
+NoFeed-all bytes i le front = subst NoFeed (take_all i bytes le) front

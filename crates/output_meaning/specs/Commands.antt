@@ -36,15 +36,16 @@ is_silent content = list_all is_white_space content || starts_with nat_eq conten
 abbrev pub of_name : (List ℕ → Said) → List ℕ → Said
 of_name said name = if is_name name then said name else wrong
 
--- Read: what the content of a line says. A longer line than the limit is wrong whatever it holds. The word of a command
--- and its name are parted by one space.
+-- Read: what the content of a command line says. The word of a command and its name are parted by one space.
+abbrev pub command_by : List ℕ → Said
+command_by content =
+    if starts_with nat_eq content (codes "put ") then of_name puts (drop 4 content)
+    else (if starts_with nat_eq content (codes "report ") then of_name reports (drop 7 content) else wrong)
+
+-- Read: what the content of a line says. A longer line than the limit is wrong whatever it holds.
 abbrev pub said_by : List ℕ → Said
 said_by content =
-    if nat_lt line_limit (length content) then wrong
-    else (if is_silent content then nothing
-    else (if starts_with nat_eq content (codes "put ") then of_name puts (drop 4 content)
-    else (if starts_with nat_eq content (codes "report ") then of_name reports (drop 7 content)
-    else wrong)))
+    if nat_lt line_limit (length content) then wrong else (if is_silent content then nothing else command_by content)
 
 -- Read: the line ends the text of a `put`.
 abbrev pub is_end_line : List ℕ → Bool

@@ -1,5 +1,5 @@
 -- How bytes are cut into lines (this profile).
-use Rattle.std.specs.Prelude.{ℕ, List, [], ◌∷◌, ◌-◌, ◌==◌, length, take, slice_index, if◌then◌else◌}
+use Rattle.std.specs.Prelude.{◌≡◌, ℕ, false, List, [], ◌∷◌, ◌-◌, ◌==◌, length, take, slice_index, if◌then◌else◌}
 use Rattle.std.specs.Str.Lines.{strip_carriage_return}
 
 -- Read: the byte goes to the front of the first line, or makes a line of its own where there is none.
@@ -13,6 +13,11 @@ unfoldable pub lines_of : List ℕ → List (List ℕ)
 lines_of [] = []
 lines_of (byte ∷ bytes) =
     if byte == 10 then (byte ∷ []) ∷ lines_of bytes else onto_first byte (lines_of bytes)
+
+-- Read: no byte is a line feed.
+abbrev pub NoFeed : List ℕ → Type 0
+NoFeed [] = Unit {0}
+NoFeed (byte ∷ bytes) = ((byte == 10) ≡ false) × NoFeed bytes
 
 -- Read: the line less the line feed at its end, if it has one.
 abbrev pub without_line_feed : List ℕ → List ℕ

@@ -1,0 +1,10 @@
+-- What the reader takes a line to say, as the definitions say it.
+use Rattle.output_meaning.specs.Commands as meant
+use Rattle.script_reader.specs.declared.said.Said.{Said}
+use Rattle.script_reader.specs.declared.said.Said.TheVariants.{Nothing, Puts, Reports, Wrong}
+
+abbrev pub meaning_of : Said → meant.Said
+meaning_of Nothing = meant.nothing
+meaning_of (Puts name) = meant.puts name
+meaning_of (Reports name) = meant.reports name
+meaning_of Wrong = meant.wrong

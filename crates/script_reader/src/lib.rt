@@ -1,0 +1,11 @@
+//! Reads the commands of a script, one at a time, from a source of bytes.
+#![tactic(auto)]
+
+mod buffer;
+mod command;
+mod fault;
+mod line;
+mod said;
+
+pub use command::Command;
+pub use fault::ScriptFault;
