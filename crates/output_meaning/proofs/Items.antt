@@ -22,7 +22,7 @@ ended-shorter : (name text : List ℕ) (behind : Option (List (List ℕ))) (n : 
 ended-shorter name text None n spoken rest h e = absurd cc
 ended-shorter name text (Some lines) n spoken rest h e = h rest cc
 
-put_of-shorter : (name : List ℕ) (lines : List (List ℕ)) (spoken : Command) (rest : List (List ℕ)) → put_of name lines ≡ gives spoken rest
+pub put_of-shorter : (name : List ℕ) (lines : List (List ℕ)) (spoken : Command) (rest : List (List ℕ)) → put_of name lines ≡ gives spoken rest
     → length rest < length lines
 put_of-shorter name lines spoken rest e = by_test (nat_lt text_limit (length (text_before lines))) e
     where

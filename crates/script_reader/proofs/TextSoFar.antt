@@ -27,7 +27,7 @@ pub HasText-nil : (before : Option (List ℕ)) (line : ℕ) (text : List ℕ) �
 HasText-nil before line text none = subst (λ (t : List ℕ). HasText before before line line t) (sym none)
     (record { lines = 0; so_far = IsTextSoFar-nil; count = omega arith; bytes = sym (preceded-nil before) })
 
-ends_in_feed-first : (line : List ℕ) → EndsInFeed line → (rest : List ℕ) → lines_of (line ++ rest) ≡ line ∷ lines_of rest
+pub ends_in_feed-first : (line : List ℕ) → EndsInFeed line → (rest : List ℕ) → lines_of (line ++ rest) ≡ line ∷ lines_of rest
 ends_in_feed-first line ends rest =
     subst (λ (l : List ℕ). lines_of (l ++ rest) ≡ l ∷ lines_of rest) (sym ends.is) (first_line-feed ends.front rest ends.plain)
 

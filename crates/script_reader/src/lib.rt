@@ -6,6 +6,7 @@ mod command;
 mod fault;
 mod line;
 mod said;
+mod script;
 mod text;
 
 pub use command::Command;

@@ -1,17 +1,17 @@
 //! What a line says.
-ghost use Rattle.std.specs.Prelude.{◌≡◌, IfOk, if◌then◌else◌, Some, None};
+ghost use Rattle.std.specs.Prelude.{◌≡◌, ◌≤◌, length, IfOk, if◌then◌else◌, Some, None};
 ghost use Rattle.std.specs.List.{list_all};
 ghost use Rattle.std.specs.Str.Lines.{strip_carriage_return};
 ghost use Rattle.output_meaning.specs.Lines as lines;
 ghost use Rattle.output_meaning.specs.Commands as commands;
 ghost use Rattle.name_meaning.specs.Characters as characters;
-ghost use Rattle.script_reader.specs.Said.{meaning_of};
+ghost use Rattle.script_reader.specs.Said.{meaning_of, IsWithin};
 
 use lf_terms::{Memory, Name, NameFault};
 use std::alloc::Global;
 
 /// The greatest length of a line outside the text of a `put`, its line end not counted.
-const LINE_LIMIT: usize = 1024;
+pub(crate) const LINE_LIMIT: usize = 1024;
 
 /// What a line says that is no part of a text.
 #[derive(Drop)]
@@ -89,7 +89,9 @@ fn is_silent(content: &[u8]) -> bool
 }
 
 fn puts(alloc: Global, name: &[u8]) -> Result<Said, Memory>
-    ensures { IfOk result (λ said. meaning_of said ≡ commands.of_name commands.puts name.now) }
+    requires { length name.now ≤ commands.line_limit }
+    ensures said { IfOk result (λ said. meaning_of said ≡ commands.of_name commands.puts name.now) }
+    ensures within { IfOk result IsWithin }
 {
     Ok(match name_of(alloc, name)? {
         Some(name) => Said::Puts(name),
@@ -98,7 +100,9 @@ fn puts(alloc: Global, name: &[u8]) -> Result<Said, Memory>
 }
 
 fn reports(alloc: Global, name: &[u8]) -> Result<Said, Memory>
-    ensures { IfOk result (λ said. meaning_of said ≡ commands.of_name commands.reports name.now) }
+    requires { length name.now ≤ commands.line_limit }
+    ensures said { IfOk result (λ said. meaning_of said ≡ commands.of_name commands.reports name.now) }
+    ensures within { IfOk result IsWithin }
 {
     Ok(match name_of(alloc, name)? {
         Some(name) => Said::Reports(name),
@@ -107,7 +111,9 @@ fn reports(alloc: Global, name: &[u8]) -> Result<Said, Memory>
 }
 
 fn command_by(alloc: Global, content: &[u8]) -> Result<Said, Memory>
-    ensures { IfOk result (λ said. meaning_of said ≡ commands.command_by content.now) }
+    requires { length content.now ≤ commands.line_limit }
+    ensures said { IfOk result (λ said. meaning_of said ≡ commands.command_by content.now) }
+    ensures within { IfOk result IsWithin }
 {
     if content.starts_with(b"put ") {
         puts(alloc, &content[4..])
@@ -119,7 +125,8 @@ fn command_by(alloc: Global, content: &[u8]) -> Result<Said, Memory>
 }
 
 fn said_by_content(alloc: Global, content: &[u8]) -> Result<Said, Memory>
-    ensures { IfOk result (λ said. meaning_of said ≡ commands.said_by content.now) }
+    ensures said { IfOk result (λ said. meaning_of said ≡ commands.said_by content.now) }
+    ensures within { IfOk result IsWithin }
 {
     if content.len() > LINE_LIMIT {
         return Ok(Said::Wrong);
@@ -132,7 +139,8 @@ fn said_by_content(alloc: Global, content: &[u8]) -> Result<Said, Memory>
 
 /// What a line says, its line end included.
 pub(crate) fn said_by(alloc: Global, line: &[u8]) -> Result<Said, Memory>
-    ensures { IfOk result (λ said. meaning_of said ≡ commands.said_by (lines.content_of line.now)) }
+    ensures said { IfOk result (λ said. meaning_of said ≡ commands.said_by (lines.content_of line.now)) }
+    ensures within { IfOk result IsWithin }
 {
     said_by_content(alloc, content(line))
 }
