@@ -10,8 +10,8 @@ use Rattle.script_reader.specs.declared.command.Command.{Command}
 use Rattle.script_reader.specs.declared.command.Command.TheVariants as commands
 use Rattle.script_reader.specs.declared.fault.ScriptFault.{ScriptFault}
 use Rattle.script_reader.specs.declared.fault.ScriptFault.TheVariants.{Bad, Unended, Failed, Spent, Memory}
-use Rattle.script_reader.specs.declared.script.FirstLine.{FirstLine}
-use Rattle.script_reader.specs.declared.script.FirstLine.TheVariants.{Whole, TooLong, Missing}
+use Rattle.script_reader.specs.declared.next.FirstLine.{FirstLine}
+use Rattle.script_reader.specs.declared.next.FirstLine.TheVariants.{Whole, TooLong, Missing}
 
 -- Read: a line was read, which is the first of the lines to come; or that line is too long for a script; or there is none.
 abbrev pub IsFirstLine : FirstLine → Option (List ℕ) → Option (List ℕ) → Type 0

@@ -2,3 +2,4 @@ pub mod Pieces
 pub mod Said
 pub mod Texts
 pub mod Answers
+pub mod Reading

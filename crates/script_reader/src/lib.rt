@@ -6,8 +6,10 @@ mod command;
 mod fault;
 mod line;
 mod said;
+mod next;
 mod script;
 mod text;
 
 pub use command::Command;
 pub use fault::ScriptFault;
+pub use script::Script;

@@ -1,103 +1,85 @@
 //! The script that is read.
-ghost use Rattle.std.specs.Prelude.{◌≡◌, ◌≤◌, ℕ, List, [], length, IfOk, IfErr, OnOk, IfSome};
-ghost use Rattle.mmt_outside.specs.Bytes.{preceded};
+ghost use Rattle.std.specs.Prelude.{◌≡◌, ◌≤◌, true, false, [], IsTrue, IfSome, IfOk, OnOk, OnErr, IsErrOf, ◌↔◌};
 ghost use Rattle.output_meaning.specs.Lines.{lines_of};
-ghost use Rattle.output_meaning.specs.Commands.{line_limit, put_of, next_of};
-ghost use Rattle.script_reader.specs.Pieces.{IsCaused};
-ghost use Rattle.script_reader.specs.Answers.{IsFirstLine, IsAnswer, IsShort, HasCause};
+ghost use Rattle.output_meaning.specs.Commands.{next_of};
+ghost use Rattle.mmt_outside.specs.Faults.{Rose};
+ghost use Rattle.script_reader.specs.Reading.{to_come, may_put_next};
+ghost use Rattle.script_reader.specs.Answers.{IsAnswer, IsShort};
 ghost use Rattle.script_reader.specs.Texts.{StaysTold};
 
 use crate::buffer::Buffer;
 use crate::command::Command;
 use crate::fault::ScriptFault;
-use crate::line::{LineEnd, read_line};
-use crate::said::{LINE_LIMIT, Said, said_by};
-use crate::text::{Ending, read_text};
-use lf_terms::{Bytes, Name};
+use crate::next::next;
 use mmt_outside::Source;
 use std::alloc::Global;
+use std::marker::Model;
 
-/// The first of the lines to come.
+/// A script, as far as it was read. It is seen as the bytes that were read from the source and not used yet, the number of
+/// the next line, whether a `put` may still come, and whether an error was answered.
 #[derive(Drop)]
-enum FirstLine {
-    Whole(Vec<u8>),
-    TooLong,
-    Missing,
-}
-
-fn first_line<S: Source>(
-    alloc: Global,
-    buffer: &mut Buffer,
-    source: &mut S,
-) -> Result<FirstLine, ScriptFault>
-    ensures line { IfOk result (λ line. IsFirstLine line (preceded buffer.old (S.left source.old)) (preceded buffer.new (S.left source.new))) }
-    ensures later { S.faults source.old ≤ S.faults source.new }
-    ensures cause { IfErr result (λ fault. IsCaused (S.faults source.old) (S.faults source.new) fault) }
-{
-    let mut line = Vec::new(alloc);
-    // A line end has two bytes at most.
-    match read_line(buffer, source, &mut line, LINE_LIMIT + 3)? {
-        LineEnd::Limit => Ok(FirstLine::TooLong),
-        LineEnd::Input if line.is_empty() => Ok(FirstLine::Missing),
-        LineEnd::Input => Ok(FirstLine::Whole(line)),
-        LineEnd::Feed => Ok(FirstLine::Whole(line)),
-    }
-}
-
-/// Reads the text of a `put` of this name. Its line has the number `first`.
-fn put<S: Source>(
-    alloc: Global,
-    buffer: &mut Buffer,
-    source: &mut S,
-    line: &mut u64,
-    first: u64,
-    name: Name,
-) -> Result<Command, ScriptFault>
-    requires { length name ≤ line_limit }
-    ensures answer { IfSome (preceded buffer.old (S.left source.old))
-        (λ bytes. IsAnswer result (put_of name (lines_of bytes)) (lines_of bytes) (preceded buffer.new (S.left source.new)) first line.old line.new) }
-    ensures told { OnOk result (StaysTold (preceded buffer.old (S.left source.old)) (preceded buffer.new (S.left source.new))) }
-    ensures within { IfOk result IsShort }
-    ensures later { S.faults source.old ≤ S.faults source.new }
-    ensures cause { IfErr result (λ fault. HasCause (S.faults source.old) (S.faults source.new) fault) }
-{
-    match read_text(alloc, buffer, source, line)? {
-        Ending::Whole(text) => Ok(Command::Put {
-            name,
-            text: Bytes::from_vec(text),
-        }),
-        Ending::TooLong => Err(ScriptFault::Bad { line: first }),
-        Ending::Unended => Err(ScriptFault::Unended { line: first }),
-    }
-}
-
-/// Reads the next command. The line that it begins on is counted, and those of a text.
-fn next<S: Source>(
-    alloc: Global,
-    buffer: &mut Buffer,
-    source: &mut S,
-    line: &mut u64,
+pub struct Script {
+    buffer: Buffer,
+    line: u64,
     may_put: bool,
-) -> Result<Command, ScriptFault>
-    ensures answer { IfSome (preceded buffer.old (S.left source.old))
-        (λ bytes. IsAnswer result (next_of may_put (lines_of bytes)) (lines_of bytes) (preceded buffer.new (S.left source.new)) line.old line.old line.new) }
-    ensures told { OnOk result (StaysTold (preceded buffer.old (S.left source.old)) (preceded buffer.new (S.left source.new))) }
-    ensures within { IfOk result IsShort }
-    ensures later { S.faults source.old ≤ S.faults source.new }
-    ensures cause { IfErr result (λ fault. HasCause (S.faults source.old) (S.faults source.new) fault) }
-{
-    let first = *line;
-    let text = match first_line(alloc, buffer, source)? {
-        FirstLine::Whole(text) => text,
-        FirstLine::TooLong => return Err(ScriptFault::Bad { line: first }),
-        FirstLine::Missing => return Ok(Command::End),
-    };
-    *line = first.saturating_add(1);
-    match said_by(alloc, &text)? {
-        Said::Nothing => Ok(Command::Blank),
-        Said::Puts(name) if may_put => put(alloc, buffer, source, line, first, name),
-        Said::Puts(_) => Err(ScriptFault::Bad { line: first }),
-        Said::Reports(name) => Ok(Command::Report(name)),
-        Said::Wrong => Err(ScriptFault::Bad { line: first }),
+    is_spent: bool,
+}
+
+impl Model for Script {
+    ghost use Rattle.script_reader.specs.Reading.{Reading};
+
+    ghost Value = { Reading };
+
+    ghost view = { λ s. record { buffered = s.buffer; line = s.line; may_put = s.may_put; is_spent = s.is_spent } };
+}
+
+impl Script {
+    /// A script of which nothing was read. It takes no memory.
+    pub fn new() -> Self
+        ensures { result ≡ record { buffered = []; line = 1; may_put = true; is_spent = false } }
+    {
+        Script {
+            buffer: Buffer::new(),
+            line: 1,
+            may_put: true,
+            is_spent: false,
+        }
+    }
+
+    /// The next command of the script. The bytes to come are those in the buffer, and then those that the source has left.
+    /// So far a script gives `Put`, once, `Report`, `Blank` and `End`.
+    pub fn next_command<S: Source>(
+        &mut self,
+        alloc: Global,
+        source: &mut S,
+    ) -> Result<Command, ScriptFault>
+        // A script that answered an error answers `Spent` from then on, and reads nothing. This is tested before all else.
+        ensures spent { IsErrOf result ScriptFault.Spent ↔ IsTrue self.old.is_spent }
+        ensures unread { IsTrue self.old.is_spent → (self.new ≡ self.old) × (source.new ≡ source.old) }
+        ensures command { OnOk result (self.new.is_spent ≡ false) }
+        ensures error { OnErr result (self.new.is_spent ≡ true) }
+
+        // Where the source tells its bytes, a command, `Bad` and `Unended` come exactly as the lines to come say.
+        ensures answer { IfSome (to_come self.old (S.left source.old)) (λ bytes. self.old.is_spent ≡ false →
+            IsAnswer result (next_of self.old.may_put (lines_of bytes)) (lines_of bytes) (to_come self.new (S.left source.new))
+            self.old.line self.old.line self.new.line) }
+        ensures told { OnOk result (StaysTold (to_come self.old (S.left source.old)) (to_come self.new (S.left source.new))) }
+        ensures once { IfOk result (λ command. self.new.may_put ≡ may_put_next self.old.may_put command) }
+
+        // Told or not.
+        ensures short { IfOk result IsShort }
+        ensures later { S.faults source.old ≤ S.faults source.new }
+        ensures failed { IsErrOf result ScriptFault.Failed → Rose (S.faults source.old) (S.faults source.new) }
+    {
+        if self.is_spent {
+            return Err(ScriptFault::Spent);
+        }
+        let answer = next(alloc, &mut self.buffer, source, &mut self.line, self.may_put);
+        match &answer {
+            Ok(Command::Put { .. }) => self.may_put = false,
+            Ok(_) => {}
+            Err(_) => self.is_spent = true,
+        }
+        answer
     }
 }

@@ -6,9 +6,9 @@ use Rattle.output_meaning.specs.Commands as meant
 use Rattle.script_reader.specs.Said.{meaning_of}
 use Rattle.script_reader.specs.declared.said.Said.{Said}
 use Rattle.script_reader.specs.Answers.{IsFirstLine}
-use Rattle.script_reader.specs.declared.script.FirstLine.{FirstLine}
+use Rattle.script_reader.specs.declared.next.FirstLine.{FirstLine}
 use Rattle.script_reader.proofs.Puts.{missing_answer, put_answer}
-use Rattle.script_reader.proofs.script.next.Goals as goal
+use Rattle.script_reader.proofs.next.next.Goals as goal
 
 pub returns-in-Missing-clause-answer : goal.returns-in-Missing-clause-answer
 returns-in-Missing-clause-answer g c =

@@ -4,7 +4,7 @@ use Rattle.mmt_outside.specs.Bytes.{preceded}
 use Rattle.script_reader.specs.Pieces.{ReadsLine}
 use Rattle.script_reader.specs.declared.line.LineEnd.{LineEnd}
 use Rattle.script_reader.proofs.FirstLines.{first-long, first-input, first-feed}
-use Rattle.script_reader.proofs.script.first_line.Goals as goal
+use Rattle.script_reader.proofs.next.first_line.Goals as goal
 
 pub returns-in-Limit-clause-line : goal.returns-in-Limit-clause-line
 returns-in-Limit-clause-line g c =
