@@ -14,3 +14,6 @@ pub use memory::Memory;
 pub use name::{Name, NameFault};
 pub use span::Span;
 pub use texts::Texts;
+
+#[cfg(test)]
+mod tests;
