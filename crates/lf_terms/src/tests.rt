@@ -95,3 +95,41 @@ fn texts_grow_at_their_end(rt: HostRuntime) -> Result<(), Fail> {
     assert_eq!(rt; texts.as_slice().len(), 2);
     Ok(())
 }
+
+#[test]
+fn a_path_has_its_names(rt: HostRuntime) -> Result<(), Fail> {
+    let alloc = rt.alloc();
+    let mut path = Path::new(alloc, Name::new(alloc, "m")?)?;
+    for text in ["a", "b", "c"] {
+        path.push(Name::new(alloc, text)?)?;
+    }
+    assert_eq!(rt; path.len(), 4);
+    let copy = path.copy(alloc)?;
+    assert_eq!(rt; copy, path);
+    assert_ne!(rt; Path::new(alloc, Name::new(alloc, "m")?)?, path);
+    let mut written = String::new(alloc);
+    for name in copy.as_slice() {
+        written.push_str(".")?;
+        written.push_str(name.as_str())?;
+    }
+    assert_eq!(rt; written.as_str(), ".m.a.b.c");
+    let mut paths = HashSet::new(alloc);
+    paths.insert(path)?;
+    paths.insert(copy)?;
+    assert_eq!(rt; paths.len(), 1);
+    Ok(())
+}
+
+#[test]
+fn name_lists_grow_at_their_end(rt: HostRuntime) -> Result<(), Fail> {
+    let alloc = rt.alloc();
+    let mut names = Names::new(alloc);
+    names.push(Name::new(alloc, "a")?)?;
+    names.push(Name::new(alloc, "b")?)?;
+    assert_eq!(rt; names.len(), 2);
+    let last = names.get(1).ok_or("the last name")?;
+    assert_eq!(rt; last.as_str(), "b");
+    assert!(rt; names.get(2).is_none());
+    assert_eq!(rt; names.as_slice().len(), 2);
+    Ok(())
+}
