@@ -3,6 +3,7 @@
 #![tactic(auto)]
 
 mod calls;
+mod copying;
 mod fault;
 mod folder;
 mod gate;
@@ -11,7 +12,8 @@ mod memory_sink;
 mod memory_source;
 mod sink;
 mod source;
-mod standard;
+mod standard_input;
+mod standard_output;
 mod writing;
 
 pub use fault::{Failed, OutFault};
@@ -22,7 +24,8 @@ pub use memory_sink::MemSink;
 pub use memory_source::MemSource;
 pub use sink::Sink;
 pub use source::Source;
-pub use standard::{StdSink, StdSource};
+pub use standard_input::StdSource;
+pub use standard_output::StdSink;
 pub use writing::write_all;
 
 #[cfg(test)]

@@ -5,6 +5,7 @@ ghost use Rattle.mmt_outside.specs.Faults.{HasCause};
 ghost use Rattle.mmt_outside.specs.Memory.{no_calls, next_fails, after_call};
 
 use crate::calls::CallCount;
+use crate::copying::copy_front;
 use crate::{Failed, Inputs64, Source};
 use lf_terms::Bytes;
 use std::marker::Model;
@@ -61,6 +62,7 @@ impl Source for MemSource {
         ensures bytes { IfOk result (λ count. Some self.old.left ≡ preceded (take count into.new) (Some self.new.left)) }
         ensures end { IfOk result (λ count. 0 < length into.new → IsEndOfInput (Some self.old.left) count) }
         ensures failed { OnErr result (Some self.new.left ≡ Some self.old.left) }
+        ensures untouched { OnErr result (into.new ≡ into.old) }
         ensures cause { HasCause self.old.calls.faults self.new.calls.faults result }
     {
         self.calls.next()?;
@@ -68,14 +70,4 @@ impl Source for MemSource {
         self.at += count;
         Ok(count)
     }
-}
-
-// Copies as many bytes as there are and fit, and gives their number.
-fn copy_front(from: &[u8], into: &mut [u8]) -> usize
-    ensures count { result ≡ min (length from.now) (length into.new) }
-    ensures front { take result into.new ≡ take result from.now }
-{
-    let count = from.len().min(into.len());
-    into[..count].copy_from_slice(&from[..count]);
-    count
 }

@@ -1,53 +1,11 @@
-//! The standard input and output of the process. Neither tells what bytes come or went.
+//! The standard output of the process. It does not tell what bytes went out.
 ghost use Rattle.std.specs.Prelude.{◌≡◌, ◌≤◌, None};
 ghost use Rattle.mmt_outside.specs.Faults.{Rose};
 
-use crate::{Failed, Sink, Source};
-use std::io::{Read, Write};
+use crate::{Failed, Sink};
+use std::io::Write;
 use std::marker::Model;
-use std::rt::{Stdin, Stdout};
-
-/// The standard input, seen as its count of faults.
-#[derive(Drop)]
-pub struct StdSource {
-    input: Stdin,
-    faults: u64,
-}
-
-impl Model for StdSource {
-    ghost use Rattle.std.specs.Prelude.{ℕ};
-
-    ghost Value = { ℕ };
-
-    ghost view = { λ s. s.faults };
-}
-
-impl StdSource {
-    pub fn new(rt: HostRuntime) -> Self
-        ensures { result ≡ 0 }
-    {
-        StdSource {
-            input: rt.stdin(),
-            faults: 0,
-        }
-    }
-}
-
-impl Source for StdSource {
-    ghost left = { λ _. None };
-
-    ghost faults = { λ s. s };
-
-    fn read(&mut self, into: &mut [u8]) -> Result<usize, Failed> {
-        match self.input.read(into) {
-            Ok(count) => Ok(count),
-            Err(_) => {
-                self.faults = self.faults.saturating_add(1);
-                Err(Failed)
-            }
-        }
-    }
-}
+use std::rt::Stdout;
 
 /// The standard output, seen as its count of faults.
 #[derive(Drop)]
