@@ -2,7 +2,7 @@
 use Rattle.std.proofs.Common.{◌≡◌, ℕ, ◌+◌, ◌≤◌, List, [], ◌++◌, length, take, drop, refl, ap, sym, append_assoc, arith}
 use Rattle.std.specs.Prelude.{None, Some}
 use Rattle.std.specs.declared.option.Option.{Option}
-use Rattle.std.proofs.lemmas.List.{append-nil}
+use Rattle.std.proofs.lemmas.List.{append-nil, take-append-drop}
 use Rattle.std.proofs.Math.Seq.{take-add}
 use Rattle.mmt_outside.specs.Bytes.{Taken, appended, flushed, preceded}
 
@@ -28,3 +28,12 @@ preceded-nil (Some rest) = refl
 -- after a first part of a list the next bytes of it make a longer first part
 pub appended-take : (taken : Option Taken) (n m : ℕ) (bytes : List ℕ) → appended (appended taken (take n bytes)) (take m (drop n bytes)) ≡ appended taken (take (n + m) bytes)
 appended-take taken n m bytes = rw (appended-appended, take-add n m bytes) refl
+
+-- a first part of the bytes left, and the bytes after it
+pub preceded-drop : (count : ℕ) (bytes read : List ℕ) → take count read ≡ take count bytes → Some bytes ≡ preceded (take count read) (Some (drop count bytes))
+preceded-drop count bytes read same = rw (same, take-append-drop) refl
+
+-- where the bytes before are told, the bytes after are too, and they are the rest
+pub rest_of-preceded : (bytes read : List ℕ) (left : Option (List ℕ)) → Some bytes ≡ preceded read left → (rest : List ℕ) × (left ≡ Some rest) × (bytes ≡ read ++ rest)
+rest_of-preceded bytes read None told = absurd (cc)
+rest_of-preceded bytes read (Some rest) told = (rest, refl, cc)

@@ -23,5 +23,6 @@ pub trait Source {
         ensures bytes { IfOk result (λ count. left self.old ≡ preceded (take count into.new) (left self.new)) }
         ensures end { IfOk result (λ count. 0 < length into.new → IsEndOfInput (left self.old) count) }
         ensures failed { OnErr result (left self.new ≡ left self.old) }
+        ensures untouched { OnErr result (into.new ≡ into.old) }
         ensures cause { HasCause (faults self.old) (faults self.new) result };
 }
