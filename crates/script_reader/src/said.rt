@@ -8,6 +8,7 @@ ghost use Rattle.name_meaning.specs.Characters as characters;
 ghost use Rattle.script_reader.specs.Said.{meaning_of, IsWithin};
 
 use lf_terms::{Memory, Name, NameFault};
+use name_meaning::is_white_space;
 use std::alloc::Global;
 
 /// The greatest length of a line outside the text of a `put`, its line end not counted.
@@ -67,12 +68,6 @@ fn name_of(alloc: Global, bytes: &[u8]) -> Result<Option<Name>, Memory>
         Err(NameFault::NotAName) => Ok(None),
         Err(NameFault::Memory) => Err(Memory),
     }
-}
-
-fn is_white_space(byte: u8) -> bool
-    ensures { result ≡ characters.is_white_space byte }
-{
-    (byte >= 9 && byte <= 13) || byte == b' '
 }
 
 fn is_blank(content: &[u8]) -> bool
