@@ -3,4 +3,5 @@ pub mod FirstFaults
 pub mod LineLemmas
 pub mod TextLemmas
 pub mod LongLines
+pub mod PieceLemmas
 pub mod Items

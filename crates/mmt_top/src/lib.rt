@@ -1,0 +1,4 @@
+//! The program as one call: `run` reads the words of the command line, and plays the script on the source.
+#![tactic(auto)]
+
+mod pieces;
