@@ -1,1 +1,2 @@
 pub mod PieceSteps
+pub mod Forms

@@ -2,10 +2,12 @@
 ghost use Rattle.std.specs.Prelude.{◌≡◌, ◌<◌, ◌≤◌, true, false, length, take, slice_index, IfOk};
 ghost use Rattle.std.specs.List.{list_all};
 ghost use Rattle.name_meaning.specs.Characters as characters;
+ghost use Rattle.output_meaning.specs.Pieces as meant;
 ghost use Rattle.output_meaning.specs.Pieces.{pieces_from};
+ghost use Rattle.output_meaning.specs.FirstForm.{is_name_piece};
 ghost use Rattle.mmt_top.specs.Pieces.{piece_of, pieces_in, BeginsWith};
 
-use name_meaning::{is_identifier_byte, is_special, is_white_space};
+use name_meaning::{is_identifier, is_identifier_byte, is_special, is_white_space};
 use std::alloc::{AllocError, Global};
 
 /// Some bytes of a text, and the place of the first of them, counted from 0.
@@ -64,4 +66,19 @@ pub(crate) fn pieces(alloc: Global, text: &[u8]) -> Result<Vec<Piece<'_>>, Alloc
         }
     }
     Ok(pieces)
+}
+
+impl Piece<'_> {
+    /// Whether the piece is this special character or word.
+    pub(crate) fn is(&self, bytes: &[u8]) -> bool
+        ensures { result ≡ meant.is_text bytes.now (piece_of self.now) }
+    {
+        self.bytes == bytes
+    }
+
+    pub(crate) fn is_name(&self) -> bool
+        ensures { result ≡ is_name_piece (piece_of self.now) }
+    {
+        is_identifier(self.bytes)
+    }
 }
