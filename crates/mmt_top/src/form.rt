@@ -6,9 +6,7 @@ ghost use Rattle.output_meaning.specs.Pieces.{is_text};
 ghost use Rattle.mmt_top.specs.Pieces.{piece_of, pieces_in};
 ghost use Rattle.mmt_top.specs.Forms.{row_in, declaration_in, declarations_in};
 
-use crate::pieces::{Piece, pieces};
-use crate::tokens::stand_alone;
-use name_meaning::is_identifier;
+use crate::pieces::Piece;
 use std::alloc::{AllocError, Global};
 
 /// The greatest number of names in a row.
@@ -92,7 +90,7 @@ fn read_row<'t>(alloc: Global, pieces: &[Piece<'t>]) -> Result<Option<Row<'t>>, 
 }
 
 /// The declaration that the pieces in front of a dot spell.
-fn read_declaration<'t>(alloc: Global, pieces: &[Piece<'t>]) -> Result<Option<Declaration<'t>>, AllocError>
+pub(crate) fn read_declaration<'t>(alloc: Global, pieces: &[Piece<'t>]) -> Result<Option<Declaration<'t>>, AllocError>
     ensures { IfOk result (λ declaration. option_map declaration_in declaration ≡ meant.declaration_of (pieces_in pieces.now)) }
 {
     match pieces {

@@ -3,4 +3,5 @@
 
 mod form;
 mod pieces;
+mod theory;
 mod tokens;

@@ -4,4 +4,5 @@ pub mod LineLemmas
 pub mod TextLemmas
 pub mod LongLines
 pub mod PieceLemmas
+pub mod FormLemmas
 pub mod Items

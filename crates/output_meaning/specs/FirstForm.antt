@@ -1,5 +1,5 @@
 -- The first form of a text: `%sig N = {`, declarations `id : type.` and `id : id -> .. -> id.`, and `}.` (this profile).
-use Rattle.std.specs.Prelude.{ℕ, Bool, true, false, List, [], ◌∷◌, Option, Some, None, ◌&&◌, length, nat_eq, nat_le, if◌then◌else◌, codes}
+use Rattle.std.specs.Prelude.{◌≡◌, ℕ, Bool, true, false, List, [], ◌∷◌, Option, Some, None, ◌&&◌, length, nat_eq, nat_le, if◌then◌else◌, codes}
 use Rattle.std.specs.List.{starts_with}
 use Rattle.std.specs.Option.{option_and_then, option_map}
 use Rattle.std.specs.Str.{is_utf8}
@@ -47,6 +47,11 @@ declaration_of (name ∷ colon ∷ pieces) =
     if is_name_piece name && is_text (codes ":") colon
     then option_map (λ row. record { name = name; row = row }) (row_of pieces)
     else None
+
+-- Read: no piece is a dot.
+abbrev pub NoDot : List Piece → Type 0
+NoDot [] = Unit {0}
+NoDot (piece ∷ pieces) = (is_text (codes ".") piece ≡ false) × NoDot pieces
 
 -- Read: the piece goes to the front of the first of the lists.
 abbrev pub onto_sentence : Piece → Option (List (List Piece)) → Option (List (List Piece))
