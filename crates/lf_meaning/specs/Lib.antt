@@ -5,3 +5,8 @@ pub mod Replacement
 pub mod Substitution
 pub mod Signatures
 pub mod Judgements
+pub mod Sorts
+pub mod Misfits
+pub mod Equality
+pub mod Faults
+pub mod Examples
