@@ -1,0 +1,4 @@
+pub mod Indices
+pub mod Raising
+pub mod Replacing
+pub mod Substituting
