@@ -5,3 +5,5 @@ pub mod Substituting
 pub mod Lookups
 pub mod Domains
 pub mod Sorting
+pub mod Misfitting
+pub mod Commuting
