@@ -7,7 +7,7 @@ use Rattle.lf_meaning.specs.Replacement.{Action, Stay, Step, Headed, Kept, Repla
 use Rattle.lf_meaning.specs.Substitution.{substituted, substitution, action, substitute}
 use Rattle.lf_meaning.specs.Sorts.{Sorts, HasSort, SynthesisesSort, ApplicationHasSort}
 use Rattle.lf_metatheory.proofs.Indices.{raised_above, Position, below, at, above, position}
-use Rattle.lf_metatheory.proofs.Raising.{raise_by_zero}
+use Rattle.lf_metatheory.proofs.Raising.{raise_by_zero, raise_atomic_by_zero}
 use Rattle.lf_metatheory.proofs.Replacing.{substituted_below, substituted_at, substituted_above}
 use Rattle.lf_metatheory.proofs.Substituting.{IsUniform, raise_below_replacement, uniform_substitution, natural_action, substitute_raised_headed}
 use Rattle.lf_metatheory.proofs.Domains.{AllDomains, by_domains, everywhere, map_domains}
@@ -45,3 +45,64 @@ place_within Place under [] k p D D' e h = let f : k ≡ p = omega (arith, e) in
 place_within Place under (s ∷ after) k p D D' e h =
     let f : suc (k + length after) ≡ p = omega (arith, e) in
     subst (λ x. Place x (s ∷ (after ++ D)) (s ∷ (after ++ D'))) f (under (k + length after) (after ++ D) (after ++ D') s (place_within Place under after k (k + length after) D D' refl h))
+
+pub raise_headed_by_zero : (n : ℕ) (h : Headed) → raise_headed 0 n h ≡ h
+raise_headed_by_zero n (Kept r) = ap Kept (raise_atomic_by_zero n r)
+raise_headed_by_zero n (Replaced v a) = ap (λ w. Replaced w a) (raise_by_zero n v)
+
+-- substitution for a variable over which a headed result was raised
+substitute_lifted : (v : Object) (a : Action) (n : ℕ) (h : Headed) → replace_headed (substitution v a) n (raise_headed 1 n h) ≡ h
+substitute_lifted v a n h = substitute_raised_headed v a 0 n n h (omega arith) (omega arith) ∙ raise_headed_by_zero n h
+
+-- the two orders at a variable
+commute_variable : (by : Replacement) → IsUniform by → (inner : Object) (a : Action) (k n p i : ℕ) → p ≡ k + n → Position n i → replace_headed by p (substituted inner a n i) ≡ replace_headed (substitution (replace by k inner) a) n (by.variable (suc p) i)
+commute_variable by uniform inner a k n p i e (below h) =
+    ap (replace_headed by p) (substituted_below inner a n i h) ∙ uniform.below_depth p i (omega (arith, e, h)) ∙ sym (ap (replace_headed (substitution (replace by k inner) a) n) (uniform.below_depth (suc p) i (omega (arith, e, h))) ∙ substituted_below (replace by k inner) a n i h)
+commute_variable by uniform inner a k n p i e at =
+    ap (replace_headed by p) (substituted_at inner a n) ∙ ap (λ x. Replaced x a) (sym (raise_below_replacement by uniform n k 0 p inner (omega arith) e)) ∙ sym (ap (replace_headed (substitution (replace by k inner) a) n) (uniform.below_depth (suc p) n (omega (arith, e))) ∙ substituted_at (replace by k inner) a n)
+commute_variable by uniform inner a k n p i e (above {i = j} h) =
+    let lifted : raise_headed 1 n (by.variable p j) ≡ by.variable (suc p) (suc j) = uniform.deeper 1 p n (suc p) j (omega (arith, e)) (omega arith) ∙ ap (by.variable (suc p)) (raised_above 1 n j h ∙ omega arith) in
+    ap (replace_headed by p) (substituted_above inner a n j h) ∙ sym (ap (replace_headed (substitution (replace by k inner) a) n) (sym lifted) ∙ substitute_lifted (replace by k inner) a n (by.variable p j))
+
+-- the two orders at a constant
+commute_constant : (by : Replacement) → IsUniform by → (v : Object) (a : Action) (n : ℕ) (c : Constant) → by.constant c ≡ replace_headed (substitution v a) n (by.constant c)
+commute_constant by uniform v a n c = sym (ap (replace_headed (substitution v a) n) (sym (uniform.closed 1 n c)) ∙ substitute_lifted v a n (by.constant c))
+
+-- A replacement commutes with substitution at u, where it passes through substitution at the domains of u, and substitution at u
+-- passes through substitution at the domains of the types of what it puts in.
+module _ (sorts sorts' : Sorts) (by : Replacement) (uniform : IsUniform by) (Place : ℕ → SimpleContext → SimpleContext → Type 0) (under : (n : ℕ) (D D' : SimpleContext) (s : Simple) → Place n D D' → Place (suc n) (s ∷ D) (s ∷ D')) (u : Simple) (variables : (n : ℕ) (D D' : SimpleContext) (i : ℕ) (t : Simple) → Place n D D' → slice_get D i ≡ Some t → HeadedFits (SubstitutionPasses sorts' u) sorts' D' (by.variable n i) t) (constants : (n : ℕ) (D D' : SimpleContext) (c : Constant) (t : Simple) → Place n D D' → sorts c ≡ Some t → HeadedFits (SubstitutionPasses sorts' u) sorts' D' (by.constant c) t) (passes : AllDomains (Passes sorts by Place) u) (k : ℕ) (D D' : SimpleContext) (place : Place k D D') (inner : Object) (sorted : HasSort sorts D inner u) where
+  replaced_sorted : HasSort sorts' D' (replace by k inner) u
+  replaced_sorted = replace_keeps_sort (SubstitutionPasses sorts' u) (λ s h. keeps_sorts s) by sorts sorts' Place under variables constants k D D' inner u place sorted
+
+  first_head_fits : (after : SimpleContext) (r : Atomic) (t : Simple) → SynthesisesSort sorts (after ++ (u ∷ D)) r t → HeadedFits (Passes sorts by Place) sorts (after ++ D) (replace_head (substitution inner (action u)) (length after) r) t
+  first_head_fits after r t h = replace_head_fits (Passes sorts by Place) (λ s q. keeps_sorts s) (substitution inner (action u)) sorts sorts (Substituting u D) (substituting_under u D) (substituted_fits (Passes sorts by Place) sorts inner u D sorted passes) (λ n E E' c s q f. f) (length after) (after ++ (u ∷ D)) (after ++ D) r t (substituting u after D) h
+
+  second_head_fits : (after : SimpleContext) (p : ℕ) (r : Atomic) (t : Simple) → p ≡ k + length after → SynthesisesSort sorts (after ++ (u ∷ D)) r t → HeadedFits (SubstitutionPasses sorts' u) sorts' (after ++ (u ∷ D')) (replace_head by (suc p) r) t
+  second_head_fits after p r t e h = replace_head_fits (SubstitutionPasses sorts' u) (λ s q. keeps_sorts s) by sorts sorts' Place under variables constants (suc p) (after ++ (u ∷ D)) (after ++ (u ∷ D')) r t (place_within Place under after (suc k) (suc p) (u ∷ D) (u ∷ D') (omega (arith, e)) (under k D D' u place)) h
+
+  second_argument_has : (after : SimpleContext) (p : ℕ) (m : Object) (t : Simple) → p ≡ k + length after → HasSort sorts (after ++ (u ∷ D)) m t → HasSort sorts' (after ++ (u ∷ D')) (replace by (suc p) m) t
+  second_argument_has after p m t e h = replace_keeps_sort (SubstitutionPasses sorts' u) (λ s q. keeps_sorts s) by sorts sorts' Place under variables constants (suc p) (after ++ (u ∷ D)) (after ++ (u ∷ D')) m t (place_within Place under after (suc k) (suc p) (u ∷ D) (u ∷ D') (omega (arith, e)) (under k D D' u place)) h
+
+  commute_application : (after : SimpleContext) (p : ℕ) (r : Atomic) (m : Object) (s t : Simple) → p ≡ k + length after → SynthesisesSort sorts (after ++ (u ∷ D)) r (Arrow s t) → HasSort sorts (after ++ (u ∷ D)) m s → replace_headed by p (replace_head (substitution inner (action u)) (length after) r) ≡ replace_headed (substitution (replace by k inner) (action u)) (length after) (replace_head by (suc p) r) → replace by p (substitute inner u (length after) m) ≡ substitute (replace by k inner) u (length after) (replace by (suc p) m) → replace_headed by p (replace_head (substitution inner (action u)) (length after) (App r m)) ≡ replace_headed (substitution (replace by k inner) (action u)) (length after) (replace_head by (suc p) (App r m))
+  commute_application after p r m s t e hr hm same_head same_argument =
+      let n : ℕ = length after in
+      let first : Headed = replace_head (substitution inner (action u)) n r in
+      let second : Headed = replace_head by (suc p) r in
+      let outside : Replacement = substitution (replace by k inner) (action u) in
+      let left : replace_headed by p (takes first (substitute inner u n m)) ≡ takes (replace_headed by p first) (replace by p (substitute inner u n m)) = replace_takes (Passes sorts by Place) sorts by p (after ++ D) first (substitute inner u n m) s t (λ q. q p (after ++ D) (after ++ D') (place_within Place under after k p D D' e place)) (first_head_fits after r (Arrow s t) hr) (keeps_sorts u sorts after D inner m s sorted hm) in
+      let right : replace_headed outside n (takes second (replace by (suc p) m)) ≡ takes (replace_headed outside n second) (replace outside n (replace by (suc p) m)) = replace_takes (SubstitutionPasses sorts' u) sorts' outside n (after ++ (u ∷ D')) second (replace by (suc p) m) s t (λ q. q (replace by k inner) D' replaced_sorted n (after ++ (u ∷ D')) (after ++ D') (substituting u after D')) (second_head_fits after p r (Arrow s t) e hr) (second_argument_has after p m s e hm) in
+      left ∙ ap₂ takes same_head same_argument ∙ sym right
+
+  mutual
+    commute_object : (after : SimpleContext) (p : ℕ) (m : Object) (t : Simple) → p ≡ k + length after → HasSort sorts (after ++ (u ∷ D)) m t → replace by p (substitute inner u (length after) m) ≡ substitute (replace by k inner) u (length after) (replace by (suc p) m)
+    commute_object after p (Lam m) (Arrow s t) e h = ap Lam (commute_object (s ∷ after) (suc p) m t (omega (arith, e)) h)
+    commute_object after p (Lam m) (Base c) e h = absurd h
+    commute_object after p (At r) (Arrow s t) e h = absurd h
+    commute_object after p (At r) (Base c) e h =
+        replace_object_of by p (replace_head (substitution inner (action u)) (length after) r) ∙ ap object_of (commute_head after p r (Base c) e h) ∙ sym (replace_object_of (substitution (replace by k inner) (action u)) (length after) (replace_head by (suc p) r))
+
+    commute_head : (after : SimpleContext) (p : ℕ) (r : Atomic) (t : Simple) → p ≡ k + length after → SynthesisesSort sorts (after ++ (u ∷ D)) r t → replace_headed by p (replace_head (substitution inner (action u)) (length after) r) ≡ replace_headed (substitution (replace by k inner) (action u)) (length after) (replace_head by (suc p) r)
+    commute_head after p (Var i) t e h = commute_variable by uniform inner (action u) k (length after) p i e (position (length after) i)
+    commute_head after p (Con c) t e h = commute_constant by uniform (replace by k inner) (action u) (length after) c
+    commute_head after p (App r m) t e h =
+        commute_application after p r m h.domain t e h.head_has h.argument_has (commute_head after p r (Arrow h.domain t) e h.head_has) (commute_object after p m h.domain e h.argument_has)
