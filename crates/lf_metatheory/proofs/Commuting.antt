@@ -94,14 +94,14 @@ module _ (sorts sorts' : Sorts) (by : Replacement) (uniform : IsUniform by) (Pla
       left ∙ ap₂ takes same_head same_argument ∙ sym right
 
   mutual
-    commute_object : (after : SimpleContext) (p : ℕ) (m : Object) (t : Simple) → p ≡ k + length after → HasSort sorts (after ++ (u ∷ D)) m t → replace by p (substitute inner u (length after) m) ≡ substitute (replace by k inner) u (length after) (replace by (suc p) m)
+    pub commute_object : (after : SimpleContext) (p : ℕ) (m : Object) (t : Simple) → p ≡ k + length after → HasSort sorts (after ++ (u ∷ D)) m t → replace by p (substitute inner u (length after) m) ≡ substitute (replace by k inner) u (length after) (replace by (suc p) m)
     commute_object after p (Lam m) (Arrow s t) e h = ap Lam (commute_object (s ∷ after) (suc p) m t (omega (arith, e)) h)
     commute_object after p (Lam m) (Base c) e h = absurd h
     commute_object after p (At r) (Arrow s t) e h = absurd h
     commute_object after p (At r) (Base c) e h =
         replace_object_of by p (replace_head (substitution inner (action u)) (length after) r) ∙ ap object_of (commute_head after p r (Base c) e h) ∙ sym (replace_object_of (substitution (replace by k inner) (action u)) (length after) (replace_head by (suc p) r))
 
-    commute_head : (after : SimpleContext) (p : ℕ) (r : Atomic) (t : Simple) → p ≡ k + length after → SynthesisesSort sorts (after ++ (u ∷ D)) r t → replace_headed by p (replace_head (substitution inner (action u)) (length after) r) ≡ replace_headed (substitution (replace by k inner) (action u)) (length after) (replace_head by (suc p) r)
+    pub commute_head : (after : SimpleContext) (p : ℕ) (r : Atomic) (t : Simple) → p ≡ k + length after → SynthesisesSort sorts (after ++ (u ∷ D)) r t → replace_headed by p (replace_head (substitution inner (action u)) (length after) r) ≡ replace_headed (substitution (replace by k inner) (action u)) (length after) (replace_head by (suc p) r)
     commute_head after p (Var i) t e h = commute_variable by uniform inner (action u) k (length after) p i e (position (length after) i)
     commute_head after p (Con c) t e h = commute_constant by uniform (replace by k inner) (action u) (length after) c
     commute_head after p (App r m) t e h =

@@ -7,3 +7,4 @@ pub mod Domains
 pub mod Sorting
 pub mod Misfitting
 pub mod Commuting
+pub mod Commutation
