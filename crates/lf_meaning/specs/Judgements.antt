@@ -1,4 +1,4 @@
--- The judgements of Canonical LF over a flat signature (Harper and Licata 2007, section 2.2).
+-- The judgements of Canonical LF over a flat signature (Harper and Licata 2007, section 2).
 use Rattle.std.specs.Prelude.{◌≡◌, ℕ, suc, [], ◌∷◌, ◌++◌, Option, Some, None, slice_get, ⊤}
 use Rattle.lf_meaning.specs.Terms.{Object, Lam, At, Atomic, Var, Con, App, Family, Pi, AtFamily, AtomicFamily, FamilyCon, FamilyApp, Kind, Ty, PiKind, Context, domain_count, with_domains}
 use Rattle.lf_meaning.specs.Raising.{raise_family}

@@ -1,5 +1,5 @@
 -- Substitutions that meet no misfit: wherever a value that was put in place of a variable takes an argument, it is
--- a λ at an arrow (Harper and Licata 2007, section 2.3: there a misfit has no result).
+-- a λ at an arrow (Harper and Licata 2007, section 2: there a misfit has no result).
 use Rattle.std.specs.Prelude.{◌≡◌, ℕ, suc}
 use Rattle.lf_meaning.specs.Terms.{Constant, Object, Lam, At, Atomic, Var, Con, App, Family, Pi, AtFamily, AtomicFamily, FamilyCon, FamilyApp, Simple, Arrow}
 use Rattle.lf_meaning.specs.Replacement.{Kept, Replaced, replace_head}

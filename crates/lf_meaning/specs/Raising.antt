@@ -1,6 +1,6 @@
 -- Raising of the variables of a term (Harper and Licata 2007, section 2: weakening, here with indices).
-use Rattle.std.specs.Prelude.{ℕ, suc, ◌+◌, nat_lt, if◌then◌else◌}
-use Rattle.lf_meaning.specs.Terms.{Object, Lam, At, Atomic, Var, Con, App, Family, Pi, AtFamily, AtomicFamily, FamilyCon, FamilyApp, Kind, Ty, PiKind}
+use Rattle.std.specs.Prelude.{[], ◌∷◌, length, ℕ, suc, ◌+◌, nat_lt, if◌then◌else◌}
+use Rattle.lf_meaning.specs.Terms.{Object, Lam, At, Atomic, Var, Con, App, Family, Pi, AtFamily, AtomicFamily, FamilyCon, FamilyApp, Kind, Ty, PiKind, Context}
 
 -- Every index that is not below `from` grows by `by`.
 abbrev pub raised : ℕ → ℕ → ℕ → ℕ
@@ -45,3 +45,13 @@ raise_atomic_family by from p = map_atomic_family (raise by) from p
 -- Raising of a kind.
 abbrev pub raise_kind : ℕ → ℕ → Kind → Kind
 raise_kind by from k = map_kind (raise by) from k
+
+-- The families of a context that stand inside of some variable, each with the function done at the number of families
+-- between it and that variable.
+abbrev pub map_context : (ℕ → Object → Object) → Context → Context
+map_context f [] = []
+map_context f (a ∷ context) = map_family f (length context) a ∷ map_context f context
+
+-- Raising of the families that stand inside of the place at which variables were put in.
+abbrev pub raise_context : ℕ → Context → Context
+raise_context by context = map_context (raise by) context

@@ -22,7 +22,7 @@ abbrev pub object_of : Headed → Object
 object_of (Kept r) = At r
 object_of (Replaced v a) = v
 
--- A value takes an argument (Harper and Licata 2007, section 2.3; the last two rows are this profile's): a λ at
+-- A value takes an argument (Harper and Licata 2007, section 2; the last two rows are this profile's): a λ at
 -- an arrow goes on with the argument in its body; an atomic value has it as a further argument; a λ at a base stays.
 abbrev pub value_takes : Object → Action → Object → Headed
 value_takes (Lam n) (Step s a) m = Replaced (s m 0 n) a

@@ -1,5 +1,5 @@
 -- Well-sorted terms: the judgements with every family replaced by its erasure (Harper and Licata 2007,
--- section 2.3, where substitution is shown to end and to keep simple types).
+-- section 2, where substitution is shown to end and to keep simple types).
 use Rattle.std.specs.Prelude.{◌≡◌, ◌∷◌, Option, Some, None, slice_get}
 use Rattle.lf_meaning.specs.Terms.{Constant, Object, Lam, At, Atomic, Var, Con, App, Family, Pi, AtFamily, AtomicFamily, FamilyCon, FamilyApp, Kind, Ty, PiKind, Simple, Base, Arrow, SimpleContext}
 use Rattle.lf_meaning.specs.Erasure.{erase}

@@ -1,7 +1,7 @@
--- Hereditary substitution (Harper and Licata 2007, section 2.3), made total.
-use Rattle.std.specs.Prelude.{ℕ, pred, List, [], ◌∷◌, length, nat_lt, nat_eq, if◌then◌else◌}
+-- Hereditary substitution (Harper and Licata 2007, section 2), made total.
+use Rattle.std.specs.Prelude.{ℕ, pred, List, [], ◌∷◌, nat_lt, nat_eq, if◌then◌else◌}
 use Rattle.lf_meaning.specs.Terms.{Object, Lam, At, Var, Con, App, Family, AtomicFamily, Kind, Simple, Base, Arrow, Context}
-use Rattle.lf_meaning.specs.Raising.{raise, map_family, map_atomic_family, map_kind}
+use Rattle.lf_meaning.specs.Raising.{raise, map_family, map_atomic_family, map_kind, map_context}
 use Rattle.lf_meaning.specs.Replacement.{Action, Stay, Step, Headed, Kept, Replaced, Replacement, replace}
 
 -- What stands in place of variable i where the value is substituted for variable n: variables below n stay,
@@ -33,11 +33,9 @@ substitute_atomic_family v t n p = map_atomic_family (substitute v t) n p
 abbrev pub substitute_kind : Object → Simple → ℕ → Kind → Kind
 substitute_kind v t n k = map_kind (substitute v t) n k
 
--- Substitution into the families that stand inside of the variable: each for the variable that is its own
--- number of families further out.
+-- Substitution into the families that stand inside of the variable.
 abbrev pub substitute_context : Object → Simple → Context → Context
-substitute_context v t [] = []
-substitute_context v t (a ∷ context) = substitute_family v t (length context) a ∷ substitute_context v t context
+substitute_context v t context = map_context (substitute v t) context
 
 -- A value with its simple type.
 pub record Typed : Type 0 where

@@ -8,3 +8,4 @@ pub mod Sorting
 pub mod Misfitting
 pub mod Commuting
 pub mod Commutation
+pub mod Families
