@@ -9,3 +9,6 @@ pub mod Misfitting
 pub mod Commuting
 pub mod Commutation
 pub mod Families
+pub mod SortedFamilies
+pub mod Declared
+pub mod Typed

@@ -1,5 +1,5 @@
 -- Places in a list whose middle is left out or put in.
-use Rattle.std.proofs.Common.{◌≡◌, ℕ, zero, suc, ◌+◌, ◌<◌, ◌≤◌, List, [], ◌∷◌, ◌++◌, length, Option, Some, None, refl, sym, ap, subst, ◌∙◌, arith}
+use Rattle.std.proofs.Common.{◌≡◌, ℕ, zero, suc, ◌+◌, ◌<◌, ◌≤◌, List, [], ◌∷◌, ◌++◌, length, map, option_map, Option, Some, None, refl, sym, ap, subst, ◌∙◌, arith}
 use Rattle.std.specs.Prelude.{slice_get}
 use Rattle.lf_meaning.specs.Raising.{raised}
 use Rattle.lf_metatheory.proofs.Indices.{raised_zero, raised_below, raised_above, raised_suc}
@@ -33,3 +33,19 @@ pub get_front : {A : Type 0} (after before : List A) (i : ℕ) → i < length af
 get_front [] before i h = absurd (omega (arith, h))
 get_front (y ∷ after) before zero h = refl
 get_front (y ∷ after) before (suc i) h = get_front after before i (omega (arith, h))
+
+-- a place stays where more stands behind
+pub get_more : {A : Type 0} (D E : List A) (i : ℕ) (x : A) → slice_get D i ≡ Some x → slice_get (D ++ E) i ≡ Some x
+get_more [] E i x h = absurd (cc)
+get_more (y ∷ D) E zero x h = h
+get_more (y ∷ D) E (suc i) x h = get_more D E i x h
+
+pub get_within : {A : Type 0} (D : List A) (i : ℕ) (x : A) → slice_get D i ≡ Some x → i < length D
+get_within [] i x h = absurd (cc)
+get_within (y ∷ D) zero x h = omega arith
+get_within (y ∷ D) (suc i) x h = let e : i < length D = get_within D i x h in omega (arith, e)
+
+pub get_map : {A B : Type 0} (f : A → B) (D : List A) (i : ℕ) (x : A) → slice_get D i ≡ Some x → slice_get (map f D) i ≡ Some (f x)
+get_map f [] i x h = absurd (cc)
+get_map f (y ∷ D) zero x h = ap (option_map f) h
+get_map f (y ∷ D) (suc i) x h = get_map f D i x h
