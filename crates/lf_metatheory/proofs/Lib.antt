@@ -12,3 +12,5 @@ pub mod Families
 pub mod SortedFamilies
 pub mod Declared
 pub mod Typed
+pub mod Closed
+pub mod Weakening
