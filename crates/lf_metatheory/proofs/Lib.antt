@@ -14,3 +14,5 @@ pub mod Declared
 pub mod Typed
 pub mod Closed
 pub mod Weakening
+pub mod Regular
+pub mod SubstitutionTyping
