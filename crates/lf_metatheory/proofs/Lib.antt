@@ -16,3 +16,5 @@ pub mod Closed
 pub mod Weakening
 pub mod Regular
 pub mod SubstitutionTyping
+pub mod Spines
+pub mod Equality
