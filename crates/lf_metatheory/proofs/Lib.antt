@@ -18,3 +18,4 @@ pub mod Regular
 pub mod SubstitutionTyping
 pub mod Spines
 pub mod Equality
+pub mod Faultless
