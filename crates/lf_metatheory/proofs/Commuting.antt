@@ -1,16 +1,18 @@
 -- A replacement commutes with substitution; two substitutions commute.
-use Rattle.std.proofs.Common.{◌≡◌, ℕ, zero, suc, ◌+◌, ◌<◌, ◌≤◌, List, [], ◌∷◌, ◌++◌, length, Option, Some, None, refl, sym, ap, ap₂, subst, ◌∙◌, arith}
+use Rattle.std.proofs.Common.{◌≡◌, ℕ, zero, suc, ◌+◌, ◌<◌, ◌≤◌, List, [], ◌∷◌, ◌++◌, length, map, Option, Some, None, refl, sym, ap, ap₂, subst, ◌∙◌, arith}
 use Rattle.std.specs.Prelude.{slice_get}
+use Rattle.lf_metatheory.proofs.Lookups.{length_map}
 use Rattle.lf_meaning.specs.Terms.{Constant, Object, Lam, At, Atomic, Var, Con, App, Simple, Base, Arrow, SimpleContext}
 use Rattle.lf_meaning.specs.Raising.{raised, raise, raise_atomic}
 use Rattle.lf_meaning.specs.Replacement.{Action, Stay, Step, Headed, Kept, Replaced, object_of, value_takes, takes, raise_headed, Replacement, replace, replace_head, replace_headed}
 use Rattle.lf_meaning.specs.Substitution.{substituted, substitution, action, substitute}
 use Rattle.lf_meaning.specs.Sorts.{Sorts, HasSort, SynthesisesSort, ApplicationHasSort}
+use Rattle.lf_metatheory.specs.Uniform.{IsUniform}
 use Rattle.lf_metatheory.proofs.Indices.{raised_above, Position, below, at, above, position}
 use Rattle.lf_metatheory.proofs.Raising.{raise_by_zero, raise_atomic_by_zero}
 use Rattle.lf_metatheory.proofs.Replacing.{substituted_below, substituted_at, substituted_above}
-use Rattle.lf_metatheory.proofs.Substituting.{IsUniform, raise_below_replacement, uniform_substitution, natural_action, substitute_raised_headed}
-use Rattle.lf_metatheory.proofs.Domains.{AllDomains, by_domains, everywhere, map_domains}
+use Rattle.lf_metatheory.proofs.Substituting.{raise_below_replacement, uniform_substitution, natural_action, substitute_raised_headed}
+use Rattle.lf_metatheory.proofs.Domains.{AllDomains, by_domains, everywhere, map_domains, IsRetyping, retyped_action, itself, itself_retypes}
 use Rattle.lf_metatheory.proofs.Sorting.{HeadedFits, KeepsSorts, keeps_sorts, replace_keeps_sort, replace_head_fits, Substituting, substituting, substituting_under, substituted_fits}
 
 -- At depth p, over terms in the context D: the replacement passes through substitution at s for the innermost variable.
@@ -40,11 +42,11 @@ replace_takes P sorts by p D (Replaced v a) m s t passes f g =
     subst (λ b. replace_headed by p (value_takes v b m) ≡ value_takes (replace by p v) b (replace by p m)) (sym f.0) (replace_value_takes P sorts by p D v m s t (passes f.2.0) f.1 g)
 
 -- a place further in
-pub place_within : (Place : ℕ → SimpleContext → SimpleContext → Type 0) → ((n : ℕ) (D D' : SimpleContext) (s : Simple) → Place n D D' → Place (suc n) (s ∷ D) (s ∷ D')) → (after : SimpleContext) (k p : ℕ) (D D' : SimpleContext) → p ≡ k + length after → Place k D D' → Place p (after ++ D) (after ++ D')
-place_within Place under [] k p D D' e h = let f : k ≡ p = omega (arith, e) in subst (λ x. Place x D D') f h
-place_within Place under (s ∷ after) k p D D' e h =
+pub place_within : (re : Simple → Simple) (Place : ℕ → SimpleContext → SimpleContext → Type 0) → ((n : ℕ) (D D' : SimpleContext) (s : Simple) → Place n D D' → Place (suc n) (s ∷ D) (re s ∷ D')) → (after : SimpleContext) (k p : ℕ) (D D' : SimpleContext) → p ≡ k + length after → Place k D D' → Place p (after ++ D) (map re after ++ D')
+place_within re Place under [] k p D D' e h = let f : k ≡ p = omega (arith, e) in subst (λ x. Place x D D') f h
+place_within re Place under (s ∷ after) k p D D' e h =
     let f : suc (k + length after) ≡ p = omega (arith, e) in
-    subst (λ x. Place x (s ∷ (after ++ D)) (s ∷ (after ++ D'))) f (under (k + length after) (after ++ D) (after ++ D') s (place_within Place under after k (k + length after) D D' refl h))
+    subst (λ x. Place x (s ∷ (after ++ D)) (re s ∷ (map re after ++ D'))) f (under (k + length after) (after ++ D) (map re after ++ D') s (place_within re Place under after k (k + length after) D D' refl h))
 
 pub raise_headed_by_zero : (n : ℕ) (h : Headed) → raise_headed 0 n h ≡ h
 raise_headed_by_zero n (Kept r) = ap Kept (raise_atomic_by_zero n r)
@@ -70,39 +72,49 @@ commute_constant by uniform v a n c = sym (ap (replace_headed (substitution v a)
 
 -- A replacement commutes with substitution at u, where it passes through substitution at the domains of u, and substitution at u
 -- passes through substitution at the domains of the types of what it puts in.
-module _ (sorts sorts' : Sorts) (by : Replacement) (uniform : IsUniform by) (Place : ℕ → SimpleContext → SimpleContext → Type 0) (under : (n : ℕ) (D D' : SimpleContext) (s : Simple) → Place n D D' → Place (suc n) (s ∷ D) (s ∷ D')) (u : Simple) (variables : (n : ℕ) (D D' : SimpleContext) (i : ℕ) (t : Simple) → Place n D D' → slice_get D i ≡ Some t → HeadedFits (SubstitutionPasses sorts' u) sorts' D' (by.variable n i) t) (constants : (n : ℕ) (D D' : SimpleContext) (c : Constant) (t : Simple) → Place n D D' → sorts c ≡ Some t → HeadedFits (SubstitutionPasses sorts' u) sorts' D' (by.constant c) t) (passes : AllDomains (Passes sorts by Place) u) (k : ℕ) (D D' : SimpleContext) (place : Place k D D') (inner : Object) (sorted : HasSort sorts D inner u) where
-  replaced_sorted : HasSort sorts' D' (replace by k inner) u
-  replaced_sorted = replace_keeps_sort (SubstitutionPasses sorts' u) (λ s h. keeps_sorts s) by sorts sorts' Place under variables constants k D D' inner u place sorted
+module _ (sorts sorts' : Sorts) (by : Replacement) (uniform : IsUniform by) (re : Simple → Simple) (retypes : IsRetyping re) (Place : ℕ → SimpleContext → SimpleContext → Type 0) (under : (n : ℕ) (D D' : SimpleContext) (s : Simple) → Place n D D' → Place (suc n) (s ∷ D) (re s ∷ D')) (u : Simple) (variables : (n : ℕ) (D D' : SimpleContext) (i : ℕ) (t : Simple) → Place n D D' → slice_get D i ≡ Some t → HeadedFits (SubstitutionPasses sorts' (re u)) sorts' D' (by.variable n i) (re t)) (constants : (n : ℕ) (D D' : SimpleContext) (c : Constant) (t : Simple) → Place n D D' → sorts c ≡ Some t → HeadedFits (SubstitutionPasses sorts' (re u)) sorts' D' (by.constant c) (re t)) (passes : AllDomains (Passes sorts by Place) u) (k : ℕ) (D D' : SimpleContext) (place : Place k D D') (inner : Object) (sorted : HasSort sorts D inner u) where
+  replaced_sorted : HasSort sorts' D' (replace by k inner) (re u)
+  replaced_sorted = replace_keeps_sort (SubstitutionPasses sorts' (re u)) (λ s h. keeps_sorts s) by sorts sorts' re retypes Place under variables constants k D D' inner u place sorted
 
   first_head_fits : (after : SimpleContext) (r : Atomic) (t : Simple) → SynthesisesSort sorts (after ++ (u ∷ D)) r t → HeadedFits (Passes sorts by Place) sorts (after ++ D) (replace_head (substitution inner (action u)) (length after) r) t
-  first_head_fits after r t h = replace_head_fits (Passes sorts by Place) (λ s q. keeps_sorts s) (substitution inner (action u)) sorts sorts (Substituting u D) (substituting_under u D) (substituted_fits (Passes sorts by Place) sorts inner u D sorted passes) (λ n E E' c s q f. f) (length after) (after ++ (u ∷ D)) (after ++ D) r t (substituting u after D) h
+  first_head_fits after r t h = replace_head_fits (Passes sorts by Place) (λ s q. keeps_sorts s) (substitution inner (action u)) sorts sorts itself itself_retypes (Substituting u D) (substituting_under u D) (substituted_fits (Passes sorts by Place) sorts inner u D sorted passes) (λ n E E' c s q f. f) (length after) (after ++ (u ∷ D)) (after ++ D) r t (substituting u after D) h
 
-  second_head_fits : (after : SimpleContext) (p : ℕ) (r : Atomic) (t : Simple) → p ≡ k + length after → SynthesisesSort sorts (after ++ (u ∷ D)) r t → HeadedFits (SubstitutionPasses sorts' u) sorts' (after ++ (u ∷ D')) (replace_head by (suc p) r) t
-  second_head_fits after p r t e h = replace_head_fits (SubstitutionPasses sorts' u) (λ s q. keeps_sorts s) by sorts sorts' Place under variables constants (suc p) (after ++ (u ∷ D)) (after ++ (u ∷ D')) r t (place_within Place under after (suc k) (suc p) (u ∷ D) (u ∷ D') (omega (arith, e)) (under k D D' u place)) h
+  inside_place : (after : SimpleContext) (p : ℕ) → p ≡ k + length after → Place (suc p) (after ++ (u ∷ D)) (map re after ++ (re u ∷ D'))
+  inside_place after p e = place_within re Place under after (suc k) (suc p) (u ∷ D) (re u ∷ D') (omega (arith, e)) (under k D D' u place)
 
-  second_argument_has : (after : SimpleContext) (p : ℕ) (m : Object) (t : Simple) → p ≡ k + length after → HasSort sorts (after ++ (u ∷ D)) m t → HasSort sorts' (after ++ (u ∷ D')) (replace by (suc p) m) t
-  second_argument_has after p m t e h = replace_keeps_sort (SubstitutionPasses sorts' u) (λ s q. keeps_sorts s) by sorts sorts' Place under variables constants (suc p) (after ++ (u ∷ D)) (after ++ (u ∷ D')) m t (place_within Place under after (suc k) (suc p) (u ∷ D) (u ∷ D') (omega (arith, e)) (under k D D' u place)) h
+  second_head_fits : (after : SimpleContext) (p : ℕ) (r : Atomic) (t : Simple) → p ≡ k + length after → SynthesisesSort sorts (after ++ (u ∷ D)) r t → HeadedFits (SubstitutionPasses sorts' (re u)) sorts' (map re after ++ (re u ∷ D')) (replace_head by (suc p) r) (re t)
+  second_head_fits after p r t e h = replace_head_fits (SubstitutionPasses sorts' (re u)) (λ s q. keeps_sorts s) by sorts sorts' re retypes Place under variables constants (suc p) (after ++ (u ∷ D)) (map re after ++ (re u ∷ D')) r t (inside_place after p e) h
 
-  commute_application : (after : SimpleContext) (p : ℕ) (r : Atomic) (m : Object) (s t : Simple) → p ≡ k + length after → SynthesisesSort sorts (after ++ (u ∷ D)) r (Arrow s t) → HasSort sorts (after ++ (u ∷ D)) m s → replace_headed by p (replace_head (substitution inner (action u)) (length after) r) ≡ replace_headed (substitution (replace by k inner) (action u)) (length after) (replace_head by (suc p) r) → replace by p (substitute inner u (length after) m) ≡ substitute (replace by k inner) u (length after) (replace by (suc p) m) → replace_headed by p (replace_head (substitution inner (action u)) (length after) (App r m)) ≡ replace_headed (substitution (replace by k inner) (action u)) (length after) (replace_head by (suc p) (App r m))
+  second_argument_has : (after : SimpleContext) (p : ℕ) (m : Object) (t : Simple) → p ≡ k + length after → HasSort sorts (after ++ (u ∷ D)) m t → HasSort sorts' (map re after ++ (re u ∷ D')) (replace by (suc p) m) (re t)
+  second_argument_has after p m t e h = replace_keeps_sort (SubstitutionPasses sorts' (re u)) (λ s q. keeps_sorts s) by sorts sorts' re retypes Place under variables constants (suc p) (after ++ (u ∷ D)) (map re after ++ (re u ∷ D')) m t (inside_place after p e) h
+
+  -- the replacement that comes second in the other order
+  abbrev outside : Replacement
+  outside = substitution (replace by k inner) (action (re u))
+
+  -- it passes through a head that takes an argument
+  outside_takes : (after : SimpleContext) (p : ℕ) (r : Atomic) (m : Object) (s t : Simple) → p ≡ k + length after → SynthesisesSort sorts (after ++ (u ∷ D)) r (Arrow s t) → HasSort sorts (after ++ (u ∷ D)) m s → replace_headed outside (length after) (takes (replace_head by (suc p) r) (replace by (suc p) m)) ≡ takes (replace_headed outside (length after) (replace_head by (suc p) r)) (replace outside (length after) (replace by (suc p) m))
+  outside_takes after p r m s t e hr hm =
+      let head_fits : HeadedFits (SubstitutionPasses sorts' (re u)) sorts' (map re after ++ (re u ∷ D')) (replace_head by (suc p) r) (Arrow (re s) (re t)) = subst (HeadedFits (SubstitutionPasses sorts' (re u)) sorts' (map re after ++ (re u ∷ D')) (replace_head by (suc p) r)) (retypes.arrow s t) (second_head_fits after p r (Arrow s t) e hr) in
+      let place_here : Substituting (re u) D' (length after) (map re after ++ (re u ∷ D')) (map re after ++ D') = record { after = map re after; depth = sym (length_map re after); from = refl; to = refl } in
+      replace_takes (SubstitutionPasses sorts' (re u)) sorts' outside (length after) (map re after ++ (re u ∷ D')) (replace_head by (suc p) r) (replace by (suc p) m) (re s) (re t) (λ q. q (replace by k inner) D' replaced_sorted (length after) (map re after ++ (re u ∷ D')) (map re after ++ D') place_here) head_fits (second_argument_has after p m s e hm)
+
+  commute_application : (after : SimpleContext) (p : ℕ) (r : Atomic) (m : Object) (s t : Simple) → p ≡ k + length after → SynthesisesSort sorts (after ++ (u ∷ D)) r (Arrow s t) → HasSort sorts (after ++ (u ∷ D)) m s → replace_headed by p (replace_head (substitution inner (action u)) (length after) r) ≡ replace_headed outside (length after) (replace_head by (suc p) r) → replace by p (substitute inner u (length after) m) ≡ replace outside (length after) (replace by (suc p) m) → replace_headed by p (replace_head (substitution inner (action u)) (length after) (App r m)) ≡ replace_headed outside (length after) (replace_head by (suc p) (App r m))
   commute_application after p r m s t e hr hm same_head same_argument =
-      let n : ℕ = length after in
-      let first : Headed = replace_head (substitution inner (action u)) n r in
-      let second : Headed = replace_head by (suc p) r in
-      let outside : Replacement = substitution (replace by k inner) (action u) in
-      let left : replace_headed by p (takes first (substitute inner u n m)) ≡ takes (replace_headed by p first) (replace by p (substitute inner u n m)) = replace_takes (Passes sorts by Place) sorts by p (after ++ D) first (substitute inner u n m) s t (λ q. q p (after ++ D) (after ++ D') (place_within Place under after k p D D' e place)) (first_head_fits after r (Arrow s t) hr) (keeps_sorts u sorts after D inner m s sorted hm) in
-      let right : replace_headed outside n (takes second (replace by (suc p) m)) ≡ takes (replace_headed outside n second) (replace outside n (replace by (suc p) m)) = replace_takes (SubstitutionPasses sorts' u) sorts' outside n (after ++ (u ∷ D')) second (replace by (suc p) m) s t (λ q. q (replace by k inner) D' replaced_sorted n (after ++ (u ∷ D')) (after ++ D') (substituting u after D')) (second_head_fits after p r (Arrow s t) e hr) (second_argument_has after p m s e hm) in
-      left ∙ ap₂ takes same_head same_argument ∙ sym right
+      let first : Headed = replace_head (substitution inner (action u)) (length after) r in
+      let left : replace_headed by p (takes first (substitute inner u (length after) m)) ≡ takes (replace_headed by p first) (replace by p (substitute inner u (length after) m)) = replace_takes (Passes sorts by Place) sorts by p (after ++ D) first (substitute inner u (length after) m) s t (λ q. q p (after ++ D) (map re after ++ D') (place_within re Place under after k p D D' e place)) (first_head_fits after r (Arrow s t) hr) (keeps_sorts u sorts after D inner m s sorted hm) in
+      left ∙ ap₂ takes same_head same_argument ∙ sym (outside_takes after p r m s t e hr hm)
 
   mutual
-    pub commute_object : (after : SimpleContext) (p : ℕ) (m : Object) (t : Simple) → p ≡ k + length after → HasSort sorts (after ++ (u ∷ D)) m t → replace by p (substitute inner u (length after) m) ≡ substitute (replace by k inner) u (length after) (replace by (suc p) m)
+    pub commute_object : (after : SimpleContext) (p : ℕ) (m : Object) (t : Simple) → p ≡ k + length after → HasSort sorts (after ++ (u ∷ D)) m t → replace by p (substitute inner u (length after) m) ≡ substitute (replace by k inner) (re u) (length after) (replace by (suc p) m)
     commute_object after p (Lam m) (Arrow s t) e h = ap Lam (commute_object (s ∷ after) (suc p) m t (omega (arith, e)) h)
     commute_object after p (Lam m) (Base c) e h = absurd h
     commute_object after p (At r) (Arrow s t) e h = absurd h
     commute_object after p (At r) (Base c) e h =
-        replace_object_of by p (replace_head (substitution inner (action u)) (length after) r) ∙ ap object_of (commute_head after p r (Base c) e h) ∙ sym (replace_object_of (substitution (replace by k inner) (action u)) (length after) (replace_head by (suc p) r))
+        replace_object_of by p (replace_head (substitution inner (action u)) (length after) r) ∙ ap object_of (commute_head after p r (Base c) e h) ∙ sym (replace_object_of outside (length after) (replace_head by (suc p) r))
 
-    pub commute_head : (after : SimpleContext) (p : ℕ) (r : Atomic) (t : Simple) → p ≡ k + length after → SynthesisesSort sorts (after ++ (u ∷ D)) r t → replace_headed by p (replace_head (substitution inner (action u)) (length after) r) ≡ replace_headed (substitution (replace by k inner) (action u)) (length after) (replace_head by (suc p) r)
-    commute_head after p (Var i) t e h = commute_variable by uniform inner (action u) k (length after) p i e (position (length after) i)
-    commute_head after p (Con c) t e h = commute_constant by uniform (replace by k inner) (action u) (length after) c
+    pub commute_head : (after : SimpleContext) (p : ℕ) (r : Atomic) (t : Simple) → p ≡ k + length after → SynthesisesSort sorts (after ++ (u ∷ D)) r t → replace_headed by p (replace_head (substitution inner (action u)) (length after) r) ≡ replace_headed outside (length after) (replace_head by (suc p) r)
+    commute_head after p (Var i) t e h = commute_variable by uniform inner (action u) k (length after) p i e (position (length after) i) ∙ ap (λ a. replace_headed (substitution (replace by k inner) a) (length after) (by.variable (suc p) i)) (sym (retyped_action re retypes u))
+    commute_head after p (Con c) t e h = commute_constant by uniform (replace by k inner) (action (re u)) (length after) c
     commute_head after p (App r m) t e h =
         commute_application after p r m h.domain t e h.head_has h.argument_has (commute_head after p r (Arrow h.domain t) e h.head_has) (commute_object after p m h.domain e h.argument_has)

@@ -121,7 +121,7 @@ inside_under k n p q r o = record { low = omega (arith, o.low); grows = omega (a
 
 module _ (k : ℕ) (v : Object) (t : Simple) where
   pub raise_below_substitution : (n p q : ℕ) (m : Object) → p ≤ n → q ≡ n + k → raise k p (substitute v t n m) ≡ substitute v t q (raise k p m)
-  raise_below_substitution n p q m low e = raise_below_replacement (substitution v (action t)) (uniform_substitution v (action t) (natural_action t)) k n p q m low e
+  raise_below_substitution n p q m low e = raise_below_replacement (substitution v (action t)) (uniform_substitution v t) k n p q m low e
 
   inside_on : (n p q r : ℕ) (m : Object) → InsideOf k n p q r → raise k p (substitute v t n m) ≡ substitute v t q (raise k r m)
   inside_on n p q r m o = raise_below_substitution n p q m o.low o.grows ∙ ap (λ x. substitute v t q (raise k x m)) o.same

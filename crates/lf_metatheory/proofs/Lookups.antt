@@ -49,3 +49,7 @@ pub get_map : {A B : Type 0} (f : A → B) (D : List A) (i : ℕ) (x : A) → sl
 get_map f [] i x h = absurd (cc)
 get_map f (y ∷ D) zero x h = ap (option_map f) h
 get_map f (y ∷ D) (suc i) x h = get_map f D i x h
+
+pub length_map : {A B : Type 0} (f : A → B) (D : List A) → length (map f D) ≡ length D
+length_map f [] = refl
+length_map f (x ∷ D) = ap suc (length_map f D)

@@ -6,7 +6,7 @@ use Rattle.lf_meaning.specs.Replacement.{Action, Headed, Kept, Replaced, replace
 use Rattle.lf_meaning.specs.Substitution.{substitution, action, substitute}
 use Rattle.lf_meaning.specs.Sorts.{Sorts, HasSort, SynthesisesSort, IsSortedAtomicFamily, IsSortedFamily}
 use Rattle.lf_meaning.specs.Misfits.{NoMisfit, in_body, in_atomic, NoHeadMisfit, at_variable, at_constant, head_kept, goes_on, NoMisfitInAtomicFamily, NoMisfitInFamily}
-use Rattle.lf_metatheory.proofs.Domains.{AllDomains, by_domains}
+use Rattle.lf_metatheory.proofs.Domains.{AllDomains, by_domains, itself, itself_retypes}
 use Rattle.lf_metatheory.proofs.Sorting.{HeadedFits, KeepsSorts, keeps_sorts, replace_keeps_sort, replace_head_fits, Substituting, substituting, substituting_under, substituted_fits}
 
 -- substitution at the simple type meets no misfit in a well-sorted term
@@ -23,7 +23,7 @@ module _ (s : Simple) (all : AllDomains MeetsNoMisfit s) (sorts : Sorts) (before
   application context n r m d t (Replaced w a) hr hm e f hs = value_goes_on context n r m w d t hr hm (e ∙ ap (Replaced w) f.0) f.1 hs f.2.0
 
   substituted_head_fits : (after : SimpleContext) (r : Atomic) (t : Simple) → SynthesisesSort sorts (after ++ (s ∷ before)) r t → HeadedFits MeetsNoMisfit sorts (after ++ before) (replace_head (substitution v (action s)) (length after) r) t
-  substituted_head_fits after r t h = replace_head_fits MeetsNoMisfit (λ u k. keeps_sorts u) (substitution v (action s)) sorts sorts (Substituting s before) (substituting_under s before) (substituted_fits MeetsNoMisfit sorts v s before sorted all) (λ n D D' c u p e. e) (length after) (after ++ (s ∷ before)) (after ++ before) r t (substituting s after before) h
+  substituted_head_fits after r t h = replace_head_fits MeetsNoMisfit (λ u k. keeps_sorts u) (substitution v (action s)) sorts sorts itself itself_retypes (Substituting s before) (substituting_under s before) (substituted_fits MeetsNoMisfit sorts v s before sorted all) (λ n D D' c u p e. e) (length after) (after ++ (s ∷ before)) (after ++ before) r t (substituting s after before) h
 
   mutual
     meets_no_misfit : (after : SimpleContext) (m : Object) (t : Simple) → HasSort sorts (after ++ (s ∷ before)) m t → NoMisfit v s (length after) m

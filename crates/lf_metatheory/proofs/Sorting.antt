@@ -9,7 +9,7 @@ use Rattle.lf_meaning.specs.Sorts.{Sorts, HasSort, SynthesisesSort, ApplicationH
 use Rattle.lf_metatheory.proofs.Indices.{Position, below, at, above, position}
 use Rattle.lf_metatheory.proofs.Replacing.{substituted_below, substituted_at, substituted_above}
 use Rattle.lf_metatheory.proofs.Lookups.{get_raised, get_below, get_at, get_above}
-use Rattle.lf_metatheory.proofs.Domains.{AllDomains, by_domains}
+use Rattle.lf_metatheory.proofs.Domains.{AllDomains, by_domains, IsRetyping, itself, itself_retypes}
 
 mutual
   pub raise_keeps_sort : (sorts : Sorts) (after mid before : SimpleContext) (m : Object) (t : Simple) → HasSort sorts (after ++ before) m t → HasSort sorts (after ++ (mid ++ before)) (raise (length mid) (length after) m) t
@@ -46,20 +46,26 @@ fits_takes P strong sorts context (Kept r) m s t f g = record { domain = s; head
 fits_takes P strong sorts context (Replaced v a) m s t f g =
     subst (λ b. HeadedFits P sorts context (value_takes v b m) t) (sym f.0) (fits_value_takes P sorts context v m s t (strong s f.2.0) f.1 f.2 g)
 
--- A replacement keeps sorts where what stands in place of variables and constants does. `Place n D D'` says: with n binders
--- passed, the term stands in the context D and the result in D'.
-module _ (P : Simple → Type 0) (strong : (s : Simple) → P s → KeepsSorts s) (by : Replacement) (sorts sorts' : Sorts) (Place : ℕ → SimpleContext → SimpleContext → Type 0) (under : (n : ℕ) (D D' : SimpleContext) (s : Simple) → Place n D D' → Place (suc n) (s ∷ D) (s ∷ D')) (variables : (n : ℕ) (D D' : SimpleContext) (i : ℕ) (t : Simple) → Place n D D' → slice_get D i ≡ Some t → HeadedFits P sorts' D' (by.variable n i) t) (constants : (n : ℕ) (D D' : SimpleContext) (c : Constant) (t : Simple) → Place n D D' → sorts c ≡ Some t → HeadedFits P sorts' D' (by.constant c) t) where
-  mutual
-    pub replace_keeps_sort : (n : ℕ) (D D' : SimpleContext) (m : Object) (t : Simple) → Place n D D' → HasSort sorts D m t → HasSort sorts' D' (replace by n m) t
-    replace_keeps_sort n D D' (Lam m) (Arrow s t) p h = replace_keeps_sort (suc n) (s ∷ D) (s ∷ D') m t (under n D D' s p) h
-    replace_keeps_sort n D D' (Lam m) (Base c) p h = h
-    replace_keeps_sort n D D' (At r) (Arrow s t) p h = absurd h
-    replace_keeps_sort n D D' (At r) (Base c) p h = fits_object P sorts' D' (replace_head by n r) c (replace_head_fits n D D' r (Base c) p h)
+-- A replacement keeps sorts, up to a function on simple types that keeps arrows, where what stands in place of variables and
+-- constants does. `Place n D D'` says: with n binders passed, the term stands in the context D and the result in D'.
+module _ (P : Simple → Type 0) (strong : (s : Simple) → P s → KeepsSorts s) (by : Replacement) (sorts sorts' : Sorts) (re : Simple → Simple) (retypes : IsRetyping re) (Place : ℕ → SimpleContext → SimpleContext → Type 0) (under : (n : ℕ) (D D' : SimpleContext) (s : Simple) → Place n D D' → Place (suc n) (s ∷ D) (re s ∷ D')) (variables : (n : ℕ) (D D' : SimpleContext) (i : ℕ) (t : Simple) → Place n D D' → slice_get D i ≡ Some t → HeadedFits P sorts' D' (by.variable n i) (re t)) (constants : (n : ℕ) (D D' : SimpleContext) (c : Constant) (t : Simple) → Place n D D' → sorts c ≡ Some t → HeadedFits P sorts' D' (by.constant c) (re t)) where
+  object_of_fits : (D' : SimpleContext) (h : Headed) (c : Constant) → HeadedFits P sorts' D' h (re (Base c)) → HasSort sorts' D' (object_of h) (re (Base c))
+  object_of_fits D' h c f =
+      let b = retypes.base c in
+      subst (HasSort sorts' D' (object_of h)) (sym b.1) (fits_object P sorts' D' h b.0 (subst (HeadedFits P sorts' D' h) b.1 f))
 
-    pub replace_head_fits : (n : ℕ) (D D' : SimpleContext) (r : Atomic) (t : Simple) → Place n D D' → SynthesisesSort sorts D r t → HeadedFits P sorts' D' (replace_head by n r) t
+  mutual
+    pub replace_keeps_sort : (n : ℕ) (D D' : SimpleContext) (m : Object) (t : Simple) → Place n D D' → HasSort sorts D m t → HasSort sorts' D' (replace by n m) (re t)
+    replace_keeps_sort n D D' (Lam m) (Arrow s t) p h = subst (HasSort sorts' D' (Lam (replace by (suc n) m))) (sym (retypes.arrow s t)) (replace_keeps_sort (suc n) (s ∷ D) (re s ∷ D') m t (under n D D' s p) h)
+    replace_keeps_sort n D D' (Lam m) (Base c) p h = absurd h
+    replace_keeps_sort n D D' (At r) (Arrow s t) p h = absurd h
+    replace_keeps_sort n D D' (At r) (Base c) p h = object_of_fits D' (replace_head by n r) c (replace_head_fits n D D' r (Base c) p h)
+
+    pub replace_head_fits : (n : ℕ) (D D' : SimpleContext) (r : Atomic) (t : Simple) → Place n D D' → SynthesisesSort sorts D r t → HeadedFits P sorts' D' (replace_head by n r) (re t)
     replace_head_fits n D D' (Var i) t p h = variables n D D' i t p h
     replace_head_fits n D D' (Con c) t p h = constants n D D' c t p h
-    replace_head_fits n D D' (App r m) t p h = fits_takes P strong sorts' D' (replace_head by n r) (replace by n m) h.domain t (replace_head_fits n D D' r (Arrow h.domain t) p h.head_has) (replace_keeps_sort n D D' m h.domain p h.argument_has)
+    replace_head_fits n D D' (App r m) t p h =
+        fits_takes P strong sorts' D' (replace_head by n r) (replace by n m) (re h.domain) (re t) (subst (HeadedFits P sorts' D' (replace_head by n r)) (retypes.arrow h.domain t) (replace_head_fits n D D' r (Arrow h.domain t) p h.head_has)) (replace_keeps_sort n D D' m h.domain p h.argument_has)
 
 -- the place of a substitution for a variable of simple type s that has D before it
 pub record Substituting (s : Simple) (before : SimpleContext) (n : ℕ) (D D' : SimpleContext) : Type 0 where
@@ -95,7 +101,7 @@ module _ (P : Simple → Type 0) (sorts : Sorts) (v : Object) (s : Simple) (befo
 -- substitution at any simple type keeps sorts
 keeps_sorts_step : (s : Simple) → AllDomains KeepsSorts s → KeepsSorts s
 keeps_sorts_step s all sorts after before v m t sorted h =
-    replace_keeps_sort KeepsSorts (λ u k. k) (substitution v (action s)) sorts sorts (Substituting s before) (substituting_under s before) (substituted_fits KeepsSorts sorts v s before sorted all) (λ n D D' c u p e. e) (length after) (after ++ (s ∷ before)) (after ++ before) m t (substituting s after before) h
+    replace_keeps_sort KeepsSorts (λ u k. k) (substitution v (action s)) sorts sorts itself itself_retypes (Substituting s before) (substituting_under s before) (substituted_fits KeepsSorts sorts v s before sorted all) (λ n D D' c u p e. e) (length after) (after ++ (s ∷ before)) (after ++ before) m t (substituting s after before) h
 
 pub keeps_sorts : (s : Simple) → KeepsSorts s
 keeps_sorts = by_domains KeepsSorts keeps_sorts_step

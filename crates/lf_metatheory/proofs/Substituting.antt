@@ -4,6 +4,7 @@ use Rattle.lf_meaning.specs.Terms.{Constant, Object, Lam, At, Atomic, Var, Con, 
 use Rattle.lf_meaning.specs.Raising.{raised, raise, raise_atomic}
 use Rattle.lf_meaning.specs.Replacement.{Action, Stay, Step, Headed, Kept, Replaced, object_of, value_takes, takes, raise_headed, Replacement, replace, replace_head, replace_headed}
 use Rattle.lf_meaning.specs.Substitution.{substituted, substitution, action, substitute}
+use Rattle.lf_metatheory.specs.Uniform.{HasType, IsUniform}
 use Rattle.lf_metatheory.proofs.Indices.{raised_zero, raised_twice, raised_swap, raised_below, raised_above, raised_suc, raised_grows, raised_over, raised_stays, raised_suc_above, raised_over_depth, Position, below, at, above, position}
 use Rattle.lf_metatheory.proofs.Raising.{raise_swap, raise_twice, raise_by_zero}
 use Rattle.lf_metatheory.proofs.Replacing.{NaturalAction, NaturalHeaded, IsNatural, raise_replace, raise_replace_head, substituted_below, substituted_at, substituted_above}
@@ -38,13 +39,17 @@ outside_variable k c v a n p q r i o (above {i = j} high) =
 pub raise_above_substitution : (k c : ℕ) (v : Object) (a : Action) → NaturalAction a → (n p : ℕ) (m : Object) → p ≡ n + c → raise k p (replace (substitution v a) n m) ≡ replace (substitution (raise k c v) a) n (raise k (suc p) m)
 raise_above_substitution k c v a h n p m e = raise_replace k (substitution v a) (substitution (raise k c v) a) (Outside c) (natural_substitution v a h) (λ n p q r o. record { begins = omega (arith, o.begins); same = ap suc o.same; behind = ap suc o.behind }) (λ n p q r i o. outside_variable k c v a n p q r i o (position n i)) (λ n p q r c o. refl) n p n (suc p) m (record { begins = e; same = refl; behind = refl })
 
--- What a replacement needs so that it passes through raising and substitution: the variables of its own binders stay,
--- what stands in place of another variable is raised with the depth, and what stands in place of a constant is closed.
-pub record IsUniform (by : Replacement) : Type 0 where
-  pub natural : IsNatural by
-  pub below_depth : (n i : ℕ) → i < n → by.variable n i ≡ Kept (Var i)
-  pub deeper : (k n p q i : ℕ) → p ≤ n → q ≡ n + k → raise_headed k p (by.variable n i) ≡ by.variable q (raised k p i)
-  pub closed : (k p : ℕ) (c : Constant) → raise_headed k p (by.constant c) ≡ by.constant c
+-- what every simple type's values do with their arguments is natural
+pub natural_action : (t : Simple) → NaturalAction (action t)
+natural_action (Base c) = tt
+natural_action (Arrow s t) = (λ k c v m. raise_above_substitution k c v (action s) (natural_action s) 0 c m (omega arith), natural_action t)
+
+natural_typed : (h : Headed) → HasType h → NaturalHeaded h
+natural_typed (Kept r) f = tt
+natural_typed (Replaced v a) f = subst NaturalAction (sym f.1) (natural_action f.0)
+
+pub natural_uniform : (by : Replacement) → IsUniform by → IsNatural by
+natural_uniform by h = record { variable = λ n i. natural_typed (by.variable n i) (h.variable_typed n i); constant = λ c. natural_typed (by.constant c) (h.constant_typed c) }
 
 record Within (k n p q r : ℕ) : Type 0 where
   low : p ≤ n
@@ -60,10 +65,10 @@ module _ (by : Replacement) (uniform : IsUniform by) where
 
   -- raising below: from p, which is not above the depth
   pub raise_below_replacement : (k n p q : ℕ) (m : Object) → p ≤ n → q ≡ n + k → raise k p (replace by n m) ≡ replace by q (raise k p m)
-  raise_below_replacement k n p q m low e = raise_replace k by by (Within k) uniform.natural (within_under k) (within_variable k) (λ n p q r c o. uniform.closed k p c) n p q p m (record { low = low; grows = e; same = refl })
+  raise_below_replacement k n p q m low e = raise_replace k by by (Within k) (natural_uniform by uniform) (within_under k) (within_variable k) (λ n p q r c o. uniform.closed k p c) n p q p m (record { low = low; grows = e; same = refl })
 
   pub raise_below_replacement_head : (k n p q : ℕ) (r : Atomic) → p ≤ n → q ≡ n + k → raise_headed k p (replace_head by n r) ≡ replace_head by q (raise_atomic k p r)
-  raise_below_replacement_head k n p q r low e = raise_replace_head k by by (Within k) uniform.natural (within_under k) (within_variable k) (λ n p q r c o. uniform.closed k p c) n p q p r (record { low = low; grows = e; same = refl })
+  raise_below_replacement_head k n p q r low e = raise_replace_head k by by (Within k) (natural_uniform by uniform) (within_under k) (within_variable k) (λ n p q r c o. uniform.closed k p c) n p q p r (record { low = low; grows = e; same = refl })
 
 deeper_substituted : (v : Object) (a : Action) (k n p q i : ℕ) → p ≤ n → q ≡ n + k → Position n i → raise_headed k p (substituted v a n i) ≡ substituted v a q (raised k p i)
 deeper_substituted v a k n p q i low e (below h) =
@@ -76,13 +81,13 @@ deeper_substituted v a k n p q i low e (above {i = j} h) =
     let g : q ≤ raised k p j = raised_over_depth k p n q j low h e in
     rw (substituted_above v a n j h, f, substituted_above v a q (raised k p j) g) refl
 
-pub uniform_substitution : (v : Object) (a : Action) → NaturalAction a → IsUniform (substitution v a)
-uniform_substitution v a h = record { natural = natural_substitution v a h; below_depth = substituted_below v a; deeper = λ k n p q i low e. deeper_substituted v a k n p q i low e (position n i); closed = λ k p c. refl }
+typed_substituted : (v : Object) (t : Simple) (n i : ℕ) → Position n i → HasType (substituted v (action t) n i)
+typed_substituted v t n i (below low) = subst HasType (sym (substituted_below v (action t) n i low)) tt
+typed_substituted v t n i at = subst HasType (sym (substituted_at v (action t) n)) (t, refl)
+typed_substituted v t n i (above {i = j} high) = subst HasType (sym (substituted_above v (action t) n j high)) tt
 
--- what stands in place of every type's values is natural
-pub natural_action : (t : Simple) → NaturalAction (action t)
-natural_action (Base c) = tt
-natural_action (Arrow s t) = (λ k c v m. raise_above_substitution k c v (action s) (natural_action s) 0 c m (omega arith), natural_action t)
+pub uniform_substitution : (v : Object) (t : Simple) → IsUniform (substitution v (action t))
+uniform_substitution v t = record { variable_typed = λ n i. typed_substituted v t n i (position n i); constant_typed = λ c. tt; below_depth = substituted_below v (action t); deeper = λ k n p q i low e. deeper_substituted v (action t) k n p q i low e (position n i); closed = λ k p c. refl }
 
 -- substitution into a term that was raised over the variable
 module _ (v : Object) (a : Action) where
