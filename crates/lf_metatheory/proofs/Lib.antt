@@ -19,3 +19,7 @@ pub mod SubstitutionTyping
 pub mod Spines
 pub mod Equality
 pub mod Faultless
+pub mod Constants
+pub mod Growing
+pub mod HeadTyping
+pub mod SpineSynthesis

@@ -1,8 +1,8 @@
 -- Replacements that pass through raising and substitution.
-use Rattle.std.specs.Prelude.{◌≡◌, ℕ, zero, suc, ◌+◌, ◌<◌, ◌≤◌, List, [], ◌∷◌, ◌++◌}
+use Rattle.std.specs.Prelude.{◌≡◌, ℕ, zero, suc, ◌+◌, ◌<◌, ◌≤◌, List, [], ◌∷◌, ◌++◌, Some}
 use Rattle.lf_meaning.specs.Terms.{Constant, Object, Atomic, Var, Con, Simple, Base, Arrow, SimpleContext}
 use Rattle.lf_meaning.specs.Raising.{raised}
-use Rattle.lf_meaning.specs.Replacement.{Headed, Kept, Replaced, raise_headed, Replacement}
+use Rattle.lf_meaning.specs.Replacement.{Headed, Kept, Replaced, raise_headed, Replacement, replace}
 use Rattle.lf_meaning.specs.Substitution.{action}
 use Rattle.lf_meaning.specs.Sorts.{Sorts, HasSort, SynthesisesSort}
 
@@ -33,3 +33,13 @@ rename_bases bases (Arrow s t) = Arrow (rename_bases bases s) (rename_bases base
 -- The replacement of constants alone; variables stay.
 abbrev pub of_constants : (Constant → Headed) → Replacement
 of_constants by = record { variable = λ n i. Kept (Var i); constant = by }
+
+-- An object with what is given in place of each constant.
+abbrev pub replace_constants : (Constant → Headed) → Object → Object
+replace_constants by m = replace (of_constants by) 0 m
+
+-- What stands in place of each constant has no free variable, and its sort: that of the constant with other names for bases.
+pub record IsSortedMap (by : Constant → Headed) (bases : Constant → Constant) (sorts sorts' : Sorts) : Type 0 where
+  pub typed : (c : Constant) → HasType (by c)
+  pub closed : (k p : ℕ) (c : Constant) → raise_headed k p (by c) ≡ by c
+  pub has_sort : (c : Constant) (t : Simple) → sorts c ≡ Some t → HeadedHasSort sorts' [] (by c) (rename_bases bases t)
