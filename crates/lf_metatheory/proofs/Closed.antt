@@ -1,17 +1,15 @@
 -- Raising and substitution past the variables of a term do nothing.
-use Rattle.std.proofs.Common.{◌≡◌, ℕ, zero, suc, ◌+◌, ◌<◌, ◌≤◌, List, [], ◌∷◌, ◌++◌, length, Option, Some, None, refl, sym, ap, ap₂, subst, ◌∙◌, arith}
-use Rattle.std.specs.Prelude.{slice_get}
-use Rattle.lf_meaning.specs.Terms.{Constant, Object, Lam, At, Atomic, Var, Con, App, Family, Pi, AtFamily, AtomicFamily, FamilyCon, FamilyApp, Kind, Ty, PiKind, Simple, Base, Arrow, Context, SimpleContext}
+use Rattle.std.proofs.Common.{◌≡◌, ℕ, suc, ◌≤◌, [], ◌∷◌, ◌++◌, length, Option, Some, None, refl, sym, ap, ap₂, subst, ◌∙◌, arith}
+use Rattle.lf_meaning.specs.Terms.{Constant, Object, Lam, At, Atomic, Var, Con, App, Family, Pi, AtFamily, AtomicFamily, FamilyCon, FamilyApp, Kind, Ty, PiKind, Simple, Base, Arrow, SimpleContext}
 use Rattle.lf_meaning.specs.Raising.{raise, raise_atomic, raise_family, raise_atomic_family, raise_kind}
-use Rattle.lf_meaning.specs.Erasure.{erase, erase_context}
-use Rattle.lf_meaning.specs.Substitution.{substitute, substitute_family, substitute_kind}
+use Rattle.lf_meaning.specs.Erasure.{erase}
+use Rattle.lf_meaning.specs.Substitution.{substitute_family, substitute_kind}
 use Rattle.lf_meaning.specs.Signatures.{Class, FamilyClass, KindClass, Signature, class_of}
-use Rattle.lf_meaning.specs.Judgements.{IsFamily, IsKind, IsClass, IsSignature}
-use Rattle.lf_meaning.specs.Sorts.{Sorts, HasSort, SynthesisesSort, IsSorted, IsSortedAtomicFamily, IsSortedFamily, IsSortedKind, sort_of_class, sorts_of}
+use Rattle.lf_meaning.specs.Judgements.{IsFamily, IsKind, IsSignature}
+use Rattle.lf_meaning.specs.Sorts.{Sorts, HasSort, SynthesisesSort, IsSortedAtomicFamily, IsSortedFamily, IsSortedKind, sort_of_class, sorts_of}
 use Rattle.lf_metatheory.proofs.Indices.{raised_below}
 use Rattle.lf_metatheory.proofs.Lookups.{get_within}
 use Rattle.lf_metatheory.proofs.Families.{substitute_raised_family, substitute_raised_kind, raise_family_by_zero, raise_kind_by_zero}
-use Rattle.lf_metatheory.proofs.SortedFamilies.{more_sorted_family, more_sorted_kind}
 use Rattle.lf_metatheory.proofs.Declared.{ClassIn, class_in, class_more}
 use Rattle.lf_metatheory.proofs.Typed.{family_sorted, kind_sorted, more_family, more_kind}
 

@@ -1,17 +1,17 @@
 -- Substitutions commute at all simple types, and with them every well-sorted replacement.
-use Rattle.std.proofs.Common.{◌≡◌, ℕ, zero, suc, ◌+◌, ◌<◌, ◌≤◌, List, [], ◌∷◌, ◌++◌, length, Option, Some, None, refl, sym, ap, ap₂, subst, ◌∙◌, arith}
+use Rattle.std.proofs.Common.{◌≡◌, ℕ, suc, ◌+◌, [], ◌∷◌, ◌++◌, length, Some, refl, ap, ap₂, ◌∙◌, arith}
 use Rattle.std.specs.Prelude.{slice_get}
-use Rattle.lf_meaning.specs.Terms.{Constant, Object, Lam, At, Atomic, Var, Con, App, Family, Pi, AtFamily, AtomicFamily, FamilyCon, FamilyApp, Kind, Ty, PiKind, Simple, Base, Arrow, SimpleContext}
+use Rattle.lf_meaning.specs.Terms.{Constant, Object, Family, Pi, AtFamily, AtomicFamily, FamilyCon, FamilyApp, Kind, Ty, PiKind, Simple, SimpleContext}
 use Rattle.lf_meaning.specs.Raising.{map_family, map_atomic_family, map_kind}
 use Rattle.lf_meaning.specs.Erasure.{erase}
-use Rattle.lf_meaning.specs.Replacement.{Headed, Kept, Replaced, Replacement, replace, replace_head}
+use Rattle.lf_meaning.specs.Replacement.{Headed, Kept, Replaced, Replacement, replace}
 use Rattle.lf_meaning.specs.Substitution.{substituted, substitution, action, substitute, substitute_family, substitute_atomic_family, substitute_kind}
-use Rattle.lf_meaning.specs.Sorts.{Sorts, HasSort, SynthesisesSort, IsSorted, IsSortedAtomicFamily, IsSortedFamily, IsSortedKind}
-use Rattle.lf_metatheory.specs.Uniform.{IsUniform, HasType, HeadedHasSort, rename_bases, of_constants}
-use Rattle.lf_metatheory.proofs.Substituting.{uniform_substitution, natural_action}
-use Rattle.lf_metatheory.proofs.Domains.{AllDomains, by_domains, everywhere, map_domains, IsRetyping, retyped_action, itself, itself_retypes, rename_retypes}
-use Rattle.lf_metatheory.proofs.Sorting.{HeadedFits, Substituting, substituting, substituting_under, substituted_fits, keeps_sorts, replace_keeps_sort, replace_head_fits}
-use Rattle.lf_metatheory.proofs.Commuting.{Passes, SubstitutionPasses, commute_object, commute_head}
+use Rattle.lf_meaning.specs.Sorts.{Sorts, HasSort, IsSortedAtomicFamily, IsSortedFamily, IsSortedKind}
+use Rattle.lf_metatheory.specs.Uniform.{IsUniform, HeadedHasSort}
+use Rattle.lf_metatheory.proofs.Substituting.{uniform_substitution}
+use Rattle.lf_metatheory.proofs.Domains.{AllDomains, by_domains, everywhere, map_domains, IsRetyping, retyped_action, itself, itself_retypes}
+use Rattle.lf_metatheory.proofs.Sorting.{HeadedFits, Substituting, substituting, substituting_under, substituted_fits, keeps_sorts, replace_keeps_sort}
+use Rattle.lf_metatheory.proofs.Commuting.{Passes, SubstitutionPasses, commute_object}
 
 passes_step : (sorts : Sorts) (t u : Simple) → AllDomains (SubstitutionPasses sorts t) u → AllDomains (SubstitutionPasses sorts u) t → SubstitutionPasses sorts t u
 passes_step sorts t u at_inner at_outer outer before sorted p D D' place v m s hv hm =
@@ -23,9 +23,10 @@ BothPass sorts t u = SubstitutionPasses sorts t u × SubstitutionPasses sorts u 
 
 both_inner : (sorts : Sorts) (t : Simple) → AllDomains (λ s. (u : Simple) → BothPass sorts s u) t → (u : Simple) → AllDomains (BothPass sorts t) u → BothPass sorts t u
 unfolding BothPass
-both_inner sorts t smaller u smaller_inner =
-    (passes_step sorts t u (map_domains (BothPass sorts t) (SubstitutionPasses sorts t) (λ s q. q.0) u smaller_inner) (map_domains (λ s. (u : Simple) → BothPass sorts s u) (SubstitutionPasses sorts u) (λ s q. (q u).1) t smaller),
-     passes_step sorts u t (map_domains (λ s. (u : Simple) → BothPass sorts s u) (SubstitutionPasses sorts u) (λ s q. (q u).1) t smaller) (map_domains (BothPass sorts t) (SubstitutionPasses sorts t) (λ s q. q.0) u smaller_inner))
+both_inner sorts t smaller u smaller_inner = (
+  passes_step sorts t u (map_domains (BothPass sorts t) (SubstitutionPasses sorts t) (λ s q. q.0) u smaller_inner) (map_domains (λ s. (u : Simple) → BothPass sorts s u) (SubstitutionPasses sorts u) (λ s q. (q u).1) t smaller),
+  passes_step sorts u t (map_domains (λ s. (u : Simple) → BothPass sorts s u) (SubstitutionPasses sorts u) (λ s q. (q u).1) t smaller) (map_domains (BothPass sorts t) (SubstitutionPasses sorts t) (λ s q. q.0) u smaller_inner),
+)
 
 both_pass : (sorts : Sorts) (t u : Simple) → BothPass sorts t u
 both_pass sorts = by_domains (λ s. (u : Simple) → BothPass sorts s u) (λ t smaller. by_domains (BothPass sorts t) (both_inner sorts t smaller))

@@ -1,19 +1,18 @@
 -- A replacement commutes with substitution; two substitutions commute.
-use Rattle.std.proofs.Common.{◌≡◌, ℕ, zero, suc, ◌+◌, ◌<◌, ◌≤◌, List, [], ◌∷◌, ◌++◌, length, map, Option, Some, None, refl, sym, ap, ap₂, subst, ◌∙◌, arith}
+use Rattle.std.proofs.Common.{◌≡◌, ℕ, suc, ◌+◌, [], ◌∷◌, ◌++◌, length, map, Some, refl, sym, ap, ap₂, subst, ◌∙◌, arith}
 use Rattle.std.specs.Prelude.{slice_get}
 use Rattle.lf_metatheory.proofs.Lookups.{length_map}
 use Rattle.lf_meaning.specs.Terms.{Constant, Object, Lam, At, Atomic, Var, Con, App, Simple, Base, Arrow, SimpleContext}
-use Rattle.lf_meaning.specs.Raising.{raised, raise, raise_atomic}
-use Rattle.lf_meaning.specs.Replacement.{Action, Stay, Step, Headed, Kept, Replaced, object_of, value_takes, takes, raise_headed, Replacement, replace, replace_head, replace_headed}
+use Rattle.lf_meaning.specs.Replacement.{Action, Headed, Kept, Replaced, object_of, value_takes, takes, raise_headed, Replacement, replace, replace_head, replace_headed}
 use Rattle.lf_meaning.specs.Substitution.{substituted, substitution, action, substitute}
-use Rattle.lf_meaning.specs.Sorts.{Sorts, HasSort, SynthesisesSort, ApplicationHasSort}
+use Rattle.lf_meaning.specs.Sorts.{Sorts, HasSort, SynthesisesSort}
 use Rattle.lf_metatheory.specs.Uniform.{IsUniform}
 use Rattle.lf_metatheory.proofs.Indices.{raised_above, Position, below, at, above, position}
 use Rattle.lf_metatheory.proofs.Raising.{raise_by_zero, raise_atomic_by_zero}
 use Rattle.lf_metatheory.proofs.Replacing.{substituted_below, substituted_at, substituted_above}
-use Rattle.lf_metatheory.proofs.Substituting.{raise_below_replacement, uniform_substitution, natural_action, substitute_raised_headed}
-use Rattle.lf_metatheory.proofs.Domains.{AllDomains, by_domains, everywhere, map_domains, IsRetyping, retyped_action, itself, itself_retypes}
-use Rattle.lf_metatheory.proofs.Sorting.{HeadedFits, KeepsSorts, keeps_sorts, replace_keeps_sort, replace_head_fits, Substituting, substituting, substituting_under, substituted_fits}
+use Rattle.lf_metatheory.proofs.Substituting.{raise_below_replacement, substitute_raised_headed}
+use Rattle.lf_metatheory.proofs.Domains.{AllDomains, IsRetyping, retyped_action, itself, itself_retypes}
+use Rattle.lf_metatheory.proofs.Sorting.{HeadedFits, keeps_sorts, replace_keeps_sort, replace_head_fits, Substituting, substituting, substituting_under, substituted_fits}
 
 -- At depth p, over terms in the context D: the replacement passes through substitution at s for the innermost variable.
 abbrev pub PassesAt : Sorts → Replacement → ℕ → SimpleContext → Simple → Type 0

@@ -1,12 +1,12 @@
 -- The replacement of constants alone: it keeps sorts, and commutes with raising and substitution.
-use Rattle.std.proofs.Common.{◌≡◌, ℕ, zero, suc, ◌+◌, ◌<◌, ◌≤◌, List, [], ◌∷◌, ◌++◌, length, map, Option, Some, None, refl, sym, ap, ap₂, subst, ◌∙◌, arith}
+use Rattle.std.proofs.Common.{◌≡◌, ℕ, suc, [], ◌∷◌, ◌++◌, length, map, Some, refl, ap, ap₂, ◌∙◌, arith}
 use Rattle.std.specs.Prelude.{slice_get}
-use Rattle.lf_meaning.specs.Terms.{Constant, Object, Lam, At, Atomic, Var, Con, App, Simple, Base, Arrow, SimpleContext}
-use Rattle.lf_meaning.specs.Raising.{raised, raise, raise_atomic}
-use Rattle.lf_meaning.specs.Replacement.{Headed, Kept, Replaced, object_of, takes, raise_headed, Replacement, replace, replace_head}
-use Rattle.lf_meaning.specs.Substitution.{action, substitute}
-use Rattle.lf_meaning.specs.Sorts.{Sorts, HasSort, SynthesisesSort}
-use Rattle.lf_metatheory.specs.Uniform.{HasType, IsUniform, HeadedHasSort, rename_bases, of_constants, replace_constants, IsSortedMap}
+use Rattle.lf_meaning.specs.Terms.{Constant, Object, Lam, At, Atomic, Var, Con, App, Simple, SimpleContext}
+use Rattle.lf_meaning.specs.Raising.{raised, raise}
+use Rattle.lf_meaning.specs.Replacement.{Headed, Kept, Replaced, object_of, takes, replace, replace_head}
+use Rattle.lf_meaning.specs.Substitution.{substitute}
+use Rattle.lf_meaning.specs.Sorts.{Sorts, HasSort}
+use Rattle.lf_metatheory.specs.Uniform.{IsUniform, HeadedHasSort, rename_bases, of_constants, replace_constants, IsSortedMap}
 use Rattle.lf_metatheory.proofs.Lookups.{get_map}
 use Rattle.lf_metatheory.proofs.Domains.{rename_retypes}
 use Rattle.lf_metatheory.proofs.Replacing.{raise_replace}

@@ -1,8 +1,8 @@
 -- Look-up of declarations in a signature.
-use Rattle.std.proofs.Common.{◌≡◌, ℕ, zero, suc, List, [], ◌∷◌, ◌++◌, length, Option, Some, None, Bool, true, false, cond, refl, sym, ap, ap₂, subst, ◌∙◌}
+use Rattle.std.proofs.Common.{◌≡◌, [], ◌∷◌, ◌++◌, Option, Some, None, Bool, true, false, cond, refl, ap, subst, ◌∙◌}
 use Rattle.lf_meaning.specs.Terms.{Constant}
 use Rattle.lf_meaning.specs.Signatures.{Class, Value, Declaration, Signature, same_constant, declaration_of, undefined_class, declared_class, class_of}
-use Rattle.lf_meaning.specs.Judgements.{IsClass, IsDeclaration, IsSignature}
+use Rattle.lf_meaning.specs.Judgements.{IsClass, IsSignature}
 
 keep_found : (b : Bool) (d e : Declaration) (x y : Option Declaration) → (x ≡ Some e → y ≡ Some e) → cond b (Some d) x ≡ Some e → cond b (Some d) y ≡ Some e
 keep_found true d e x y f h = h

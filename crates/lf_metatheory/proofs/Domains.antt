@@ -1,8 +1,8 @@
 -- Induction on a simple type that gives a property at all domains of the type before the type itself; and functions on
 -- simple types that keep their arrows.
-use Rattle.std.proofs.Common.{◌≡◌, ℕ, Bool, refl, sym, ap, ap₂, ◌∙◌}
-use Rattle.lf_meaning.specs.Terms.{Constant, Object, Simple, Base, Arrow}
-use Rattle.lf_meaning.specs.Replacement.{Action, Step, replace}
+use Rattle.std.proofs.Common.{◌≡◌, refl, ap, ap₂, ◌∙◌}
+use Rattle.lf_meaning.specs.Terms.{Constant, Simple, Base, Arrow}
+use Rattle.lf_meaning.specs.Replacement.{Step, replace}
 use Rattle.lf_meaning.specs.Substitution.{substitution, action}
 use Rattle.lf_metatheory.specs.Uniform.{rename_bases}
 

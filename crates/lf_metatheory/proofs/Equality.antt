@@ -1,8 +1,8 @@
 -- The tests of equality decide it.
-use Rattle.std.proofs.Common.{◌≡◌, ℕ, zero, suc, List, [], ◌∷◌, Bool, true, false, ◌&&◌, nat_eq, refl, sym, ap, ap₂, subst, ◌∙◌, Decides, eqb-true, eq-eqb}
+use Rattle.std.proofs.Common.{◌≡◌, List, [], ◌∷◌, Bool, true, nat_eq, refl, ap, ap₂, subst, Decides, eqb-true, eq-eqb}
 use Rattle.std.proofs.lemmas.Bool.{and_parts, and_from}
 use lib.Pointwise.{pointwise}
-use Rattle.lf_meaning.specs.Terms.{Name, Path, Constant, Object, Lam, At, Atomic, Var, Con, App, Family, Pi, AtFamily, AtomicFamily, FamilyCon, FamilyApp, Kind, Ty, PiKind}
+use Rattle.lf_meaning.specs.Terms.{Name, Constant, Object, Lam, At, Atomic, Var, Con, App, Family, Pi, AtFamily, AtomicFamily, FamilyCon, FamilyApp, Kind, Ty, PiKind}
 use Rattle.lf_meaning.specs.Signatures.{same_name, same_constant, Class, FamilyClass, KindClass, Value, SameAs, TermValue, FamilyValue}
 use Rattle.lf_meaning.specs.Equality.{same_object, same_atomic, same_atomic_family, same_family, same_kind, same_class, same_value}
 

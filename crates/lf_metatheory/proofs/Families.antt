@@ -1,6 +1,6 @@
 -- Laws of raising and substitution for families and kinds, from those for objects.
-use Rattle.std.proofs.Common.{◌≡◌, ℕ, zero, suc, ◌+◌, ◌<◌, ◌≤◌, refl, sym, ap, ap₂, subst, ◌∙◌, arith}
-use Rattle.lf_meaning.specs.Terms.{Constant, Object, Family, Pi, AtFamily, AtomicFamily, FamilyCon, FamilyApp, Kind, Ty, PiKind, Simple, Base, Arrow}
+use Rattle.std.proofs.Common.{◌≡◌, ℕ, suc, ◌+◌, ◌≤◌, refl, sym, ap, ap₂, ◌∙◌, arith}
+use Rattle.lf_meaning.specs.Terms.{Object, Family, Pi, AtFamily, AtomicFamily, FamilyCon, FamilyApp, Kind, Ty, PiKind, Simple, Base, Arrow}
 use Rattle.lf_meaning.specs.Raising.{raise, map_family, map_atomic_family, map_kind, raise_family, raise_kind}
 use Rattle.lf_meaning.specs.Erasure.{erase, head_constant}
 use Rattle.lf_meaning.specs.Substitution.{substitution, action, substitute, substitute_family, substitute_kind}

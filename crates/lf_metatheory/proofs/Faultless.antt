@@ -1,14 +1,14 @@
 -- A judgement holds exactly where its first fault is none.
-use Rattle.std.proofs.Common.{◌≡◌, ℕ, zero, suc, ◌+◌, List, [], ◌∷◌, ◌++◌, length, Option, Some, None, Result, Ok, Err, Bool, true, false, cond, nat_eq, refl, sym, ap, ap₂, subst, subst₂, ◌∙◌, arith, append_assoc, append-nil, eqb-true, eq-eqb}
+use Rattle.std.proofs.Common.{◌≡◌, ℕ, suc, ◌+◌, [], ◌∷◌, ◌++◌, length, Option, Some, None, Result, Ok, Err, Bool, true, false, cond, nat_eq, refl, sym, ap, subst, subst₂, ◌∙◌, append_assoc, append-nil, eqb-true, eq-eqb}
 use Rattle.std.specs.Prelude.{slice_get}
-use Rattle.lf_meaning.specs.Terms.{Constant, Object, Lam, At, Atomic, Var, Con, App, Family, Pi, AtFamily, AtomicFamily, FamilyCon, FamilyApp, Kind, Ty, PiKind, Context, argument_count, family_argument_count, domain_count, with_domains}
+use Rattle.lf_meaning.specs.Terms.{Object, Lam, At, Atomic, Var, Con, App, Family, Pi, AtFamily, AtomicFamily, FamilyCon, FamilyApp, Kind, Ty, PiKind, Context, argument_count, family_argument_count, domain_count, with_domains}
 use Rattle.lf_meaning.specs.Raising.{raise_family}
 use Rattle.lf_meaning.specs.Erasure.{erase}
 use Rattle.lf_meaning.specs.Substitution.{substitute_family, substitute_kind}
 use Rattle.lf_meaning.specs.Signatures.{Class, FamilyClass, KindClass, Value, SameAs, TermValue, FamilyValue, Declaration, Signature, class_of}
-use Rattle.lf_meaning.specs.Judgements.{VariableHas, ApplicationHas, Checks, Synthesises, FamilyApplicationHas, SynthesisesKind, IsFamily, IsKind, IsClass, Fits, ValueFits, IsDeclaration, IsSignature}
+use Rattle.lf_meaning.specs.Judgements.{Checks, Synthesises, SynthesisesKind, IsFamily, IsKind, IsClass, Fits, ValueFits, IsDeclaration, IsSignature}
 use Rattle.lf_meaning.specs.Equality.{same_family, same_kind}
-use Rattle.lf_meaning.specs.Faults.{FaultKind, UnknownConstant, NotAFunction, NotCanonical, Mismatch, Level, Fault, here, inside, first_fault, unless_fault, variable_answer, constant_answer, application_answer, stands_at, object_fault, synthesised, family_constant_answer, family_application_answer, synthesised_kind, stands_at_type, family_fault, kind_fault, class_fault, same_fault, value_fault, optional_value_fault, declaration_fault, BadDeclaration, bad_at, signature_fault_after, signature_fault}
+use Rattle.lf_meaning.specs.Faults.{Mismatch, Fault, here, inside, first_fault, unless_fault, variable_answer, constant_answer, application_answer, stands_at, object_fault, synthesised, family_constant_answer, family_application_answer, synthesised_kind, stands_at_type, family_fault, kind_fault, class_fault, same_fault, value_fault, optional_value_fault, declaration_fault, BadDeclaration, bad_at, signature_fault_after, signature_fault}
 use Rattle.lf_metatheory.proofs.Equality.{same_family_sound, same_family_itself, same_kind_sound, same_kind_itself}
 
 -- what the answers tell, from none

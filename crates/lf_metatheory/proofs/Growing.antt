@@ -1,11 +1,14 @@
 -- Well-typed signatures grow by well-typed declarations.
-use Rattle.std.proofs.Common.{◌≡◌, ℕ, List, [], ◌∷◌, ◌++◌, ◌⊎◌, inl, inr, ⊎_elim, Option, Some, None, refl, sym, ap, ap₂, subst, ◌∙◌, append_assoc}
-use Rattle.lf_meaning.specs.Signatures.{Class, Value, Declaration, Signature}
+use Rattle.std.proofs.Common.{◌≡◌, List, [], ◌∷◌, ◌++◌, ◌⊎◌, inl, inr, ⊎_elim, refl, sym, ap, ap₂, subst, ◌∙◌, append_assoc}
+use Rattle.lf_meaning.specs.Signatures.{Declaration, Signature}
 use Rattle.lf_meaning.specs.Judgements.{IsDeclaration, IsSignature}
 
 not_nil : {A : Type 0} (before after : List A) (e : A) → [] ≡ before ++ (e ∷ after) → ⊥
 not_nil [] after e h = cc
 not_nil (b ∷ before) after e h = cc
+
+cons_same : {A : Type 0} (x y : A) (xs ys : List A) → x ≡ y → xs ≡ ys → x ∷ xs ≡ y ∷ ys
+cons_same x y xs ys e f = ap₂ (λ z zs. z ∷ zs) e f
 
 -- where a declaration stands in a signature with one more at the end
 split_last : (sig before after : Signature) (d e : Declaration) → sig ++ (d ∷ []) ≡ before ++ (e ∷ after) → ((before ≡ sig) × (e ≡ d)) ⊎ ((rest : Signature) × (sig ≡ before ++ (e ∷ rest)))
@@ -15,7 +18,7 @@ split_last (x ∷ sig) [] after d e h = let same : x ≡ e = cc in inr (sig, ap 
 split_last (x ∷ sig) (b ∷ before) after d e h =
     let same : x ≡ b = cc in
     let tail : sig ++ (d ∷ []) ≡ before ++ (e ∷ after) = cc in
-    ⊎_elim (λ p. inl (ap₂ (λ y ys. y ∷ ys) (sym same) p.0, p.1)) (λ p. inr (p.0, ap₂ (λ y ys. y ∷ ys) same p.1)) (split_last sig before after d e tail)
+    ⊎_elim (λ p. inl (cons_same b x before sig (sym same) p.0, p.1)) (λ p. inr (p.0, cons_same x b sig (before ++ (e ∷ p.0)) same p.1)) (split_last sig before after d e tail)
 
 pub empty_signature : IsSignature []
 empty_signature before d after e = absurd (not_nil before after d e)

@@ -1,14 +1,13 @@
 -- What is synthesised is a family or a kind; a head that takes an argument keeps its typing.
-use Rattle.std.proofs.Common.{◌≡◌, ℕ, zero, suc, ◌+◌, ◌<◌, ◌≤◌, List, [], ◌∷◌, ◌++◌, length, Option, Some, None, refl, sym, ap, ap₂, subst, ◌∙◌, arith}
+use Rattle.std.proofs.Common.{◌≡◌, ℕ, zero, suc, [], ◌∷◌, Some, refl, sym, ap, subst, ◌∙◌, arith}
 use Rattle.std.specs.Prelude.{slice_get}
-use Rattle.lf_meaning.specs.Terms.{Constant, Object, Lam, At, Atomic, Var, Con, App, Family, Pi, AtFamily, AtomicFamily, FamilyCon, FamilyApp, Kind, Ty, PiKind, Simple, Base, Arrow, Context}
-use Rattle.lf_meaning.specs.Raising.{raise, raise_family, map_context}
+use Rattle.lf_meaning.specs.Terms.{Object, Lam, At, Atomic, Var, Con, App, Family, Pi, AtFamily, AtomicFamily, FamilyCon, FamilyApp, Kind, PiKind, Context}
+use Rattle.lf_meaning.specs.Raising.{raise_family}
 use Rattle.lf_meaning.specs.Erasure.{erase}
-use Rattle.lf_meaning.specs.Replacement.{Action, Headed, Kept, Replaced, object_of, value_takes, takes}
-use Rattle.lf_meaning.specs.Substitution.{action, substitute, substitute_family, substitute_kind, app}
-use Rattle.lf_meaning.specs.Signatures.{Class, FamilyClass, KindClass, Signature, class_of}
-use Rattle.lf_meaning.specs.Judgements.{VariableHas, ApplicationHas, Checks, Synthesises, FamilyApplicationHas, SynthesisesKind, IsFamily, IsKind, IsContext, IsSignature}
-use Rattle.lf_meaning.specs.Sorts.{sorts_of}
+use Rattle.lf_meaning.specs.Replacement.{Headed, Kept, Replaced, object_of, value_takes, takes}
+use Rattle.lf_meaning.specs.Substitution.{action, substitute, substitute_family, app}
+use Rattle.lf_meaning.specs.Signatures.{Signature}
+use Rattle.lf_meaning.specs.Judgements.{Checks, Synthesises, SynthesisesKind, IsFamily, IsKind, IsContext, IsSignature}
 use Rattle.lf_metatheory.proofs.Families.{erase_map, raise_family_twice}
 use Rattle.lf_metatheory.proofs.Typed.{family_sorted, more_family, more_kind}
 use Rattle.lf_metatheory.proofs.Closed.{class_is_family, class_is_kind}
@@ -63,6 +62,6 @@ module _ (sig : Signature) (typed : IsSignature sig) (context : Context) (contex
   app_checks (Lam c) h = substitute_checks sig typed context m a argument [] c b (context_sorted sig context context_is, family_sorted sig context a pi_is.0) (family_sorted sig (a ∷ context) b pi_is.1) h
   app_checks (At r) h = absurd h
 
-  pub app_type : (v : Object) → (app (erase (Pi a b)) v m).type ≡ erase (substitute_family m (erase a) 0 b)
-  app_type (Lam c) = sym (erase_map (substitute m (erase a)) 0 b)
-  app_type (At r) = sym (erase_map (substitute m (erase a)) 0 b)
+pub app_type : (a b : Family) (v m : Object) → (app (erase (Pi a b)) v m).type ≡ erase (substitute_family m (erase a) 0 b)
+app_type a b (Lam c) m = sym (erase_map (substitute m (erase a)) 0 b)
+app_type a b (At r) m = sym (erase_map (substitute m (erase a)) 0 b)

@@ -23,3 +23,4 @@ pub mod Constants
 pub mod Growing
 pub mod HeadTyping
 pub mod SpineSynthesis
+pub mod TypedMisfits

@@ -1,8 +1,8 @@
 -- Places in a list whose middle is left out or put in.
-use Rattle.std.proofs.Common.{◌≡◌, ℕ, zero, suc, ◌+◌, ◌<◌, ◌≤◌, List, [], ◌∷◌, ◌++◌, length, map, option_map, Option, Some, None, refl, sym, ap, subst, ◌∙◌, arith}
+use Rattle.std.proofs.Common.{◌≡◌, ℕ, zero, suc, ◌+◌, ◌<◌, ◌≤◌, List, [], ◌∷◌, ◌++◌, length, map, option_map, Some, refl, ap, ◌∙◌, arith}
 use Rattle.std.specs.Prelude.{slice_get}
 use Rattle.lf_meaning.specs.Raising.{raised}
-use Rattle.lf_metatheory.proofs.Indices.{raised_zero, raised_below, raised_above, raised_suc}
+use Rattle.lf_metatheory.proofs.Indices.{raised_below, raised_above, raised_suc}
 
 pub get_behind : {A : Type 0} (front rest : List A) (i j : ℕ) → j ≡ i + length front → slice_get (front ++ rest) j ≡ slice_get rest i
 get_behind [] rest i j e = let f : j ≡ i = omega (arith, e) in ap (slice_get rest) f

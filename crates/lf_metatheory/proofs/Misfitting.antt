@@ -1,13 +1,13 @@
 -- No step of a substitution into a well-sorted term meets a misfit.
-use Rattle.std.proofs.Common.{◌≡◌, ℕ, zero, suc, List, [], ◌∷◌, ◌++◌, length, refl, sym, ap, subst, ◌∙◌}
-use Rattle.lf_meaning.specs.Terms.{Constant, Object, Lam, At, Atomic, Var, Con, App, Family, Pi, AtFamily, AtomicFamily, FamilyCon, FamilyApp, Simple, Base, Arrow, SimpleContext}
+use Rattle.std.proofs.Common.{◌≡◌, ℕ, [], ◌∷◌, ◌++◌, length, refl, ap, ◌∙◌}
+use Rattle.lf_meaning.specs.Terms.{Object, Lam, At, Atomic, Var, Con, App, Family, Pi, AtFamily, AtomicFamily, FamilyCon, FamilyApp, Simple, Base, Arrow, SimpleContext}
 use Rattle.lf_meaning.specs.Erasure.{erase}
-use Rattle.lf_meaning.specs.Replacement.{Action, Headed, Kept, Replaced, replace, replace_head}
+use Rattle.lf_meaning.specs.Replacement.{Headed, Kept, Replaced, replace_head}
 use Rattle.lf_meaning.specs.Substitution.{substitution, action, substitute}
 use Rattle.lf_meaning.specs.Sorts.{Sorts, HasSort, SynthesisesSort, IsSortedAtomicFamily, IsSortedFamily}
 use Rattle.lf_meaning.specs.Misfits.{NoMisfit, in_body, in_atomic, NoHeadMisfit, at_variable, at_constant, head_kept, goes_on, NoMisfitInAtomicFamily, NoMisfitInFamily}
 use Rattle.lf_metatheory.proofs.Domains.{AllDomains, by_domains, itself, itself_retypes}
-use Rattle.lf_metatheory.proofs.Sorting.{HeadedFits, KeepsSorts, keeps_sorts, replace_keeps_sort, replace_head_fits, Substituting, substituting, substituting_under, substituted_fits}
+use Rattle.lf_metatheory.proofs.Sorting.{HeadedFits, keeps_sorts, replace_head_fits, Substituting, substituting, substituting_under, substituted_fits}
 
 -- substitution at the simple type meets no misfit in a well-sorted term
 abbrev pub MeetsNoMisfit : Simple → Type 0

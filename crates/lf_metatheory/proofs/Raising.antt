@@ -1,7 +1,7 @@
 -- Raising: by nothing, twice, and in either order.
-use Rattle.std.proofs.Common.{◌≡◌, ℕ, zero, suc, ◌+◌, ◌<◌, ◌≤◌, refl, sym, ap, ap₂, ◌∙◌, arith}
-use Rattle.lf_meaning.specs.Terms.{Object, Lam, At, Atomic, Var, Con, App, Family, Pi, AtFamily, AtomicFamily, FamilyCon, FamilyApp, Kind, Ty, PiKind}
-use Rattle.lf_meaning.specs.Raising.{raised, raise, raise_atomic, map_family, map_atomic_family, map_kind, raise_family, raise_kind}
+use Rattle.std.proofs.Common.{◌≡◌, ℕ, suc, ◌+◌, ◌≤◌, refl, ap, ap₂, arith}
+use Rattle.lf_meaning.specs.Terms.{Object, Lam, At, Atomic, Var, Con, App}
+use Rattle.lf_meaning.specs.Raising.{raise, raise_atomic}
 use Rattle.lf_metatheory.proofs.Indices.{raised_zero, raised_twice, raised_swap}
 
 mutual

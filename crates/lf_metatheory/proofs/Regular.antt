@@ -1,13 +1,13 @@
 -- What is synthesised is well sorted, in a context of well-sorted families.
-use Rattle.std.proofs.Common.{◌≡◌, ℕ, zero, suc, ◌+◌, ◌<◌, ◌≤◌, List, [], ◌∷◌, ◌++◌, length, map, Option, Some, None, refl, sym, ap, ap₂, subst, subst₂, ◌∙◌, arith}
+use Rattle.std.proofs.Common.{◌≡◌, ℕ, zero, suc, [], ◌∷◌, ◌++◌, length, Some, refl, sym, ap, ap₂, subst, subst₂, ◌∙◌, arith}
 use Rattle.std.specs.Prelude.{slice_get}
-use Rattle.lf_meaning.specs.Terms.{Constant, Object, Lam, At, Atomic, Var, Con, App, Family, Pi, AtFamily, AtomicFamily, FamilyCon, FamilyApp, Kind, Ty, PiKind, Simple, Base, Arrow, Context, SimpleContext}
-use Rattle.lf_meaning.specs.Raising.{raise, map_family, raise_family, map_context}
+use Rattle.lf_meaning.specs.Terms.{Object, Atomic, Var, Con, App, Family, Pi, AtomicFamily, FamilyCon, FamilyApp, Kind, PiKind, Simple, Context}
+use Rattle.lf_meaning.specs.Raising.{raise_family, map_context}
 use Rattle.lf_meaning.specs.Erasure.{erase, erase_context}
-use Rattle.lf_meaning.specs.Substitution.{substitute, substitute_family, substitute_kind, substitute_context}
-use Rattle.lf_meaning.specs.Signatures.{Class, FamilyClass, KindClass, Signature, class_of}
-use Rattle.lf_meaning.specs.Judgements.{VariableHas, ApplicationHas, Checks, Synthesises, FamilyApplicationHas, SynthesisesKind, IsFamily, IsKind, IsContext, IsSignature}
-use Rattle.lf_meaning.specs.Sorts.{Sorts, HasSort, IsSortedAtomicFamily, IsSortedFamily, IsSortedKind, sorts_of}
+use Rattle.lf_meaning.specs.Substitution.{substitute, substitute_family, substitute_context}
+use Rattle.lf_meaning.specs.Signatures.{Signature}
+use Rattle.lf_meaning.specs.Judgements.{Synthesises, SynthesisesKind, IsContext, IsSignature}
+use Rattle.lf_meaning.specs.Sorts.{Sorts, HasSort, IsSortedFamily, IsSortedKind, sorts_of}
 use Rattle.lf_metatheory.proofs.Families.{erase_map, raise_family_twice}
 use Rattle.lf_metatheory.proofs.SortedFamilies.{raise_keeps_sorted, substitute_keeps_sorted, substitute_keeps_sorted_kind, more_sorted_family, more_sorted_kind}
 use Rattle.lf_metatheory.proofs.Typed.{checks_sort, family_sorted}

@@ -1,12 +1,10 @@
 -- Replacement and raising.
-use Rattle.std.proofs.Common.{◌≡◌, ℕ, zero, suc, pred, ◌+◌, ◌<◌, ◌≤◌, nat_lt, nat_eq, if◌then◌else◌, refl, sym, ap, ap₂, ◌∙◌, arith}
+use Rattle.std.proofs.Common.{◌≡◌, ℕ, suc, ◌<◌, ◌≤◌, refl, ap, ap₂, ◌∙◌, arith}
 use Rattle.std.proofs.lemmas.Bool.Decides.{nat_tests}
-use Rattle.lf_meaning.specs.Terms.{Constant, Object, Lam, At, Atomic, Var, Con, App, Simple, Base, Arrow}
+use Rattle.lf_meaning.specs.Terms.{Constant, Object, Lam, At, Atomic, Var, Con, App}
 use Rattle.lf_meaning.specs.Raising.{raised, raise, raise_atomic}
-use Rattle.lf_meaning.specs.Replacement.{Action, Stay, Step, Headed, Kept, Replaced, object_of, value_takes, takes, raise_headed, Replacement, replace, replace_head}
-use Rattle.lf_meaning.specs.Substitution.{substituted, substitution, action, substitute}
-use Rattle.lf_metatheory.proofs.Indices.{raised_zero, raised_twice, raised_swap, raised_below, raised_above, Position, below, at, above, position}
-use Rattle.lf_metatheory.proofs.Raising.{raise_swap, raise_twice, raise_by_zero}
+use Rattle.lf_meaning.specs.Replacement.{Action, Stay, Step, Headed, Kept, Replaced, object_of, takes, raise_headed, Replacement, replace, replace_head}
+use Rattle.lf_meaning.specs.Substitution.{substituted}
 
 -- an action at whose domains raising passes through the substitution for the outermost variable
 abbrev pub NaturalAction : Action → Type 0

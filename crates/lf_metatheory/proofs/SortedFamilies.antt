@@ -1,11 +1,10 @@
 -- Well-sorted families and kinds, under raising and substitution.
-use Rattle.std.proofs.Common.{◌≡◌, ℕ, zero, suc, ◌+◌, ◌<◌, ◌≤◌, List, [], ◌∷◌, ◌++◌, length, Option, Some, None, refl, sym, ap, ap₂, subst, ◌∙◌, arith}
-use Rattle.std.specs.Prelude.{slice_get}
+use Rattle.std.proofs.Common.{◌≡◌, ℕ, suc, ◌∷◌, ◌++◌, length, Some, refl, sym, ap, subst}
 use Rattle.lf_meaning.specs.Terms.{Constant, Object, Lam, At, Atomic, Var, Con, App, Family, Pi, AtFamily, AtomicFamily, FamilyCon, FamilyApp, Kind, Ty, PiKind, Simple, Base, Arrow, SimpleContext}
 use Rattle.lf_meaning.specs.Raising.{raise, map_family, map_atomic_family, map_kind, raise_family, raise_kind}
 use Rattle.lf_meaning.specs.Erasure.{erase}
 use Rattle.lf_meaning.specs.Substitution.{substitute, substitute_family, substitute_kind}
-use Rattle.lf_meaning.specs.Sorts.{Sorts, HasSort, SynthesisesSort, IsSorted, IsSortedAtomicFamily, IsSortedFamily, IsSortedKind}
+use Rattle.lf_meaning.specs.Sorts.{Sorts, HasSort, SynthesisesSort, IsSortedAtomicFamily, IsSortedFamily, IsSortedKind}
 use Rattle.lf_metatheory.proofs.Families.{erase_map}
 use Rattle.lf_metatheory.proofs.Lookups.{get_more}
 use Rattle.lf_metatheory.proofs.Sorting.{raise_keeps_sort, keeps_sorts, Substituting, substituting, substituting_under}

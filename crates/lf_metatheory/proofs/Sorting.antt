@@ -1,11 +1,11 @@
 -- Raising, replacement and substitution keep sorts.
-use Rattle.std.proofs.Common.{◌≡◌, ℕ, zero, suc, ◌+◌, ◌<◌, ◌≤◌, List, [], ◌∷◌, ◌++◌, length, Option, Some, None, refl, sym, ap, ap₂, subst, ◌∙◌, arith}
+use Rattle.std.proofs.Common.{◌≡◌, ℕ, suc, [], ◌∷◌, ◌++◌, length, Some, refl, sym, ap, subst, ◌∙◌, arith}
 use Rattle.std.specs.Prelude.{slice_get}
 use Rattle.lf_meaning.specs.Terms.{Constant, Object, Lam, At, Atomic, Var, Con, App, Simple, Base, Arrow, SimpleContext}
-use Rattle.lf_meaning.specs.Raising.{raised, raise, raise_atomic}
-use Rattle.lf_meaning.specs.Replacement.{Action, Stay, Step, Headed, Kept, Replaced, object_of, value_takes, takes, raise_headed, Replacement, replace, replace_head}
+use Rattle.lf_meaning.specs.Raising.{raise, raise_atomic}
+use Rattle.lf_meaning.specs.Replacement.{Headed, Kept, Replaced, object_of, value_takes, takes, Replacement, replace, replace_head}
 use Rattle.lf_meaning.specs.Substitution.{substituted, substitution, action, substitute}
-use Rattle.lf_meaning.specs.Sorts.{Sorts, HasSort, SynthesisesSort, ApplicationHasSort}
+use Rattle.lf_meaning.specs.Sorts.{Sorts, HasSort, SynthesisesSort}
 use Rattle.lf_metatheory.proofs.Indices.{Position, below, at, above, position}
 use Rattle.lf_metatheory.proofs.Replacing.{substituted_below, substituted_at, substituted_above}
 use Rattle.lf_metatheory.proofs.Lookups.{get_raised, get_below, get_at, get_above}

@@ -1,9 +1,7 @@
 -- A head synthesises with a row of arguments what it synthesises with them one by one.
-use Rattle.std.proofs.Common.{◌≡◌, ℕ, suc, ◌+◌, List, [], ◌∷◌, Result, Ok, Err, refl, sym, ap, ◌∙◌}
-use Rattle.lf_meaning.specs.Terms.{Object, Atomic, App, AtomicFamily, FamilyApp, Family, Kind, Context, apply_all, family_apply_all, argument_count, family_argument_count}
-use Rattle.lf_meaning.specs.Signatures.{Signature}
-use Rattle.lf_meaning.specs.Faults.{Fault, application_answer, family_application_answer, object_fault, synthesised, synthesised_kind}
-use Rattle.lf_metatheory.specs.SpineSynthesis.{arguments_answer, family_arguments_answer, SynthesisOfSpine, KindSynthesisOfSpine, FaultStays, KindFaultStays}
+use Rattle.std.proofs.Common.{suc, [], ◌∷◌, refl}
+use Rattle.lf_meaning.specs.Terms.{App, FamilyApp}
+use Rattle.lf_metatheory.specs.SpineSynthesis.{SynthesisOfSpine, KindSynthesisOfSpine, FaultStays, KindFaultStays}
 
 pub synthesised_spine : SynthesisOfSpine
 synthesised_spine sig context r [] = refl

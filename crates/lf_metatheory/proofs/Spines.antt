@@ -1,10 +1,10 @@
 -- A row of arguments taken at once is the arguments taken one by one.
-use Rattle.std.proofs.Common.{◌≡◌, ℕ, zero, suc, ◌+◌, ◌<◌, ◌≤◌, List, [], ◌∷◌, ◌++◌, length, map, refl, sym, ap, ap₂, subst, ◌∙◌, arith}
-use Rattle.lf_meaning.specs.Terms.{Constant, Object, Lam, At, Atomic, Var, Con, App, AtomicFamily, FamilyCon, FamilyApp, Simple, Base, Arrow, apply_all, family_apply_all, argument_count, family_argument_count}
+use Rattle.std.proofs.Common.{◌≡◌, ℕ, suc, ◌+◌, ◌<◌, ◌≤◌, List, [], ◌∷◌, ◌++◌, length, map, refl, ap, ◌∙◌, arith}
+use Rattle.lf_meaning.specs.Terms.{Constant, Object, Lam, At, Atomic, Var, Con, App, AtomicFamily, FamilyApp, Simple, Base, Arrow, apply_all, family_apply_all, argument_count, family_argument_count}
 use Rattle.lf_meaning.specs.Raising.{raise, raise_atomic, map_atomic_family}
 use Rattle.lf_meaning.specs.Erasure.{head_constant}
-use Rattle.lf_meaning.specs.Replacement.{Action, Headed, Kept, Replaced, object_of, value_takes, takes, takes_all, Replacement, replace, replace_head}
-use Rattle.lf_meaning.specs.Substitution.{substituted, substitution, action, substitute, Typed, app, reduce_typed, reduce}
+use Rattle.lf_meaning.specs.Replacement.{Headed, Kept, Replaced, object_of, takes, takes_all, Replacement, replace, replace_head}
+use Rattle.lf_meaning.specs.Substitution.{substitution, action, substitute, Typed, app, reduce_typed, reduce}
 use Rattle.lf_metatheory.proofs.Replacing.{substituted_below, substituted_at, substituted_above}
 
 -- a value in place of a head takes an argument by `app`

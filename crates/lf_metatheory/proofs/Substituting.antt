@@ -1,12 +1,12 @@
 -- Substitution and raising.
-use Rattle.std.proofs.Common.{◌≡◌, ℕ, zero, suc, pred, ◌+◌, ◌<◌, ◌≤◌, nat_lt, nat_eq, if◌then◌else◌, refl, sym, ap, ap₂, subst, ◌∙◌, ◌⊎◌, ⊎_elim, arith}
-use Rattle.lf_meaning.specs.Terms.{Constant, Object, Lam, At, Atomic, Var, Con, App, Simple, Base, Arrow}
+use Rattle.std.proofs.Common.{◌≡◌, ℕ, suc, ◌+◌, ◌≤◌, refl, sym, ap, ap₂, subst, ◌∙◌, ⊎_elim, arith}
+use Rattle.lf_meaning.specs.Terms.{Object, Lam, At, Atomic, Var, Con, App, Simple, Base, Arrow}
 use Rattle.lf_meaning.specs.Raising.{raised, raise, raise_atomic}
-use Rattle.lf_meaning.specs.Replacement.{Action, Stay, Step, Headed, Kept, Replaced, object_of, value_takes, takes, raise_headed, Replacement, replace, replace_head, replace_headed}
-use Rattle.lf_meaning.specs.Substitution.{substituted, substitution, action, substitute}
+use Rattle.lf_meaning.specs.Replacement.{Action, Headed, Kept, Replaced, object_of, takes, raise_headed, Replacement, replace, replace_head, replace_headed}
+use Rattle.lf_meaning.specs.Substitution.{substituted, substitution, action}
 use Rattle.lf_metatheory.specs.Uniform.{HasType, IsUniform}
-use Rattle.lf_metatheory.proofs.Indices.{raised_zero, raised_twice, raised_swap, raised_below, raised_above, raised_suc, raised_grows, raised_over, raised_stays, raised_suc_above, raised_over_depth, Position, below, at, above, position}
-use Rattle.lf_metatheory.proofs.Raising.{raise_swap, raise_twice, raise_by_zero}
+use Rattle.lf_metatheory.proofs.Indices.{raised_below, raised_above, raised_suc, raised_grows, raised_over, raised_stays, raised_suc_above, raised_over_depth, Position, below, at, above, position}
+use Rattle.lf_metatheory.proofs.Raising.{raise_swap, raise_twice}
 use Rattle.lf_metatheory.proofs.Replacing.{NaturalAction, NaturalHeaded, IsNatural, raise_replace, raise_replace_head, substituted_below, substituted_at, substituted_above}
 
 natural_substituted : (v : Object) (a : Action) → NaturalAction a → (n i : ℕ) → Position n i → NaturalHeaded (substituted v a n i)

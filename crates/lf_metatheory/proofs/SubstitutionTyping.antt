@@ -1,21 +1,20 @@
 -- Substitution keeps typing.
-use Rattle.std.proofs.Common.{◌≡◌, ℕ, zero, suc, ◌+◌, ◌<◌, ◌≤◌, List, [], ◌∷◌, ◌++◌, length, map, Option, Some, None, refl, sym, ap, ap₂, subst, subst₂, ◌∙◌, arith}
-use Rattle.std.specs.Prelude.{slice_get}
-use Rattle.lf_meaning.specs.Terms.{Constant, Object, Lam, At, Atomic, Var, Con, App, Family, Pi, AtFamily, AtomicFamily, FamilyCon, FamilyApp, Kind, Ty, PiKind, Simple, Base, Arrow, Context, SimpleContext}
-use Rattle.lf_meaning.specs.Raising.{raise, map_family, raise_family, map_context, raise_context}
+use Rattle.std.proofs.Common.{◌≡◌, ℕ, suc, ◌<◌, ◌≤◌, [], ◌∷◌, ◌++◌, length, Some, refl, sym, ap, ap₂, subst, subst₂, ◌∙◌, arith}
+use Rattle.lf_meaning.specs.Terms.{Constant, Object, Lam, At, Atomic, Var, Con, App, Family, Pi, AtFamily, AtomicFamily, FamilyCon, FamilyApp, Kind, Ty, PiKind, Simple, Arrow, Context}
+use Rattle.lf_meaning.specs.Raising.{raise, raise_family}
 use Rattle.lf_meaning.specs.Erasure.{erase, erase_context}
-use Rattle.lf_meaning.specs.Replacement.{Action, Headed, Kept, Replaced, object_of, value_takes, takes, replace, replace_head}
+use Rattle.lf_meaning.specs.Replacement.{Headed, Kept, Replaced, object_of, value_takes, takes, replace_head}
 use Rattle.lf_meaning.specs.Substitution.{substituted, substitution, action, substitute, substitute_family, substitute_atomic_family, substitute_kind, substitute_context}
-use Rattle.lf_meaning.specs.Signatures.{Class, FamilyClass, KindClass, Signature, class_of}
-use Rattle.lf_meaning.specs.Judgements.{VariableHas, ApplicationHas, Checks, Synthesises, FamilyApplicationHas, SynthesisesKind, IsFamily, IsKind, IsContext, IsTyping, IsSignature}
-use Rattle.lf_meaning.specs.Sorts.{Sorts, HasSort, IsSortedAtomicFamily, IsSortedFamily, IsSortedKind, sorts_of}
+use Rattle.lf_meaning.specs.Signatures.{FamilyClass, KindClass, Signature, class_of}
+use Rattle.lf_meaning.specs.Judgements.{VariableHas, Checks, Synthesises, SynthesisesKind, IsFamily, IsKind, IsContext, IsTyping, IsSignature}
+use Rattle.lf_meaning.specs.Sorts.{HasSort, IsSortedFamily, IsSortedKind, sorts_of}
 use Rattle.lf_metatheory.proofs.Indices.{Position, below, at, above, position}
-use Rattle.lf_metatheory.proofs.Lookups.{get_below, get_at, get_above, get_front, get_more}
+use Rattle.lf_metatheory.proofs.Lookups.{get_at, get_above, get_front, get_more}
 use Rattle.lf_metatheory.proofs.Domains.{AllDomains, by_domains}
 use Rattle.lf_metatheory.proofs.Replacing.{substituted_below, substituted_at, substituted_above}
 use Rattle.lf_metatheory.proofs.Families.{erase_map, raise_below_substitution_family, substitute_raised_family}
 use Rattle.lf_metatheory.proofs.Commutation.{substitutions_commute_family, substitutions_commute_kind}
-use Rattle.lf_metatheory.proofs.Typed.{checks_sort, family_sorted, kind_sorted}
+use Rattle.lf_metatheory.proofs.Typed.{checks_sort, family_sorted}
 use Rattle.lf_metatheory.proofs.Closed.{substitute_class_family, substitute_class_kind}
 use Rattle.lf_metatheory.proofs.Weakening.{raise_checks, length_map_context, MappedAt, mapped_at, same_tail}
 use Rattle.lf_metatheory.proofs.Regular.{IsSortedContext, context_sorted, synthesised_sorted, synthesised_kind_sorted, erase_split, length_erased, erase_mapped, substitute_sorted_context}
@@ -152,7 +151,8 @@ module _ (sig : Signature) (typed : IsSignature sig) (before : Context) (v : Obj
         body = substitute_kind v (erase a) (suc (length after)) h.body;
         head_has = substitute_synthesises_kind after p (PiKind h.domain h.body) sorted h.head_has;
         argument_has = substitute_checks after m h.domain sorted pi_sorted.0 h.argument_has;
-        is = ap (substitute_kind v (erase a) (length after)) h.is ∙ two_orders_kind sig typed before v a (erase a) refl value after m h.domain h.body (checks_sort sig (after ++ (a ∷ before)) m h.domain h.argument_has) pi_sorted.1 }
+        is = ap (substitute_kind v (erase a) (length after)) h.is ∙ two_orders_kind sig typed before v a (erase a) refl value after m h.domain h.body (checks_sort sig (after ++ (a ∷ before)) m h.domain h.argument_has) pi_sorted.1;
+      }
 
   pub substitute_is_family : (after : Context) (b : Family) → IsSortedContext (sorts_of sig) (after ++ (a ∷ before)) → IsFamily sig (after ++ (a ∷ before)) b → IsFamily sig (substitute_context v (erase a) after ++ before) (substitute_family v (erase a) (length after) b)
   substitute_is_family after (Pi c b) sorted h = (substitute_is_family after c sorted h.0, substitute_is_family (c ∷ after) b (sorted, family_sorted sig (after ++ (a ∷ before)) c h.0) h.1)
@@ -170,4 +170,5 @@ module _ (sig : Signature) (typed : IsSignature sig) (before : Context) (v : Obj
   substitute_is_typing after m b h = record {
     context_is = substitute_is_context after h.context_is;
     family_is = substitute_is_family after b (context_sorted sig (after ++ (a ∷ before)) h.context_is) h.family_is;
-    object_checks = substitute_checks after m b (context_sorted sig (after ++ (a ∷ before)) h.context_is) (family_sorted sig (after ++ (a ∷ before)) b h.family_is) h.object_checks }
+    object_checks = substitute_checks after m b (context_sorted sig (after ++ (a ∷ before)) h.context_is) (family_sorted sig (after ++ (a ∷ before)) b h.family_is) h.object_checks;
+  }

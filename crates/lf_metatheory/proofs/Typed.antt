@@ -1,16 +1,14 @@
 -- What is well typed is well sorted; a judgement stays where more variables and constants are known.
-use Rattle.std.proofs.Common.{◌≡◌, ℕ, zero, suc, ◌+◌, ◌<◌, ◌≤◌, List, [], ◌∷◌, ◌++◌, length, map, Option, Some, None, refl, sym, ap, ap₂, subst, ◌∙◌, arith}
-use Rattle.std.specs.Prelude.{slice_get}
-use Rattle.lf_meaning.specs.Terms.{Constant, Object, Lam, At, Atomic, Var, Con, App, Family, Pi, AtFamily, AtomicFamily, FamilyCon, FamilyApp, Kind, Ty, PiKind, Simple, Base, Arrow, Context, SimpleContext}
-use Rattle.lf_meaning.specs.Raising.{raise, map_family, map_atomic_family, map_kind, raise_family, raise_kind}
+use Rattle.std.proofs.Common.{◌≡◌, suc, ◌∷◌, ◌++◌, Some, sym, ap, subst, ◌∙◌}
+use Rattle.lf_meaning.specs.Terms.{Constant, Object, Lam, At, Atomic, Var, Con, App, Family, Pi, AtFamily, AtomicFamily, FamilyCon, FamilyApp, Kind, Ty, PiKind, Simple, Arrow, Context}
+use Rattle.lf_meaning.specs.Raising.{raise}
 use Rattle.lf_meaning.specs.Erasure.{erase, erase_context}
-use Rattle.lf_meaning.specs.Substitution.{substitute, substitute_family, substitute_kind}
+use Rattle.lf_meaning.specs.Substitution.{substitute, substitute_family}
 use Rattle.lf_meaning.specs.Signatures.{Class, FamilyClass, KindClass, Signature, class_of}
-use Rattle.lf_meaning.specs.Judgements.{VariableHas, ApplicationHas, Checks, Synthesises, FamilyApplicationHas, SynthesisesKind, IsFamily, IsKind, IsContext, IsTyping, IsClass, IsSignature}
-use Rattle.lf_meaning.specs.Sorts.{Sorts, HasSort, SynthesisesSort, IsSorted, IsSortedAtomicFamily, IsSortedFamily, IsSortedKind, sort_of_class, sorts_of}
+use Rattle.lf_meaning.specs.Judgements.{Checks, Synthesises, SynthesisesKind, IsFamily, IsKind}
+use Rattle.lf_meaning.specs.Sorts.{HasSort, SynthesisesSort, IsSortedAtomicFamily, IsSortedFamily, IsSortedKind, sort_of_class, sorts_of}
 use Rattle.lf_metatheory.proofs.Lookups.{get_more, get_map}
 use Rattle.lf_metatheory.proofs.Families.{erase_map}
-use Rattle.lf_metatheory.proofs.Declared.{ClassIn, class_in, class_more}
 
 -- the erasure of what an application synthesises is the erased body
 erase_substituted : (m : Object) (t : Simple) (b : Family) → erase (substitute_family m t 0 b) ≡ erase b

@@ -1,15 +1,15 @@
 -- A judgement stays one where variables are put into its context.
-use Rattle.std.proofs.Common.{◌≡◌, ℕ, zero, suc, ◌+◌, ◌<◌, ◌≤◌, List, [], ◌∷◌, ◌++◌, length, Option, Some, None, ⊎_elim, refl, sym, ap, ap₂, subst, ◌∙◌, arith}
+use Rattle.std.proofs.Common.{◌≡◌, ℕ, zero, suc, ◌+◌, ◌<◌, ◌≤◌, [], ◌∷◌, ◌++◌, length, Some, ⊎_elim, refl, sym, ap, subst, ◌∙◌, arith}
 use Rattle.std.proofs.lemmas.Bool.{cases_lt}
 use Rattle.std.specs.Prelude.{slice_get}
-use Rattle.lf_meaning.specs.Terms.{Constant, Object, Lam, At, Atomic, Var, Con, App, Family, Pi, AtFamily, AtomicFamily, FamilyCon, FamilyApp, Kind, Ty, PiKind, Simple, Base, Arrow, Context}
+use Rattle.lf_meaning.specs.Terms.{Object, Lam, At, Atomic, Var, Con, App, Family, Pi, AtFamily, AtomicFamily, FamilyCon, FamilyApp, Kind, Ty, PiKind, Context}
 use Rattle.lf_meaning.specs.Raising.{raised, raise, raise_atomic, map_family, raise_family, raise_atomic_family, raise_kind, map_context, raise_context}
-use Rattle.lf_meaning.specs.Erasure.{erase, erase_context}
+use Rattle.lf_meaning.specs.Erasure.{erase}
 use Rattle.lf_meaning.specs.Substitution.{substitute_family, substitute_kind}
-use Rattle.lf_meaning.specs.Signatures.{Class, FamilyClass, KindClass, Signature, class_of}
-use Rattle.lf_meaning.specs.Judgements.{VariableHas, ApplicationHas, Checks, Synthesises, FamilyApplicationHas, SynthesisesKind, IsFamily, IsKind, IsContext, IsTyping, IsSignature}
+use Rattle.lf_meaning.specs.Signatures.{FamilyClass, KindClass, Signature}
+use Rattle.lf_meaning.specs.Judgements.{VariableHas, Checks, Synthesises, SynthesisesKind, IsFamily, IsKind, IsContext, IsTyping, IsSignature}
 use Rattle.lf_metatheory.proofs.Indices.{raised_below, raised_above}
-use Rattle.lf_metatheory.proofs.Lookups.{get_behind, get_front, get_raised, get_more}
+use Rattle.lf_metatheory.proofs.Lookups.{get_front, get_raised, get_more}
 use Rattle.lf_metatheory.proofs.Families.{erase_map, raise_family_swap, raise_family_twice, raise_above_substitution_family, raise_above_substitution_kind}
 use Rattle.lf_metatheory.proofs.Closed.{raise_class_family, raise_class_kind}
 
@@ -81,7 +81,8 @@ module _ (sig : Signature) (typed : IsSignature sig) (mid before : Context) wher
       body = raise_family (length mid) (suc (length after)) h.body;
       head_has = raise_synthesises after r (Pi h.domain h.body) h.head_has;
       argument_has = raise_checks after m h.domain h.argument_has;
-      is = ap (raise_family (length mid) (length after)) h.is ∙ raise_above_substitution_family (length mid) (length after) m (erase h.domain) 0 (length after) h.body (omega arith) ∙ ap (λ t. substitute_family (raise (length mid) (length after) m) t 0 (raise_family (length mid) (suc (length after)) h.body)) (sym (erase_map (raise (length mid)) (length after) h.domain)) }
+      is = ap (raise_family (length mid) (length after)) h.is ∙ raise_above_substitution_family (length mid) (length after) m (erase h.domain) 0 (length after) h.body (omega arith) ∙ ap (λ t. substitute_family (raise (length mid) (length after) m) t 0 (raise_family (length mid) (suc (length after)) h.body)) (sym (erase_map (raise (length mid)) (length after) h.domain));
+    }
 
   pub raise_synthesises_kind : (after : Context) (p : AtomicFamily) (k : Kind) → SynthesisesKind sig (after ++ before) p k → SynthesisesKind sig (with_mid after) (raise_atomic_family (length mid) (length after) p) (raise_kind (length mid) (length after) k)
   raise_synthesises_kind after (FamilyCon c) k h = h ∙ ap (λ x. Some (KindClass x)) (sym (raise_class_kind sig typed c k h (length mid) (length after)))
@@ -90,7 +91,8 @@ module _ (sig : Signature) (typed : IsSignature sig) (mid before : Context) wher
     body = raise_kind (length mid) (suc (length after)) h.body;
     head_has = raise_synthesises_kind after p (PiKind h.domain h.body) h.head_has;
     argument_has = raise_checks after m h.domain h.argument_has;
-    is = ap (raise_kind (length mid) (length after)) h.is ∙ raise_above_substitution_kind (length mid) (length after) m (erase h.domain) 0 (length after) h.body (omega arith) ∙ ap (λ t. substitute_kind (raise (length mid) (length after) m) t 0 (raise_kind (length mid) (suc (length after)) h.body)) (sym (erase_map (raise (length mid)) (length after) h.domain)) }
+    is = ap (raise_kind (length mid) (length after)) h.is ∙ raise_above_substitution_kind (length mid) (length after) m (erase h.domain) 0 (length after) h.body (omega arith) ∙ ap (λ t. substitute_kind (raise (length mid) (length after) m) t 0 (raise_kind (length mid) (suc (length after)) h.body)) (sym (erase_map (raise (length mid)) (length after) h.domain));
+  }
 
   pub raise_is_family : (after : Context) (a : Family) → IsFamily sig (after ++ before) a → IsFamily sig (with_mid after) (raise_family (length mid) (length after) a)
   raise_is_family after (Pi a b) h = (raise_is_family after a h.0, raise_is_family (a ∷ after) b h.1)

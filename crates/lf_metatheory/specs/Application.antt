@@ -1,5 +1,5 @@
 -- Laws of application: the cases of `app`, a list of arguments, and rows of arguments taken at once.
-use Rattle.std.specs.Prelude.{◌≡◌, ℕ, zero, suc, ◌+◌, ◌<◌, ◌≤◌, List, [], ◌∷◌, ◌++◌, map}
+use Rattle.std.specs.Prelude.{◌≡◌, ℕ, suc, ◌<◌, ◌≤◌, List, [], ◌∷◌, ◌++◌, map}
 use Rattle.lf_meaning.specs.Terms.{Constant, Object, Lam, At, Atomic, Var, Con, App, AtomicFamily, Simple, Base, Arrow, apply_all, family_apply_all}
 use Rattle.lf_meaning.specs.Raising.{raise, raise_atomic, map_atomic_family}
 use Rattle.lf_meaning.specs.Replacement.{Replaced, takes, takes_all, object_of, Replacement, replace, replace_head}

@@ -1,5 +1,5 @@
 -- What a head synthesises with a row of arguments taken at once.
-use Rattle.std.specs.Prelude.{◌≡◌, ℕ, suc, ◌+◌, List, [], ◌∷◌, Result, Ok, Err}
+use Rattle.std.specs.Prelude.{◌≡◌, ℕ, suc, ◌+◌, List, [], ◌∷◌, Result, Err}
 use Rattle.lf_meaning.specs.Terms.{Object, Atomic, AtomicFamily, Family, Kind, Context, apply_all, family_apply_all, argument_count, family_argument_count}
 use Rattle.lf_meaning.specs.Signatures.{Signature}
 use Rattle.lf_meaning.specs.Faults.{Fault, application_answer, family_application_answer, object_fault, synthesised, synthesised_kind}

@@ -1,6 +1,6 @@
 -- Replacements that pass through raising and substitution.
-use Rattle.std.specs.Prelude.{◌≡◌, ℕ, zero, suc, ◌+◌, ◌<◌, ◌≤◌, List, [], ◌∷◌, ◌++◌, Some}
-use Rattle.lf_meaning.specs.Terms.{Constant, Object, Atomic, Var, Con, Simple, Base, Arrow, SimpleContext}
+use Rattle.std.specs.Prelude.{◌≡◌, ℕ, ◌+◌, ◌<◌, ◌≤◌, [], Some}
+use Rattle.lf_meaning.specs.Terms.{Constant, Object, Var, Simple, Base, Arrow, SimpleContext}
 use Rattle.lf_meaning.specs.Raising.{raised}
 use Rattle.lf_meaning.specs.Replacement.{Headed, Kept, Replaced, raise_headed, Replacement, replace}
 use Rattle.lf_meaning.specs.Substitution.{action}
