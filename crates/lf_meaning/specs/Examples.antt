@@ -50,7 +50,8 @@ abbrev pub applied_to_itself : Family → Signature
 applied_to_itself of_f =
     undefined 97 (KindClass Ty) ∷ undefined 102 (FamilyClass of_f) ∷ defined 99 (FamilyClass (letter_family 97)) (TermValue (At (App (Con (letter 102)) (letter_object 102)))) ∷ []
 
--- With `f : a -> a` the argument f synthesises another family than a: the place is the value, then its argument.
+-- With `f : a -> a` the argument f synthesises another family than a: the place is the value, then
+-- its argument.
 abbrev pub ArgumentOfAnotherFamily : Type 0
 ArgumentOfAnotherFamily =
     let a : Family = letter_family 97 in
@@ -94,7 +95,8 @@ one_element =
     let z : Object = letter_object 122 in
     At (App (App (App (Con (letter 99)) z) z) (letter_object 101))
 
--- It has length one, and not length zero; with `s z` for its length the last argument has another family.
+-- It has length one, and not length zero; with `s z` for its length the last argument has another
+-- family.
 abbrev pub OneElementHasLengthOne : Type 0
 OneElementHasLengthOne = object_fault vectors [] one_element (vector_of (successor_of (letter_object 122))) ≡ None
 

@@ -1,5 +1,6 @@
--- The first fault of a judgement, with its kind and its place (this profile). A place is a path of numbers: 0 enters a
--- domain or the body of a λ, 1 the body of a Π, and 2 + i argument i; the empty path is the term itself.
+-- The first fault of a judgement, with its kind and its place (this profile). A place is a path of
+-- numbers: 0 enters a domain or the body of a λ, 1 the body of a Π, and 2 + i argument i; the empty
+-- path is the term itself.
 use Rattle.std.specs.Prelude.{ℕ, suc, ◌+◌, List, [], ◌∷◌, ◌++◌, length, Option, Some, None, Result, Ok, Err, slice_get, nat_eq, if◌then◌else◌}
 use Rattle.lf_meaning.specs.Terms.{Object, Lam, At, Atomic, Var, Con, App, Family, Pi, AtFamily, AtomicFamily, FamilyCon, FamilyApp, Kind, Ty, PiKind, Context, domain_count, with_domains, argument_count, family_argument_count}
 use Rattle.lf_meaning.specs.Raising.{raise_family}
@@ -46,20 +47,22 @@ constant_answer None = Err (here UnknownConstant)
 constant_answer (Some (KindClass k)) = Err (here Level)
 constant_answer (Some (FamilyClass a)) = Ok a
 
--- The classifier so far takes argument i, which enters at `step`: no function where it is no Π, else the argument's own
--- fault.
+-- The classifier so far takes argument i, which enters at `step`: no function where it is no Π,
+-- else the argument's own fault.
 abbrev pub application_answer : Result Family Fault → ℕ → Object → (Family → Option Fault) → Result Family Fault
 application_answer (Err fault) step m check = Err fault
 application_answer (Ok (AtFamily p)) step m check = Err (record { kind = NotAFunction; at = step ∷ [] })
 application_answer (Ok (Pi a b)) step m check = unless_fault (inside step (check a)) (substitute_family m (erase a) 0 b)
 
--- An atomic object at a family: its own fault, then not canonical at a Π, then a mismatch at another family.
+-- An atomic object at a family: its own fault, then not canonical at a Π, then a mismatch at
+-- another family.
 abbrev pub stands_at : Result Family Fault → Family → Option Fault
 stands_at (Err fault) a = Some fault
 stands_at (Ok b) (Pi c d) = Some (here NotCanonical)
 stands_at (Ok b) (AtFamily p) = if same_family b (AtFamily p) then None else Some (here Mismatch)
 
--- The first fault of an object at a family, and the family that an atomic object synthesises, or its first fault.
+-- The first fault of an object at a family, and the family that an atomic object synthesises, or
+-- its first fault.
 abbrev mutual
   pub object_fault : Signature → Context → Object → Family → Option Fault
   object_fault sig context (Lam m) (Pi a b) = inside 0 (object_fault sig (a ∷ context) m b)

@@ -12,8 +12,8 @@ pub record VariableHas (context : Context) (i : ℕ) (a : Family) : Type 0 where
   pub found : slice_get context i ≡ Some family
   pub is : a ≡ raise_family (suc i) 0 family
 
--- Where the head synthesises a Π and the argument checks against its domain, the application synthesises the body
--- with the argument substituted at the erasure of the domain.
+-- Where the head synthesises a Π and the argument checks against its domain, the application
+-- synthesises the body with the argument substituted at the erasure of the domain.
 pub record ApplicationHas (head : Family → Type 0) (argument : Object) (checks : Family → Type 0) (a : Family) : Type 0 where
   pub domain : Family
   pub body : Family
@@ -21,8 +21,8 @@ pub record ApplicationHas (head : Family → Type 0) (argument : Object) (checks
   pub argument_has : checks domain
   pub is : a ≡ substitute_family argument (erase domain) 0 body
 
--- `Checks S G M A`: over the signature S and in the context G the object M checks against A. `Synthesises S G R A`:
--- the atomic object R synthesises A.
+-- `Checks S G M A`: over the signature S and in the context G the object M checks against A.
+-- `Synthesises S G R A`: the atomic object R synthesises A.
 abbrev mutual
   pub Checks : Signature → Context → Object → Family → Type 0
   Checks sig context (Lam m) (Pi a b) = Checks sig (a ∷ context) m b
@@ -47,7 +47,8 @@ abbrev pub SynthesisesKind : Signature → Context → AtomicFamily → Kind →
 SynthesisesKind sig context (FamilyCon c) k = class_of sig c ≡ Some (KindClass k)
 SynthesisesKind sig context (FamilyApp p m) k = FamilyApplicationHas (SynthesisesKind sig context p) m (Checks sig context m) k
 
--- `Pi A B` is a family where A is one and B is one behind it; an atomic family is one where it synthesises `type`.
+-- `Pi A B` is a family where A is one and B is one behind it; an atomic family is one where it
+-- synthesises `type`.
 abbrev pub IsFamily : Signature → Context → Family → Type 0
 IsFamily sig context (Pi a b) = IsFamily sig context a × IsFamily sig (a ∷ context) b
 IsFamily sig context (AtFamily p) = SynthesisesKind sig context p Ty
@@ -62,7 +63,8 @@ abbrev pub IsContext : Signature → Context → Type 0
 IsContext sig [] = ⊤
 IsContext sig (a ∷ context) = IsContext sig context × IsFamily sig context a
 
--- A typing judgement: a well-formed context, a family in it, and an object that checks against the family.
+-- A typing judgement: a well-formed context, a family in it, and an object that checks against the
+-- family.
 pub record IsTyping (sig : Signature) (context : Context) (m : Object) (a : Family) : Type 0 where
   pub context_is : IsContext sig context
   pub family_is : IsFamily sig context a
@@ -73,8 +75,9 @@ abbrev pub IsClass : Signature → Class → Type 0
 IsClass sig (FamilyClass a) = IsFamily sig [] a
 IsClass sig (KindClass k) = IsKind sig [] k
 
--- A value fits a class (this profile): `SameAs d` where d is a constant with that classifier; an object where it checks
--- against it; a family with n binders where the class is a kind with n domains and the body is a family behind them.
+-- A value fits a class (this profile): `SameAs d` where d is a constant with that classifier; an
+-- object where it checks against it; a family with n binders where the class is a kind with n
+-- domains and the body is a family behind them.
 abbrev pub Fits : Signature → Value → Class → Type 0
 Fits sig (SameAs d) class = class_of sig d ≡ Some class
 Fits sig (TermValue m) (FamilyClass a) = Checks sig [] m a
@@ -91,7 +94,7 @@ pub record IsDeclaration (before : Signature) (d : Declaration) : Type 0 where
   pub class_is : IsClass before d.class
   pub value_fits : ValueFits before d.value d.class
 
--- A signature is well typed where each declaration, over the undefined ones before it, has a family or a kind as its class
--- and, where it is defined, a value that fits that class.
+-- A signature is well typed where each declaration, over the undefined ones before it, has a family
+-- or a kind as its class and, where it is defined, a value that fits that class.
 abbrev pub IsSignature : Signature → Type 0
 IsSignature sig = (before : Signature) (d : Declaration) (after : Signature) → sig ≡ before ++ (d ∷ after) → IsDeclaration before d

@@ -10,3 +10,6 @@ pub mod Misfits
 pub mod Equality
 pub mod Faults
 pub mod Examples
+pub mod Application
+pub mod EqualityLaws
+pub mod SpineSynthesis

@@ -1,12 +1,14 @@
--- Substitutions that meet no misfit: wherever a value that was put in place of a variable takes an argument, it is
--- a λ at an arrow (Harper and Licata 2007, section 2: there a misfit has no result).
+-- Substitutions that meet no misfit: wherever a value that was put in place of a variable takes an
+-- argument, it is a λ at an arrow (Harper and Licata 2007, section 2: there a misfit has no
+-- result).
 use Rattle.std.specs.Prelude.{◌≡◌, ℕ, suc}
 use Rattle.lf_meaning.specs.Terms.{Constant, Object, Lam, At, Atomic, Var, Con, App, Family, Pi, AtFamily, AtomicFamily, FamilyCon, FamilyApp, Simple, Arrow}
 use Rattle.lf_meaning.specs.Replacement.{Kept, Replaced, replace_head}
 use Rattle.lf_meaning.specs.Substitution.{substitution, action, substitute}
 
--- `NoMisfit V t n M`: no step of `[V/t at n] M` meets a misfit. A kept head takes any argument. A replaced head
--- takes one where it is a λ at an arrow and the substitution that this begins meets no misfit either.
+-- `NoMisfit V t n M`: no step of `[V/t at n] M` meets a misfit. A kept head takes any argument. A
+-- replaced head takes one where it is a λ at an arrow and the substitution that this begins meets
+-- no misfit either.
 mutual
   pub data NoMisfit : Object → Simple → ℕ → Object → Type 0 where
     in_body : {v : Object} {t : Simple} {n : ℕ} {m : Object} → NoMisfit v t (suc n) m → NoMisfit v t n (Lam m)

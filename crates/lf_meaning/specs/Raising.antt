@@ -1,4 +1,5 @@
--- Raising of the variables of a term (Harper and Licata 2007, section 2: weakening, here with indices).
+-- Raising of the variables of a term (Harper and Licata 2007, section 2: weakening, here with
+-- indices).
 use Rattle.std.specs.Prelude.{[], ◌∷◌, length, ℕ, suc, ◌+◌, nat_lt, if◌then◌else◌}
 use Rattle.lf_meaning.specs.Terms.{Object, Lam, At, Atomic, Var, Con, App, Family, Pi, AtFamily, AtomicFamily, FamilyCon, FamilyApp, Kind, Ty, PiKind, Context}
 
@@ -6,8 +7,8 @@ use Rattle.lf_meaning.specs.Terms.{Object, Lam, At, Atomic, Var, Con, App, Famil
 abbrev pub raised : ℕ → ℕ → ℕ → ℕ
 raised by from i = if nat_lt i from then i else (i + by)
 
--- Raising by `by` from `from`: every index not below `from` grows by `by`, with `from` counted at the top
--- of the term, so under a binder it is one more.
+-- Raising by `by` from `from`: every index not below `from` grows by `by`, with `from` counted at
+-- the top of the term, so under a binder it is one more.
 abbrev mutual
   pub raise : ℕ → ℕ → Object → Object
   raise by from (Lam m) = Lam (raise by (suc from) m)
@@ -18,8 +19,8 @@ abbrev mutual
   raise_atomic by from (Con c) = Con c
   raise_atomic by from (App r m) = App (raise_atomic by from r) (raise by from m)
 
--- A family with a function on objects done to each argument, given the number of binders above it, which
--- is `n` at the top. The constants at the heads stay.
+-- A family with a function on objects done to each argument, given the number of binders above it,
+-- which is `n` at the top. The constants at the heads stay.
 abbrev mutual
   pub map_family : (ℕ → Object → Object) → ℕ → Family → Family
   map_family f n (Pi a b) = Pi (map_family f n a) (map_family f (suc n) b)
@@ -46,8 +47,8 @@ raise_atomic_family by from p = map_atomic_family (raise by) from p
 abbrev pub raise_kind : ℕ → ℕ → Kind → Kind
 raise_kind by from k = map_kind (raise by) from k
 
--- The families of a context that stand inside of some variable, each with the function done at the number of families
--- between it and that variable.
+-- The families of a context that stand inside of some variable, each with the function done at the
+-- number of families between it and that variable.
 abbrev pub map_context : (ℕ → Object → Object) → Context → Context
 map_context f [] = []
 map_context f (a ∷ context) = map_family f (length context) a ∷ map_context f context

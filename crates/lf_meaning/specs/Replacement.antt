@@ -4,15 +4,15 @@ use Rattle.std.specs.Prelude.{ℕ, suc, List, [], ◌∷◌}
 use Rattle.lf_meaning.specs.Terms.{Constant, Object, Lam, At, Atomic, Var, Con, App}
 use Rattle.lf_meaning.specs.Raising.{raise, raise_atomic}
 
--- What a value at a simple type does with its arguments. At a base it stays what it is. At an arrow it
--- holds the substitution at the domain, which takes the argument, the variable and the body, and what
--- the result does at the codomain.
+-- What a value at a simple type does with its arguments. At a base it stays what it is. At an arrow
+-- it holds the substitution at the domain, which takes the argument, the variable and the body, and
+-- what the result does at the codomain.
 pub data Action : Type 0 where
   Stay : Action
   Step : (substitution : Object → ℕ → Object → Object) (codomain : Action) → Action
 
--- What comes of an atomic object whose head is replaced or kept: an atomic object, or the value that was put
--- in place of the head, with the arguments so far and what it does with the next one.
+-- What comes of an atomic object whose head is replaced or kept: an atomic object, or the value
+-- that was put in place of the head, with the arguments so far and what it does with the next one.
 pub data Headed : Type 0 where
   Kept : (atomic : Atomic) → Headed
   Replaced : (value : Object) (action : Action) → Headed
@@ -22,8 +22,9 @@ abbrev pub object_of : Headed → Object
 object_of (Kept r) = At r
 object_of (Replaced v a) = v
 
--- A value takes an argument (Harper and Licata 2007, section 2; the last two rows are this profile's): a λ at
--- an arrow goes on with the argument in its body; an atomic value has it as a further argument; a λ at a base stays.
+-- A value takes an argument (Harper and Licata 2007, section 2; the last two rows are this
+-- profile's): a λ at an arrow goes on with the argument in its body; an atomic value has it as a
+-- further argument; a λ at a base stays.
 abbrev pub value_takes : Object → Action → Object → Headed
 value_takes (Lam n) (Step s a) m = Replaced (s m 0 n) a
 value_takes (At r) (Step s a) m = Replaced (At (App r m)) a
@@ -45,14 +46,14 @@ abbrev pub raise_headed : ℕ → ℕ → Headed → Headed
 raise_headed by from (Kept r) = Kept (raise_atomic by from r)
 raise_headed by from (Replaced v a) = Replaced (raise by from v) a
 
--- A replacement says what stands in place of each variable, given how many binders it has passed, and of
--- each constant.
+-- A replacement says what stands in place of each variable, given how many binders it has passed,
+-- and of each constant.
 pub record Replacement : Type 0 where
   pub variable : ℕ → ℕ → Headed
   pub constant : Constant → Headed
 
--- The term with its heads replaced, `n` binders having been passed: under a binder n grows by one, and what
--- stands in place of a head takes the replaced arguments from left to right.
+-- The term with its heads replaced, `n` binders having been passed: under a binder n grows by one,
+-- and what stands in place of a head takes the replaced arguments from left to right.
 abbrev mutual
   pub replace : Replacement → ℕ → Object → Object
   replace by n (Lam m) = Lam (replace by (suc n) m)

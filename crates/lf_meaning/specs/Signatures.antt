@@ -1,5 +1,5 @@
--- Flat signatures: declarations of constants, in order (Harper and Licata 2007, section 2; definitions as
--- in Rabe and Kohlhase 2013, section 3).
+-- Flat signatures: declarations of constants, in order (Harper and Licata 2007, section 2;
+-- definitions as in Rabe and Kohlhase 2013, section 3).
 use Rattle.std.specs.Prelude.{ℕ, List, [], ◌∷◌, Option, Some, None, Bool, ◌&&◌, nat_eq, if◌then◌else◌}
 use lib.Pointwise.{pointwise}
 use Rattle.lf_meaning.specs.Terms.{Name, Constant, Object, Family, Kind}
@@ -9,7 +9,8 @@ pub data Class : Type 0 where
   FamilyClass : (family : Family) → Class
   KindClass : (kind : Kind) → Class
 
--- The value of a defined constant: the same as another constant, an object, or a family with so many binders.
+-- The value of a defined constant: the same as another constant, an object, or a family with so
+-- many binders.
 pub data Value : Type 0 where
   SameAs : (constant : Constant) → Value
   TermValue : (object : Object) → Value

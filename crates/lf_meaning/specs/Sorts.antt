@@ -1,5 +1,5 @@
--- Well-sorted terms: the judgements with every family replaced by its erasure (Harper and Licata 2007,
--- section 2, where substitution is shown to end and to keep simple types).
+-- Well-sorted terms: the judgements with every family replaced by its erasure (Harper and Licata
+-- 2007, section 2, where substitution is shown to end and to keep simple types).
 use Rattle.std.specs.Prelude.{◌≡◌, ◌∷◌, Option, Some, None, slice_get}
 use Rattle.lf_meaning.specs.Terms.{Constant, Object, Lam, At, Atomic, Var, Con, App, Family, Pi, AtFamily, AtomicFamily, FamilyCon, FamilyApp, Kind, Ty, PiKind, Simple, Base, Arrow, SimpleContext}
 use Rattle.lf_meaning.specs.Erasure.{erase}
@@ -9,15 +9,15 @@ use Rattle.lf_meaning.specs.Signatures.{Class, FamilyClass, KindClass, Signature
 abbrev pub Sorts : Type 0
 Sorts = Constant → Option Simple
 
--- Where the head synthesises an arrow and the argument has the sort of its domain, the application synthesises the
--- codomain.
+-- Where the head synthesises an arrow and the argument has the sort of its domain, the application
+-- synthesises the codomain.
 pub record ApplicationHasSort (head : Simple → Type 0) (argument : Simple → Type 0) (t : Simple) : Type 0 where
   pub domain : Simple
   pub head_has : head (Arrow domain t)
   pub argument_has : argument domain
 
--- `HasSort C D M t`: over the sorts C of the constants and in the simple context D the object M has the sort t.
--- `SynthesisesSort C D R t`: the atomic object R synthesises t.
+-- `HasSort C D M t`: over the sorts C of the constants and in the simple context D the object M has
+-- the sort t. `SynthesisesSort C D R t`: the atomic object R synthesises t.
 abbrev mutual
   pub HasSort : Sorts → SimpleContext → Object → Simple → Type 0
   HasSort sorts context (Lam m) (Arrow s t) = HasSort sorts (s ∷ context) m t

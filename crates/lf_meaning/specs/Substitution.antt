@@ -4,8 +4,8 @@ use Rattle.lf_meaning.specs.Terms.{Object, Lam, At, Var, Con, App, Family, Atomi
 use Rattle.lf_meaning.specs.Raising.{raise, map_family, map_atomic_family, map_kind, map_context}
 use Rattle.lf_meaning.specs.Replacement.{Action, Stay, Step, Headed, Kept, Replaced, Replacement, replace}
 
--- What stands in place of variable i where the value is substituted for variable n: variables below n stay,
--- n becomes the value raised by n, and those above n are lowered by one.
+-- What stands in place of variable i where the value is substituted for variable n: variables below
+-- n stay, n becomes the value raised by n, and those above n are lowered by one.
 abbrev pub substituted : Object → Action → ℕ → ℕ → Headed
 substituted v a n i = if nat_lt i n then Kept (Var i) else (if nat_eq i n then Replaced (raise n 0 v) a else Kept (Var (pred i)))
 
@@ -18,8 +18,8 @@ abbrev pub action : Simple → Action
 action (Base c) = Stay
 action (Arrow s t) = Step (λ v n m. replace (substitution v (action s)) n m) (action t)
 
--- `[V/t at n] M`: the value V, of simple type t, substituted hereditarily for variable n. V stands outside
--- variable n.
+-- `[V/t at n] M`: the value V, of simple type t, substituted hereditarily for variable n. V stands
+-- outside variable n.
 abbrev pub substitute : Object → Simple → ℕ → Object → Object
 substitute v t n m = replace (substitution v (action t)) n m
 
@@ -42,8 +42,9 @@ pub record Typed : Type 0 where
   pub value : Object
   pub type : Simple
 
--- `app(t, V, M)`: the value V at t applied to M. A λ at an arrow goes on with M in its body; an atomic value takes M as
--- a further argument; a λ at a base drops it. The simple type is the codomain, and at a base it stays.
+-- `app(t, V, M)`: the value V at t applied to M. A λ at an arrow goes on with M in its body; an
+-- atomic value takes M as a further argument; a λ at a base drops it. The simple type is the
+-- codomain, and at a base it stays.
 abbrev pub app : Simple → Object → Object → Typed
 app (Arrow s t) (Lam n) m = record { value = substitute m s 0 n; type = t }
 app (Arrow s t) (At r) m = record { value = At (App r m); type = t }

@@ -1,4 +1,5 @@
--- The terms of Canonical LF, with one argument for each application (Harper and Licata 2007, section 2).
+-- The terms of Canonical LF, with one argument for each application (Harper and Licata 2007,
+-- section 2).
 use Rattle.std.specs.Prelude.{ℕ, suc, List, [], ◌∷◌}
 
 -- A name is its bytes.
@@ -14,8 +15,9 @@ pub record Constant : Type 0 where
   pub theory : Name
   pub path : Path
 
--- An object is a λ or an atomic object. An atomic object is a variable, a constant, or an atomic object
--- applied to one object. A variable is the number of binders between it and its own (section 2).
+-- An object is a λ or an atomic object. An atomic object is a variable, a constant, or an atomic
+-- object applied to one object. A variable is the number of binders between it and its own (section
+-- 2).
 mutual
   pub data Object : Type 0 where
     Lam : (body : Object) → Object
@@ -47,8 +49,8 @@ pub data Simple : Type 0 where
   Base : (constant : Constant) → Simple
   Arrow : (domain codomain : Simple) → Simple
 
--- The families of the variables, the innermost first: variable i has the family at place i. The family at
--- place i stands in the context of those behind it.
+-- The families of the variables, the innermost first: variable i has the family at place i. The
+-- family at place i stands in the context of those behind it.
 abbrev pub Context : Type 0
 Context = List Family
 

@@ -8,7 +8,7 @@ use Rattle.lf_meaning.specs.Replacement.{Headed, Kept, Replaced, object_of, valu
 use Rattle.lf_meaning.specs.Substitution.{action, substitute, substitute_family, app}
 use Rattle.lf_meaning.specs.Signatures.{Signature}
 use Rattle.lf_meaning.specs.Judgements.{Checks, Synthesises, SynthesisesKind, IsFamily, IsKind, IsContext, IsSignature}
-use Rattle.lf_metatheory.proofs.Families.{erase_map, raise_family_twice}
+use Rattle.lf_substitution_laws.proofs.Families.{erase_map, raise_family_twice}
 use Rattle.lf_metatheory.proofs.Typed.{family_sorted, more_family, more_kind}
 use Rattle.lf_metatheory.proofs.Closed.{class_is_family, class_is_kind}
 use Rattle.lf_metatheory.proofs.Weakening.{raise_is_family}
@@ -38,8 +38,8 @@ module _ (sig : Signature) (typed : IsSignature sig) where
       let pi_is : IsKind sig context (PiKind h.domain h.body) = synthesised_is_kind context p (PiKind h.domain h.body) c h.head_has in
       subst (IsKind sig context) (sym h.is) (substitute_is_kind sig typed context m h.domain h.argument_has [] h.body (context_sorted sig context c, family_sorted sig context h.domain pi_is.0) pi_is.1)
 
--- A headed result at a family: a kept head synthesises it; a value checks against it and does with its arguments what the
--- family's erasure says.
+-- A headed result at a family: a kept head synthesises it; a value checks against it and does with
+-- its arguments what the family's erasure says.
 abbrev pub HeadedHas : Signature → Context → Headed → Family → Type 0
 HeadedHas sig context (Kept r) a = Synthesises sig context r a
 HeadedHas sig context (Replaced v b) a = (b ≡ action (erase a)) × Checks sig context v a

@@ -8,8 +8,8 @@ use Rattle.lf_meaning.specs.Substitution.{substitute, substitute_family, substit
 use Rattle.lf_meaning.specs.Signatures.{Signature}
 use Rattle.lf_meaning.specs.Judgements.{Synthesises, SynthesisesKind, IsContext, IsSignature}
 use Rattle.lf_meaning.specs.Sorts.{Sorts, HasSort, IsSortedFamily, IsSortedKind, sorts_of}
-use Rattle.lf_metatheory.proofs.Families.{erase_map, raise_family_twice}
-use Rattle.lf_metatheory.proofs.SortedFamilies.{raise_keeps_sorted, substitute_keeps_sorted, substitute_keeps_sorted_kind, more_sorted_family, more_sorted_kind}
+use Rattle.lf_substitution_laws.proofs.Families.{erase_map, raise_family_twice}
+use Rattle.lf_substitution_laws.proofs.SortedFamilies.{raise_keeps_sorted, substitute_keeps_sorted, substitute_keeps_sorted_kind, more_sorted_family, more_sorted_kind}
 use Rattle.lf_metatheory.proofs.Typed.{checks_sort, family_sorted}
 use Rattle.lf_metatheory.proofs.Closed.{class_sorted_family, class_sorted_kind}
 

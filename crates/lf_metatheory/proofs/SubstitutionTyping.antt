@@ -8,17 +8,17 @@ use Rattle.lf_meaning.specs.Substitution.{substituted, substitution, action, sub
 use Rattle.lf_meaning.specs.Signatures.{FamilyClass, KindClass, Signature, class_of}
 use Rattle.lf_meaning.specs.Judgements.{VariableHas, Checks, Synthesises, SynthesisesKind, IsFamily, IsKind, IsContext, IsTyping, IsSignature}
 use Rattle.lf_meaning.specs.Sorts.{HasSort, IsSortedFamily, IsSortedKind, sorts_of}
-use Rattle.lf_metatheory.proofs.Indices.{Position, below, at, above, position}
-use Rattle.lf_metatheory.proofs.Lookups.{get_at, get_above, get_front, get_more}
-use Rattle.lf_metatheory.proofs.Domains.{AllDomains, by_domains}
-use Rattle.lf_metatheory.proofs.Replacing.{substituted_below, substituted_at, substituted_above}
-use Rattle.lf_metatheory.proofs.Families.{erase_map, raise_below_substitution_family, substitute_raised_family}
-use Rattle.lf_metatheory.proofs.Commutation.{substitutions_commute_family, substitutions_commute_kind}
+use Rattle.lf_substitution_laws.proofs.Indices.{Position, below, at, above, position}
+use Rattle.lf_substitution_laws.proofs.Lookups.{get_at, get_above, get_front, get_more}
+use Rattle.lf_substitution_laws.proofs.Domains.{AllDomains, by_domains}
+use Rattle.lf_meaning.proofs.Substituted.{substituted_below, substituted_at, substituted_above}
+use Rattle.lf_substitution_laws.proofs.Families.{erase_map, raise_below_substitution_family, substitute_raised_family}
+use Rattle.lf_substitution_laws.proofs.Commutation.{substitutions_commute_family, substitutions_commute_kind}
 use Rattle.lf_metatheory.proofs.Typed.{checks_sort, family_sorted}
 use Rattle.lf_metatheory.proofs.Closed.{substitute_class_family, substitute_class_kind}
 use Rattle.lf_metatheory.proofs.Weakening.{raise_checks, length_map_context, MappedAt, mapped_at, same_tail}
 use Rattle.lf_metatheory.proofs.Regular.{IsSortedContext, context_sorted, synthesised_sorted, synthesised_kind_sorted, erase_split, length_erased, erase_mapped, substitute_sorted_context}
-use Rattle.lf_metatheory.proofs.SortedFamilies.{substitute_keeps_sorted}
+use Rattle.lf_substitution_laws.proofs.SortedFamilies.{substitute_keeps_sorted}
 
 -- substitution at the simple type keeps typing
 abbrev pub KeepsTyping : Simple → Type 0
@@ -27,8 +27,9 @@ KeepsTyping s = (sig : Signature) → IsSignature sig → (after before : Contex
 some_is : {A : Type 0} {x y : A} → Some x ≡ Some y → x ≡ y
 some_is e = cc
 
--- A headed result at a family: a kept head synthesises it; a value checks against it and does at its arguments what the
--- family's erasure says, with substitution at each of its domains keeping typing.
+-- A headed result at a family: a kept head synthesises it; a value checks against it and does at
+-- its arguments what the family's erasure says, with substitution at each of its domains keeping
+-- typing.
 abbrev HeadedTyped : Signature → Context → Headed → Family → Type 0
 HeadedTyped sig context (Kept r) a = Synthesises sig context r a
 HeadedTyped sig context (Replaced w b) a = (b ≡ action (erase a)) × Checks sig context w a × AllDomains KeepsTyping (erase a)
@@ -58,7 +59,8 @@ module _ (sig : Signature) (typed : IsSignature sig) (before : Context) (v : Obj
   abbrev done : Context → Context
   done after = substitute_context v s after ++ before
 
-  -- the two orders of a substitution at an argument and the one at hand, on what an application synthesises
+  -- the two orders of a substitution at an argument and the one at hand, on what an application
+  -- synthesises
   two_orders : (after : Context) (m : Object) (d b : Family) → HasSort (sorts_of sig) (erase_context (whole after)) m (erase d) → IsSortedFamily (sorts_of sig) (erase d ∷ erase_context (whole after)) b → substitute_family v s (length after) (substitute_family m (erase d) 0 b) ≡ substitute_family (substitute v s (length after) m) (erase (substitute_family v s (length after) d)) 0 (substitute_family v s (suc (length after)) b)
   two_orders after m d b hm hb =
       let hm' : HasSort (sorts_of sig) (erase_context after ++ (s ∷ erase_context before)) m (erase d) = subst (λ D. HasSort (sorts_of sig) D m (erase d)) (erase_split after before a s erased) hm in

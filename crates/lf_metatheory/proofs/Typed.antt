@@ -7,8 +7,8 @@ use Rattle.lf_meaning.specs.Substitution.{substitute, substitute_family}
 use Rattle.lf_meaning.specs.Signatures.{Class, FamilyClass, KindClass, Signature, class_of}
 use Rattle.lf_meaning.specs.Judgements.{Checks, Synthesises, SynthesisesKind, IsFamily, IsKind}
 use Rattle.lf_meaning.specs.Sorts.{HasSort, SynthesisesSort, IsSortedAtomicFamily, IsSortedFamily, IsSortedKind, sort_of_class, sorts_of}
-use Rattle.lf_metatheory.proofs.Lookups.{get_more, get_map}
-use Rattle.lf_metatheory.proofs.Families.{erase_map}
+use Rattle.lf_substitution_laws.proofs.Lookups.{get_more, get_map}
+use Rattle.lf_substitution_laws.proofs.Families.{erase_map}
 
 -- the erasure of what an application synthesises is the erased body
 erase_substituted : (m : Object) (t : Simple) (b : Family) → erase (substitute_family m t 0 b) ≡ erase b
@@ -39,7 +39,8 @@ pub kind_sorted : (sig : Signature) (context : Context) (k : Kind) → IsKind si
 kind_sorted sig context Ty h = tt
 kind_sorted sig context (PiKind a k) h = (family_sorted sig context a h.0, kind_sorted sig (a ∷ context) k h.1)
 
--- A judgement stays where further variables stand before those of its context and further constants are known.
+-- A judgement stays where further variables stand before those of its context and further constants
+-- are known.
 module _ (sig sig' : Signature) (more : (c : Constant) (k : Class) → class_of sig c ≡ Some k → class_of sig' c ≡ Some k) where
   mutual
     pub more_checks : (G E : Context) (m : Object) (a : Family) → Checks sig G m a → Checks sig' (G ++ E) m a

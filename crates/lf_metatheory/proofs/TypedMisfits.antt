@@ -6,7 +6,7 @@ use Rattle.lf_meaning.specs.Misfits.{NoMisfit, NoMisfitInFamily}
 use Rattle.lf_metatheory.specs.TypingLaws.{TypedSubstitutionMeetsNoMisfit}
 use Rattle.lf_metatheory.proofs.Typed.{checks_sort, family_sorted}
 use Rattle.lf_metatheory.proofs.Regular.{erase_split, length_erased}
-use Rattle.lf_metatheory.proofs.Misfitting.{no_misfit, no_misfit_in_family}
+use Rattle.lf_substitution_laws.proofs.Misfitting.{no_misfit, no_misfit_in_family}
 
 pub typed_no_misfit : TypedSubstitutionMeetsNoMisfit
 typed_no_misfit sig typed after before v a h m b j =

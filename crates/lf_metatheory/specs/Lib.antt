@@ -1,9 +1,2 @@
-pub mod Uniform
-pub mod Application
-pub mod SpineSynthesis
-pub mod RaisingLaws
-pub mod SortLaws
-pub mod CommutationLaws
 pub mod TypingLaws
 pub mod FaultLaws
-pub mod EqualityLaws

@@ -2,14 +2,16 @@
 use Rattle.std.specs.Prelude.{◌≡◌, [], ◌∷◌, ◌++◌, length}
 use Rattle.lf_meaning.specs.Terms.{Object, Atomic, Family, Pi, AtomicFamily, Kind, Context}
 use Rattle.lf_meaning.specs.Raising.{raise, raise_family, raise_kind, raise_context}
-use Rattle.lf_meaning.specs.Erasure.{erase}
+use Rattle.lf_meaning.specs.Erasure.{erase, erase_context}
 use Rattle.lf_meaning.specs.Substitution.{substitute, substitute_family, substitute_kind, substitute_context, app}
 use Rattle.lf_meaning.specs.Signatures.{Declaration, Signature}
 use Rattle.lf_meaning.specs.Judgements.{Checks, Synthesises, SynthesisesKind, IsFamily, IsKind, IsContext, IsTyping, IsDeclaration, IsSignature}
+use Rattle.lf_meaning.specs.Sorts.{HasSort, IsSortedFamily, IsSortedKind, sorts_of}
 use Rattle.lf_meaning.specs.Misfits.{NoMisfit, NoMisfitInFamily}
 
--- Over a well-typed signature let after, x : A, before be a well-formed context and let the value check against A in `before`. A
--- typing judgement there is carried by the substitution for x to one in the context with the substituted `after`.
+-- Over a well-typed signature let after, x : A, before be a well-formed context and let the value
+-- check against A in `before`. A typing judgement there is carried by the substitution for x to one
+-- in the context with the substituted `after`.
 abbrev pub SubstitutionKeepsTyping : Type 0
 SubstitutionKeepsTyping = (sig : Signature) → IsSignature sig → (after before : Context) (v : Object) (a : Family) → Checks sig before v a → (m : Object) (b : Family) → IsTyping sig (after ++ (a ∷ before)) m b → IsTyping sig (substitute_context v (erase a) after ++ before) (substitute v (erase a) (length after) m) (substitute_family v (erase a) (length after) b)
 
@@ -39,7 +41,8 @@ WeakeningOfFamilies = (sig : Signature) → IsSignature sig → (after between b
 abbrev pub WeakeningOfKinds : Type 0
 WeakeningOfKinds = (sig : Signature) → IsSignature sig → (after between before : Context) (k : Kind) → IsKind sig (after ++ before) k → IsKind sig (raise_context (length between) after ++ (between ++ before)) (raise_kind (length between) (length after) k)
 
--- Further declarations behind those of the signature, and further variables before those of the context, change nothing.
+-- Further declarations behind those of the signature, and further variables before those of the
+-- context, change nothing.
 abbrev pub MoreDeclarationsKeepObjects : Type 0
 MoreDeclarationsKeepObjects = (sig more : Signature) (context further : Context) (m : Object) (a : Family) → Checks sig context m a → Checks (sig ++ more) (context ++ further) m a
 
@@ -56,8 +59,8 @@ SynthesisedIsFamily = (sig : Signature) → IsSignature sig → (context : Conte
 abbrev pub SynthesisedIsKind : Type 0
 SynthesisedIsKind = (sig : Signature) → IsSignature sig → (context : Context) (p : AtomicFamily) (k : Kind) → IsContext sig context → SynthesisesKind sig context p k → IsKind sig context k
 
--- A value that checks against a Π takes an argument of its domain by `app`: the result checks against the body with the argument
--- substituted, and its simple type is that family's erasure.
+-- A value that checks against a Π takes an argument of its domain by `app`: the result checks
+-- against the body with the argument substituted, and its simple type is that family's erasure.
 abbrev pub AppKeepsTyping : Type 0
 AppKeepsTyping = (sig : Signature) → IsSignature sig → (context : Context) → IsContext sig context → (a b : Family) → IsFamily sig context (Pi a b) → (v m : Object) → Checks sig context v (Pi a b) → Checks sig context m a → Checks sig context (app (erase (Pi a b)) v m).value (substitute_family m (erase a) 0 b)
 
@@ -80,3 +83,14 @@ SynthesisIsUnique = (sig : Signature) (context : Context) (r : Atomic) (a b : Fa
 
 abbrev pub KindSynthesisIsUnique : Type 0
 KindSynthesisIsUnique = (sig : Signature) (context : Context) (p : AtomicFamily) (k l : Kind) → SynthesisesKind sig context p k → SynthesisesKind sig context p l → k ≡ l
+
+-- What is well typed is well sorted: an object that checks against a family has the family's
+-- erasure as its sort.
+abbrev pub TypedIsSorted : Type 0
+TypedIsSorted = (sig : Signature) (context : Context) (m : Object) (a : Family) → Checks sig context m a → HasSort (sorts_of sig) (erase_context context) m (erase a)
+
+abbrev pub FamilyIsSorted : Type 0
+FamilyIsSorted = (sig : Signature) (context : Context) (a : Family) → IsFamily sig context a → IsSortedFamily (sorts_of sig) (erase_context context) a
+
+abbrev pub KindIsSorted : Type 0
+KindIsSorted = (sig : Signature) (context : Context) (k : Kind) → IsKind sig context k → IsSortedKind (sorts_of sig) (erase_context context) k

@@ -1,11 +1,7 @@
-//! The laws of Canonical LF over the definitions of `lf_meaning`. Each law is the contract of a public
-//! function that does nothing; the statements stand in `specs/`, the proofs in `proofs/`.
+//! Laws of typing over the definitions of `lf_meaning`: substitution keeps typing, weakening, unique
+//! classifiers, and that judgements hold exactly where they have no first fault. Each law is the contract
+//! of a function that does nothing; the statements stand in `specs/`, the proofs in `proofs/`.
 #![tactic(auto)]
 
-pub mod application_laws;
-pub mod commutation_laws;
-pub mod equality_laws;
 pub mod fault_laws;
-pub mod raising_laws;
-pub mod sort_laws;
 pub mod typing_laws;

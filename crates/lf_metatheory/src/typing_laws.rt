@@ -1,6 +1,6 @@
 //! Substitution, weakening, application and signatures keep typing.
 
-ghost use Rattle.lf_metatheory.specs.TypingLaws.{SubstitutionKeepsTyping, TypedSubstitutionMeetsNoMisfit, SubstitutionKeepsContexts, SubstitutionKeepsFamilies, SubstitutionKeepsKinds, WeakeningOfTyping, WeakeningOfObjects, WeakeningOfFamilies, WeakeningOfKinds, MoreDeclarationsKeepObjects, MoreDeclarationsKeepFamilies, MoreDeclarationsKeepKinds, SynthesisIsUnique, KindSynthesisIsUnique, SynthesisedIsFamily, SynthesisedIsKind, AppKeepsTyping, AppKeepsErasure, EmptySignatureIsWellTyped, SignatureGrows, SignatureShrinks};
+ghost use Rattle.lf_metatheory.specs.TypingLaws.{SubstitutionKeepsTyping, TypedSubstitutionMeetsNoMisfit, SubstitutionKeepsContexts, SubstitutionKeepsFamilies, SubstitutionKeepsKinds, WeakeningOfTyping, WeakeningOfObjects, WeakeningOfFamilies, WeakeningOfKinds, MoreDeclarationsKeepObjects, MoreDeclarationsKeepFamilies, MoreDeclarationsKeepKinds, SynthesisIsUnique, KindSynthesisIsUnique, SynthesisedIsFamily, SynthesisedIsKind, AppKeepsTyping, AppKeepsErasure, TypedIsSorted, FamilyIsSorted, KindIsSorted, EmptySignatureIsWellTyped, SignatureGrows, SignatureShrinks};
 
 /// Over a well-typed signature substitution carries judgements to judgements.
 pub fn law_substitution_keeps_typing()
@@ -38,6 +38,13 @@ pub fn law_synthesis()
 pub fn law_app_keeps_typing()
     ensures typing { AppKeepsTyping }
     ensures erasure { AppKeepsErasure }
+{}
+
+/// What is well typed is well sorted.
+pub fn law_typed_is_sorted()
+    ensures object { TypedIsSorted }
+    ensures family { FamilyIsSorted }
+    ensures kind { KindIsSorted }
 {}
 
 /// A signature is well typed where it grows by well-typed declarations.

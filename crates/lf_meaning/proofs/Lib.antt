@@ -1,0 +1,4 @@
+pub mod Spines
+pub mod Equality
+pub mod SpineSynthesis
+pub mod Substituted
