@@ -1,7 +1,7 @@
 -- A replacement commutes with substitution; two substitutions commute.
 use Rattle.std.proofs.Common.{◌≡◌, ℕ, suc, ◌+◌, [], ◌∷◌, ◌++◌, length, map, Some, refl, sym, ap, ap₂, subst, ◌∙◌, arith}
 use Rattle.std.specs.Prelude.{slice_get}
-use Rattle.lf_substitution_laws.proofs.Lookups.{length_map}
+use Rattle.lf_meaning.proofs.Lookups.{length_map}
 use Rattle.lf_meaning.specs.Terms.{Constant, Object, Lam, At, Atomic, Var, Con, App, Simple, Base, Arrow, SimpleContext}
 use Rattle.lf_meaning.specs.Replacement.{Action, Headed, Kept, Replaced, object_of, value_takes, takes, raise_headed, Replacement, replace, replace_head, replace_headed}
 use Rattle.lf_meaning.specs.Substitution.{substituted, substitution, action, substitute}

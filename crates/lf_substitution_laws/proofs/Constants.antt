@@ -7,7 +7,7 @@ use Rattle.lf_meaning.specs.Replacement.{Headed, Kept, Replaced, object_of, take
 use Rattle.lf_meaning.specs.Substitution.{substitute}
 use Rattle.lf_meaning.specs.Sorts.{Sorts, HasSort}
 use Rattle.lf_substitution_laws.specs.Uniform.{IsUniform, HeadedHasSort, rename_bases, of_constants, replace_constants, IsSortedMap}
-use Rattle.lf_substitution_laws.proofs.Lookups.{get_map}
+use Rattle.lf_meaning.proofs.Lookups.{get_map}
 use Rattle.lf_substitution_laws.proofs.Domains.{rename_retypes}
 use Rattle.lf_substitution_laws.proofs.Replacing.{raise_replace}
 use Rattle.lf_substitution_laws.proofs.Substituting.{natural_uniform}

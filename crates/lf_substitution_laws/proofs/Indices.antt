@@ -1,7 +1,9 @@
--- Raising and substitution at variables, over plain numbers.
-use Rattle.std.proofs.Common.{◌≡◌, ℕ, zero, suc, ◌+◌, ◌<◌, ◌≤◌, ◌∙◌, ◌⊎◌, inl, inr, ⊎_elim, arith}
+-- Raising and substitution at variables, over plain numbers and places in lists.
+use Rattle.std.proofs.Common.{◌≡◌, ℕ, zero, suc, ◌+◌, ◌<◌, ◌≤◌, List, [], ◌∷◌, ◌++◌, length, refl, ap, ◌∙◌, ◌⊎◌, inl, inr, ⊎_elim, arith}
 use Rattle.std.proofs.lemmas.Bool.Decides.{nat_tests}
 use Rattle.std.proofs.lemmas.Bool.{cases_lt}
+use Rattle.std.specs.Prelude.{slice_get}
+use Rattle.lf_meaning.proofs.Lookups.{get_behind}
 use Rattle.lf_meaning.specs.Raising.{raised}
 
 pub raised_zero : (n i : ℕ) → raised 0 n i ≡ i
@@ -56,3 +58,9 @@ position (suc n) (suc i) = next (position n i)
     next (below h) = below (omega arith)
     next at = at
     next (above h) = above (omega arith)
+
+-- a place of a list into which a part was put
+pub get_raised : {A : Type 0} (after mid before : List A) (i : ℕ) → slice_get (after ++ (mid ++ before)) (raised (length mid) (length after) i) ≡ slice_get (after ++ before) i
+get_raised [] mid before i = get_behind mid before i (raised (length mid) 0 i) (raised_above (length mid) 0 i (omega arith))
+get_raised (x ∷ after) mid before zero = ap (slice_get (x ∷ (after ++ (mid ++ before)))) (raised_below (length mid) (suc (length after)) 0 (omega arith))
+get_raised (x ∷ after) mid before (suc i) = ap (slice_get (x ∷ (after ++ (mid ++ before)))) (raised_suc (length mid) (length after) (suc (length after)) i refl) ∙ get_raised after mid before i

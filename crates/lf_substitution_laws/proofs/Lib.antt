@@ -4,7 +4,6 @@ pub mod Replacing
 pub mod Substituting
 pub mod Families
 pub mod Domains
-pub mod Lookups
 pub mod Sorting
 pub mod Misfitting
 pub mod Commuting

@@ -1,18 +1,11 @@
--- Places in a list whose middle is left out or put in.
-use Rattle.std.proofs.Common.{◌≡◌, ℕ, zero, suc, ◌+◌, ◌<◌, ◌≤◌, List, [], ◌∷◌, ◌++◌, length, map, option_map, Some, refl, ap, ◌∙◌, arith}
+-- Places in a list that is made of parts.
+use Rattle.std.proofs.Common.{◌≡◌, ℕ, zero, suc, ◌+◌, ◌<◌, ◌≤◌, List, [], ◌∷◌, ◌++◌, length, map, option_map, Some, refl, ap, arith}
 use Rattle.std.specs.Prelude.{slice_get}
-use Rattle.lf_meaning.specs.Raising.{raised}
-use Rattle.lf_substitution_laws.proofs.Indices.{raised_below, raised_above, raised_suc}
 
 pub get_behind : {A : Type 0} (front rest : List A) (i j : ℕ) → j ≡ i + length front → slice_get (front ++ rest) j ≡ slice_get rest i
 get_behind [] rest i j e = let f : j ≡ i = omega (arith, e) in ap (slice_get rest) f
 get_behind (x ∷ front) rest i zero e = absurd (omega (arith, e))
 get_behind (x ∷ front) rest i (suc j) e = get_behind front rest i j (omega (arith, e))
-
-pub get_raised : {A : Type 0} (after mid before : List A) (i : ℕ) → slice_get (after ++ (mid ++ before)) (raised (length mid) (length after) i) ≡ slice_get (after ++ before) i
-get_raised [] mid before i = get_behind mid before i (raised (length mid) 0 i) (raised_above (length mid) 0 i (omega arith))
-get_raised (x ∷ after) mid before zero = ap (slice_get (x ∷ (after ++ (mid ++ before)))) (raised_below (length mid) (suc (length after)) 0 (omega arith))
-get_raised (x ∷ after) mid before (suc i) = ap (slice_get (x ∷ (after ++ (mid ++ before)))) (raised_suc (length mid) (length after) (suc (length after)) i refl) ∙ get_raised after mid before i
 
 pub get_below : {A : Type 0} (after before : List A) (x : A) (i : ℕ) → i < length after → slice_get (after ++ (x ∷ before)) i ≡ slice_get (after ++ before) i
 get_below [] before x i h = absurd (omega (arith, h))
