@@ -38,6 +38,15 @@ pub reduce_appended : (v : Typed) (ms ns : List Object) → reduce_typed v (ms +
 reduce_appended v [] ns = refl
 reduce_appended v (m ∷ ms) ns = reduce_appended (app v.type v.value m) ms ns
 
+pub reduce_atomic : (r : Atomic) (t : Simple) (ms : List Object) → reduce (At r) t ms ≡ At (apply_all r ms)
+reduce_atomic r t [] = refl
+reduce_atomic r (Arrow s t) (m ∷ ms) = reduce_atomic (App r m) t ms
+reduce_atomic r (Base c) (m ∷ ms) = reduce_atomic (App r m) (Base c) ms
+
+pub reduce_lambda_at_base : (n : Object) (c : Constant) (ms : List Object) → reduce (Lam n) (Base c) ms ≡ Lam n
+reduce_lambda_at_base n c [] = refl
+reduce_lambda_at_base n c (m ∷ ms) = reduce_lambda_at_base n c ms
+
 -- what a replacement makes of a head with its arguments
 pub replace_head_applied : (by : Replacement) (n : ℕ) (r : Atomic) (ms : List Object) → replace_head by n (apply_all r ms) ≡ takes_all (replace_head by n r) (map (replace by n) ms)
 replace_head_applied by n r [] = refl

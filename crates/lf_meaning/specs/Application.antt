@@ -32,6 +32,14 @@ ReduceFirst = (v : Object) (t : Simple) (m : Object) (ms : List Object) → redu
 abbrev pub ReduceAppended : Type 0
 ReduceAppended = (v : Typed) (ms ns : List Object) → reduce_typed v (ms ++ ns) ≡ reduce_typed (reduce_typed v ms) ns
 
+-- An atomic value takes all arguments on its spine, whatever its simple type; a λ at a base drops
+-- them.
+abbrev pub ReduceAtomic : Type 0
+ReduceAtomic = (r : Atomic) (t : Simple) (ms : List Object) → reduce (At r) t ms ≡ At (apply_all r ms)
+
+abbrev pub ReduceLambdaAtBase : Type 0
+ReduceLambdaAtBase = (n : Object) (c : Constant) (ms : List Object) → reduce (Lam n) (Base c) ms ≡ Lam n
+
 -- A row of arguments taken at once is the arguments taken one by one: for any replacement, and for
 -- a substitution by where the head stands to the substituted variable.
 abbrev pub ReplaceApplied : Type 0

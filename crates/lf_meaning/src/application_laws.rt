@@ -1,6 +1,6 @@
 //! Application of a value to arguments, and rows of arguments taken at once.
 
-ghost use Rattle.lf_meaning.specs.Application.{LambdaAtArrow, AtomicAtArrow, AtomicAtBase, LambdaAtBase, HeadTakesByApp, ReduceNone, ReduceFirst, ReduceAppended, ReplaceApplied, SubstituteAppliedAt, SubstituteAppliedBelow, SubstituteAppliedAbove, SubstituteAppliedConstant, RaiseApplied, FamilyApplied};
+ghost use Rattle.lf_meaning.specs.Application.{LambdaAtArrow, AtomicAtArrow, AtomicAtBase, LambdaAtBase, HeadTakesByApp, ReduceNone, ReduceFirst, ReduceAtomic, ReduceLambdaAtBase, ReduceAppended, ReplaceApplied, SubstituteAppliedAt, SubstituteAppliedBelow, SubstituteAppliedAbove, SubstituteAppliedConstant, RaiseApplied, FamilyApplied};
 ghost use Rattle.lf_meaning.specs.SpineSynthesis.{SynthesisOfSpine, KindSynthesisOfSpine, FaultStays, KindFaultStays};
 
 /// The four cases of `app`, and that a value in place of a head takes its argument by it.
@@ -16,6 +16,8 @@ pub fn law_app()
 pub fn law_reduce()
     ensures none { ReduceNone }
     ensures first { ReduceFirst }
+    ensures atomic { ReduceAtomic }
+    ensures lambda_at_base { ReduceLambdaAtBase }
     ensures appended { ReduceAppended }
 {}
 

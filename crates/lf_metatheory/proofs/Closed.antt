@@ -4,7 +4,7 @@ use Rattle.lf_meaning.specs.Terms.{Constant, Object, Family, Kind, Simple}
 use Rattle.lf_meaning.specs.Raising.{raise_family, raise_kind}
 use Rattle.lf_meaning.specs.Substitution.{substitute_family, substitute_kind}
 use Rattle.lf_meaning.specs.Signatures.{Class, FamilyClass, KindClass, Signature, class_of}
-use Rattle.lf_meaning.specs.Judgements.{IsFamily, IsKind, IsSignature}
+use Rattle.lf_meaning.specs.Judgements.{IsFamily, IsKind, IsClass, IsSignature}
 use Rattle.lf_meaning.specs.Sorts.{IsSortedFamily, IsSortedKind, sort_of_class, sorts_of}
 use Rattle.lf_substitution_laws.proofs.Past.{raise_family_past, raise_kind_past, substitute_family_past, substitute_kind_past}
 use Rattle.lf_metatheory.proofs.Declared.{ClassIn, class_in, class_more}
@@ -40,6 +40,10 @@ module _ (sig : Signature) (typed : IsSignature sig) where
 
   pub class_sorted_kind : (c : Constant) (k : Kind) → class_of sig c ≡ Some (KindClass k) → IsSortedKind (sorts_of sig) [] k
   class_sorted_kind c k h = kind_sorted sig [] k (class_is_kind c k h)
+
+  pub class_is_class : (c : Constant) (k : Class) → class_of sig c ≡ Some k → IsClass sig k
+  class_is_class c (FamilyClass a) h = class_is_family c a h
+  class_is_class c (KindClass k) h = class_is_kind c k h
 
   -- raising and substitution leave them
   pub raise_class_family : (c : Constant) (a : Family) → class_of sig c ≡ Some (FamilyClass a) → (k n : ℕ) → raise_family k n a ≡ a

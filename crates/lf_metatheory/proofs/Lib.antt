@@ -8,3 +8,4 @@ pub mod Growing
 pub mod HeadTyping
 pub mod TypedMisfits
 pub mod Faultless
+pub mod FirstBadDeclaration

@@ -1,9 +1,9 @@
 -- Each judgement holds exactly where its first fault is none.
-use Rattle.std.specs.Prelude.{◌≡◌, ◌↔◌, None, Ok}
+use Rattle.std.specs.Prelude.{◌≡◌, ◌↔◌, ◌∷◌, ◌++◌, length, None, Some, Ok}
 use Rattle.lf_meaning.specs.Terms.{Object, Atomic, Family, AtomicFamily, Kind, Context}
 use Rattle.lf_meaning.specs.Signatures.{Class, Value, Declaration, Signature}
 use Rattle.lf_meaning.specs.Judgements.{Checks, Synthesises, SynthesisesKind, IsFamily, IsKind, IsClass, Fits, IsDeclaration, IsSignature}
-use Rattle.lf_meaning.specs.Faults.{object_fault, synthesised, synthesised_kind, family_fault, kind_fault, class_fault, value_fault, declaration_fault, signature_fault}
+use Rattle.lf_meaning.specs.Faults.{object_fault, synthesised, synthesised_kind, family_fault, kind_fault, class_fault, value_fault, declaration_fault, BadDeclaration, signature_fault}
 
 abbrev pub ObjectFaultless : Type 0
 ObjectFaultless = (sig : Signature) (context : Context) (m : Object) (a : Family) → (object_fault sig context m a ≡ None) ↔ Checks sig context m a
@@ -31,3 +31,17 @@ DeclarationFaultless = (sig : Signature) (d : Declaration) → (declaration_faul
 
 abbrev pub SignatureFaultless : Type 0
 SignatureFaultless = (sig : Signature) → (signature_fault sig ≡ None) ↔ IsSignature sig
+
+-- The declaration that a signature's fault names: those before it make a well-typed signature, and
+-- the fault is its own over them.
+pub record FirstBad (sig : Signature) (bad : BadDeclaration) : Type 0 where
+  pub before : Signature
+  pub declaration : Declaration
+  pub after : Signature
+  pub split : sig ≡ before ++ (declaration ∷ after)
+  pub index_is : bad.index ≡ length before
+  pub before_is : IsSignature before
+  pub fault_is : declaration_fault before declaration ≡ Some bad.fault
+
+abbrev pub SignatureFaultIsFirst : Type 0
+SignatureFaultIsFirst = (sig : Signature) (bad : BadDeclaration) → (signature_fault sig ≡ Some bad) ↔ FirstBad sig bad

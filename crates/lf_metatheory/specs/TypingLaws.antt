@@ -1,11 +1,11 @@
 -- Substitution keeps typing; weakening; typing of application.
-use Rattle.std.specs.Prelude.{◌≡◌, [], ◌∷◌, ◌++◌, length}
-use Rattle.lf_meaning.specs.Terms.{Object, Atomic, Family, Pi, AtomicFamily, Kind, Context}
+use Rattle.std.specs.Prelude.{◌≡◌, ℕ, [], ◌∷◌, ◌++◌, length, Some}
+use Rattle.lf_meaning.specs.Terms.{Constant, Object, Atomic, Family, Pi, AtomicFamily, Kind, Context, Simple}
 use Rattle.lf_meaning.specs.Raising.{raise, raise_family, raise_kind, raise_context}
 use Rattle.lf_meaning.specs.Erasure.{erase, erase_context}
 use Rattle.lf_meaning.specs.Substitution.{substitute, substitute_family, substitute_kind, substitute_context, app}
-use Rattle.lf_meaning.specs.Signatures.{Declaration, Signature}
-use Rattle.lf_meaning.specs.Judgements.{Checks, Synthesises, SynthesisesKind, IsFamily, IsKind, IsContext, IsTyping, IsDeclaration, IsSignature}
+use Rattle.lf_meaning.specs.Signatures.{Class, FamilyClass, KindClass, Declaration, Signature, class_of}
+use Rattle.lf_meaning.specs.Judgements.{Checks, Synthesises, SynthesisesKind, IsFamily, IsKind, IsContext, IsTyping, IsClass, IsDeclaration, IsSignature}
 use Rattle.lf_meaning.specs.Sorts.{HasSort, IsSortedFamily, IsSortedKind, sorts_of}
 use Rattle.lf_meaning.specs.Misfits.{NoMisfit, NoMisfitInFamily}
 
@@ -94,3 +94,20 @@ FamilyIsSorted = (sig : Signature) (context : Context) (a : Family) → IsFamily
 
 abbrev pub KindIsSorted : Type 0
 KindIsSorted = (sig : Signature) (context : Context) (k : Kind) → IsKind sig context k → IsSortedKind (sorts_of sig) (erase_context context) k
+
+-- The classifier of a constant of a well-typed signature is a family or a kind in no context, and
+-- is left as it is by raising and substitution.
+abbrev pub ConstantHasClass : Type 0
+ConstantHasClass = (sig : Signature) → IsSignature sig → (c : Constant) (k : Class) → class_of sig c ≡ Some k → IsClass sig k
+
+abbrev pub RaisingLeavesClassifiers : Type 0
+RaisingLeavesClassifiers = (sig : Signature) → IsSignature sig → (c : Constant) (a : Family) → class_of sig c ≡ Some (FamilyClass a) → (k n : ℕ) → raise_family k n a ≡ a
+
+abbrev pub RaisingLeavesKinds : Type 0
+RaisingLeavesKinds = (sig : Signature) → IsSignature sig → (c : Constant) (b : Kind) → class_of sig c ≡ Some (KindClass b) → (k n : ℕ) → raise_kind k n b ≡ b
+
+abbrev pub SubstitutionLeavesClassifiers : Type 0
+SubstitutionLeavesClassifiers = (sig : Signature) → IsSignature sig → (c : Constant) (a : Family) → class_of sig c ≡ Some (FamilyClass a) → (v : Object) (t : Simple) (n : ℕ) → substitute_family v t n a ≡ a
+
+abbrev pub SubstitutionLeavesKinds : Type 0
+SubstitutionLeavesKinds = (sig : Signature) → IsSignature sig → (c : Constant) (b : Kind) → class_of sig c ≡ Some (KindClass b) → (v : Object) (t : Simple) (n : ℕ) → substitute_kind v t n b ≡ b

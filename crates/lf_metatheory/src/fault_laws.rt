@@ -1,6 +1,6 @@
 //! First faults.
 
-ghost use Rattle.lf_metatheory.specs.FaultLaws.{ObjectFaultless, SynthesisFaultless, KindSynthesisFaultless, FamilyFaultless, KindFaultless, ClassFaultless, ValueFaultless, DeclarationFaultless, SignatureFaultless};
+ghost use Rattle.lf_metatheory.specs.FaultLaws.{ObjectFaultless, SynthesisFaultless, KindSynthesisFaultless, FamilyFaultless, KindFaultless, ClassFaultless, ValueFaultless, DeclarationFaultless, SignatureFaultless, SignatureFaultIsFirst};
 
 /// Each judgement holds exactly where its first fault is none.
 pub fn law_faultless()
@@ -13,4 +13,5 @@ pub fn law_faultless()
     ensures value { ValueFaultless }
     ensures declaration { DeclarationFaultless }
     ensures signature { SignatureFaultless }
+    ensures first { SignatureFaultIsFirst }
 {}

@@ -1,6 +1,6 @@
 //! Substitution, weakening, application and signatures keep typing.
 
-ghost use Rattle.lf_metatheory.specs.TypingLaws.{SubstitutionKeepsTyping, TypedSubstitutionMeetsNoMisfit, SubstitutionKeepsContexts, SubstitutionKeepsFamilies, SubstitutionKeepsKinds, WeakeningOfTyping, WeakeningOfObjects, WeakeningOfFamilies, WeakeningOfKinds, MoreDeclarationsKeepObjects, MoreDeclarationsKeepFamilies, MoreDeclarationsKeepKinds, SynthesisIsUnique, KindSynthesisIsUnique, SynthesisedIsFamily, SynthesisedIsKind, AppKeepsTyping, AppKeepsErasure, TypedIsSorted, FamilyIsSorted, KindIsSorted, EmptySignatureIsWellTyped, SignatureGrows, SignatureShrinks};
+ghost use Rattle.lf_metatheory.specs.TypingLaws.{SubstitutionKeepsTyping, TypedSubstitutionMeetsNoMisfit, SubstitutionKeepsContexts, SubstitutionKeepsFamilies, SubstitutionKeepsKinds, WeakeningOfTyping, WeakeningOfObjects, WeakeningOfFamilies, WeakeningOfKinds, MoreDeclarationsKeepObjects, MoreDeclarationsKeepFamilies, MoreDeclarationsKeepKinds, SynthesisIsUnique, KindSynthesisIsUnique, SynthesisedIsFamily, SynthesisedIsKind, ConstantHasClass, RaisingLeavesClassifiers, RaisingLeavesKinds, SubstitutionLeavesClassifiers, SubstitutionLeavesKinds, AppKeepsTyping, AppKeepsErasure, TypedIsSorted, FamilyIsSorted, KindIsSorted, EmptySignatureIsWellTyped, SignatureGrows, SignatureShrinks};
 
 /// Over a well-typed signature substitution carries judgements to judgements.
 pub fn law_substitution_keeps_typing()
@@ -32,6 +32,15 @@ pub fn law_synthesis()
     ensures kind_unique { KindSynthesisIsUnique }
     ensures family { SynthesisedIsFamily }
     ensures kind { SynthesisedIsKind }
+{}
+
+/// The classifiers of the constants of a well-typed signature are closed families and kinds.
+pub fn law_constant_classes()
+    ensures class_is { ConstantHasClass }
+    ensures raise { RaisingLeavesClassifiers }
+    ensures raise_kind { RaisingLeavesKinds }
+    ensures substitute { SubstitutionLeavesClassifiers }
+    ensures substitute_kind { SubstitutionLeavesKinds }
 {}
 
 /// A value that takes an argument by `app` checks against the body with the argument substituted.

@@ -1,4 +1,5 @@
 use Rattle.lf_metatheory.proofs.Faultless.{object_sound, object_complete, synthesised_sound, synthesised_complete, synthesised_kind_sound, synthesised_kind_complete, family_sound, family_complete, kind_sound, kind_complete, class_sound, class_complete, value_sound, value_complete, declaration_sound, declaration_complete, signature_sound, signature_complete}
+use Rattle.lf_metatheory.proofs.FirstBadDeclaration.{first_bad, bad_is_first}
 use Rattle.lf_metatheory.proofs.fault_laws.law_faultless.Goals as goal
 
 pub returns-clause-object : goal.returns-clause-object
@@ -27,3 +28,6 @@ returns-clause-declaration c = λ sig d. (declaration_sound sig d, declaration_c
 
 pub returns-clause-signature : goal.returns-clause-signature
 returns-clause-signature c = λ sig. (signature_sound sig, signature_complete sig)
+
+pub returns-clause-first : goal.returns-clause-first
+returns-clause-first c = λ sig bad. (first_bad sig bad, bad_is_first sig bad)
