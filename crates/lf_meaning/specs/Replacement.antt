@@ -22,9 +22,9 @@ abbrev pub object_of : Headed → Object
 object_of (Kept r) = At r
 object_of (Replaced v a) = v
 
--- A value takes an argument (Harper and Licata 2007, section 2; the last two rows are this
--- profile's): a λ at an arrow goes on with the argument in its body; an atomic value has it as a
--- further argument; a λ at a base stays.
+-- A value takes an argument: a λ at an arrow goes on with the argument in its body (Harper and Licata
+-- 2007, section 2). The other three rows are misfits, which this profile answers: an atomic value
+-- has the argument as a further one, and a λ at a base stays.
 abbrev pub value_takes : Object → Action → Object → Headed
 value_takes (Lam n) (Step s a) m = Replaced (s m 0 n) a
 value_takes (At r) (Step s a) m = Replaced (At (App r m)) a
@@ -47,7 +47,7 @@ raise_headed by from (Kept r) = Kept (raise_atomic by from r)
 raise_headed by from (Replaced v a) = Replaced (raise by from v) a
 
 -- A replacement says what stands in place of each variable, given how many binders it has passed,
--- and of each constant.
+-- and of each constant, where it is the same under any binders.
 pub record Replacement : Type 0 where
   pub variable : ℕ → ℕ → Headed
   pub constant : Constant → Headed

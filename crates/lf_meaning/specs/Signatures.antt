@@ -21,7 +21,7 @@ pub record Declaration : Type 0 where
   pub class : Class
   pub value : Option Value
 
--- Declarations in order, with distinct names.
+-- Declarations in order. Where two of them have one name, the first counts.
 abbrev pub Signature : Type 0
 Signature = List Declaration
 

@@ -1,4 +1,5 @@
--- Hereditary substitution (Harper and Licata 2007, section 2), made total.
+-- Hereditary substitution (Harper and Licata 2007, section 2), made total by this profile: a misfit
+-- keeps the value.
 use Rattle.std.specs.Prelude.{ℕ, pred, List, [], ◌∷◌, nat_lt, nat_eq, if◌then◌else◌}
 use Rattle.lf_meaning.specs.Terms.{Object, Lam, At, Var, Con, App, Family, AtomicFamily, Kind, Simple, Base, Arrow, Context}
 use Rattle.lf_meaning.specs.Raising.{raise, map_family, map_atomic_family, map_kind, map_context}
@@ -42,7 +43,7 @@ pub record Typed : Type 0 where
   pub value : Object
   pub type : Simple
 
--- `app(t, V, M)`: the value V at t applied to M. A λ at an arrow goes on with M in its body; an
+-- `app t V M`: the value V at t applied to M. A λ at an arrow goes on with M in its body; an
 -- atomic value takes M as a further argument; a λ at a base drops it. The simple type is the
 -- codomain, and at a base it stays.
 abbrev pub app : Simple → Object → Object → Typed

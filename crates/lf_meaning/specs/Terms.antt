@@ -16,8 +16,7 @@ pub record Constant : Type 0 where
   pub path : Path
 
 -- An object is a λ or an atomic object. An atomic object is a variable, a constant, or an atomic
--- object applied to one object. A variable is the number of binders between it and its own (section
--- 2).
+-- object applied to one object. A variable is the number of binders between it and its own.
 mutual
   pub data Object : Type 0 where
     Lam : (body : Object) → Object
@@ -29,7 +28,7 @@ mutual
     App : (head : Atomic) (argument : Object) → Atomic
 
 -- A family is a Π or an atomic family. An atomic family is a constant, or an atomic family applied to
--- one object (section 2).
+-- one object.
 mutual
   pub data Family : Type 0 where
     Pi : (domain body : Family) → Family
@@ -39,12 +38,12 @@ mutual
     FamilyCon : (constant : Constant) → AtomicFamily
     FamilyApp : (head : AtomicFamily) (argument : Object) → AtomicFamily
 
--- A kind is `type` or a Π from a family to a kind (section 2).
+-- A kind is `type` or a Π from a family to a kind.
 pub data Kind : Type 0 where
   Ty : Kind
   PiKind : (domain : Family) (body : Kind) → Kind
 
--- A simple type is a base, named by a family constant, or an arrow (section 2, the erased types).
+-- A simple type is a base, named by a family constant, or an arrow.
 pub data Simple : Type 0 where
   Base : (constant : Constant) → Simple
   Arrow : (domain codomain : Simple) → Simple
