@@ -40,6 +40,10 @@ ReduceAtomic = (r : Atomic) (t : Simple) (ms : List Object) → reduce (At r) t 
 abbrev pub ReduceLambdaAtBase : Type 0
 ReduceLambdaAtBase = (n : Object) (c : Constant) (ms : List Object) → reduce (Lam n) (Base c) ms ≡ Lam n
 
+-- Under a binder the substituted variable is one further out.
+abbrev pub SubstituteInBody : Type 0
+SubstituteInBody = (v : Object) (t : Simple) (n : ℕ) (m : Object) → substitute v t n (Lam m) ≡ Lam (substitute v t (suc n) m)
+
 -- A row of arguments taken at once is the arguments taken one by one: for any replacement, and for
 -- a substitution by where the head stands to the substituted variable.
 abbrev pub ReplaceApplied : Type 0

@@ -1,6 +1,6 @@
 //! Application of a value to arguments, and rows of arguments taken at once.
 
-ghost use Rattle.lf_meaning.specs.Application.{LambdaAtArrow, AtomicAtArrow, AtomicAtBase, LambdaAtBase, HeadTakesByApp, ReduceNone, ReduceFirst, ReduceAtomic, ReduceLambdaAtBase, ReduceAppended, ReplaceApplied, SubstituteAppliedAt, SubstituteAppliedBelow, SubstituteAppliedAbove, SubstituteAppliedConstant, RaiseApplied, FamilyApplied};
+ghost use Rattle.lf_meaning.specs.Application.{LambdaAtArrow, AtomicAtArrow, AtomicAtBase, LambdaAtBase, HeadTakesByApp, ReduceNone, ReduceFirst, ReduceAtomic, ReduceLambdaAtBase, ReduceAppended, ReplaceApplied, SubstituteInBody, SubstituteAppliedAt, SubstituteAppliedBelow, SubstituteAppliedAbove, SubstituteAppliedConstant, RaiseApplied, FamilyApplied};
 ghost use Rattle.lf_meaning.specs.SpineSynthesis.{SynthesisOfSpine, KindSynthesisOfSpine, FaultStays, KindFaultStays};
 
 /// The four cases of `app`, and that a value in place of a head takes its argument by it.
@@ -21,9 +21,10 @@ pub fn law_reduce()
     ensures appended { ReduceAppended }
 {}
 
-/// A row of arguments taken at once is the arguments taken one by one.
+/// Substitution by forms of terms, a row of arguments taken at once being the arguments taken one by one.
 pub fn law_spine()
     ensures replace { ReplaceApplied }
+    ensures body { SubstituteInBody }
     ensures at { SubstituteAppliedAt }
     ensures below { SubstituteAppliedBelow }
     ensures above { SubstituteAppliedAbove }

@@ -1,23 +1,14 @@
 -- The classifiers of constants are closed: raising and substitution leave them.
-use Rattle.std.proofs.Common.{◌≡◌, ℕ, [], ◌++◌, Option, Some, None, refl, sym, ap, subst, ◌∙◌, arith}
+use Rattle.std.proofs.Common.{◌≡◌, ℕ, [], ◌++◌, Some, sym, subst, arith}
 use Rattle.lf_meaning.specs.Terms.{Constant, Object, Family, Kind, Simple}
 use Rattle.lf_meaning.specs.Raising.{raise_family, raise_kind}
 use Rattle.lf_meaning.specs.Substitution.{substitute_family, substitute_kind}
 use Rattle.lf_meaning.specs.Signatures.{Class, FamilyClass, KindClass, Signature, class_of}
 use Rattle.lf_meaning.specs.Judgements.{IsFamily, IsKind, IsClass, IsSignature}
-use Rattle.lf_meaning.specs.Sorts.{IsSortedFamily, IsSortedKind, sort_of_class, sorts_of}
+use Rattle.lf_meaning.specs.Sorts.{IsSortedFamily, IsSortedKind, sorts_of}
 use Rattle.lf_substitution_laws.proofs.Past.{raise_family_past, raise_kind_past, substitute_family_past, substitute_kind_past}
 use Rattle.lf_metatheory.proofs.Declared.{ClassIn, class_in, class_more}
 use Rattle.lf_metatheory.proofs.Typed.{family_sorted, kind_sorted, more_family, more_kind}
-
--- the simple type of a constant stays where more declarations are behind
-sort_more_by : (o : Option Class) (o' : Option Class) (t : Simple) → ((k : Class) → o ≡ Some k → o' ≡ Some k) → sort_of_class o ≡ Some t → sort_of_class o' ≡ Some t
-sort_more_by None o' t more h = absurd (cc)
-sort_more_by (Some (FamilyClass a)) o' t more h = ap sort_of_class (more (FamilyClass a) refl) ∙ h
-sort_more_by (Some (KindClass k)) o' t more h = absurd (cc)
-
-pub sort_more : (sig sig' : Signature) → ((c : Constant) (k : Class) → class_of sig c ≡ Some k → class_of sig' c ≡ Some k) → (c : Constant) (t : Simple) → sorts_of sig c ≡ Some t → sorts_of sig' c ≡ Some t
-sort_more sig sig' more c t h = sort_more_by (class_of sig c) (class_of sig' c) t (more c) h
 
 -- In a well-typed signature the classifiers of constants are well typed and well sorted, in no
 -- context.

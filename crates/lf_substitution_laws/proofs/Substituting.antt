@@ -7,7 +7,7 @@ use Rattle.lf_meaning.specs.Substitution.{substituted, substitution, action}
 use Rattle.lf_substitution_laws.specs.Uniform.{HasType, IsUniform}
 use Rattle.lf_substitution_laws.proofs.Indices.{raised_below, raised_above, raised_suc, raised_grows, raised_over, raised_stays, raised_suc_above, raised_over_depth, Position, below, at, above, position}
 use Rattle.lf_substitution_laws.proofs.Raising.{raise_swap, raise_twice}
-use Rattle.lf_substitution_laws.proofs.Replacing.{NaturalAction, NaturalHeaded, IsNatural, raise_replace, raise_replace_head}
+use Rattle.lf_substitution_laws.proofs.Replacing.{NaturalAction, NaturalHeaded, IsNatural, raise_replace}
 use Rattle.lf_meaning.proofs.Substituted.{substituted_below, substituted_at, substituted_above}
 
 natural_substituted : (v : Object) (a : Action) → NaturalAction a → (n i : ℕ) → Position n i → NaturalHeaded (substituted v a n i)
@@ -68,9 +68,6 @@ module _ (by : Replacement) (uniform : IsUniform by) where
   -- raising below: from p, which is not above the depth
   pub raise_below_replacement : (k n p q : ℕ) (m : Object) → p ≤ n → q ≡ n + k → raise k p (replace by n m) ≡ replace by q (raise k p m)
   raise_below_replacement k n p q m low e = raise_replace k by by (Within k) (natural_uniform by uniform) (within_under k) (within_variable k) (λ n p q r c o. uniform.closed k p c) n p q p m (record { low = low; grows = e; same = refl })
-
-  pub raise_below_replacement_head : (k n p q : ℕ) (r : Atomic) → p ≤ n → q ≡ n + k → raise_headed k p (replace_head by n r) ≡ replace_head by q (raise_atomic k p r)
-  raise_below_replacement_head k n p q r low e = raise_replace_head k by by (Within k) (natural_uniform by uniform) (within_under k) (within_variable k) (λ n p q r c o. uniform.closed k p c) n p q p r (record { low = low; grows = e; same = refl })
 
 deeper_substituted : (v : Object) (a : Action) (k n p q i : ℕ) → p ≤ n → q ≡ n + k → Position n i → raise_headed k p (substituted v a n i) ≡ substituted v a q (raised k p i)
 deeper_substituted v a k n p q i low e (below h) =

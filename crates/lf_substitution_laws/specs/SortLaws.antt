@@ -2,7 +2,7 @@
 -- the constants and the simple contexts before and behind the variable are any.
 use Rattle.std.specs.Prelude.{◌≡◌, ℕ, ◌≤◌, ◌∷◌, ◌++◌, length, map}
 use Rattle.lf_meaning.specs.Terms.{Constant, Object, Family, Kind, Simple, SimpleContext}
-use Rattle.lf_meaning.specs.Raising.{raise, raise_family}
+use Rattle.lf_meaning.specs.Raising.{raise, raise_family, raise_kind}
 use Rattle.lf_meaning.specs.Replacement.{Headed}
 use Rattle.lf_meaning.specs.Substitution.{substitute, substitute_family, substitute_kind}
 use Rattle.lf_meaning.specs.Sorts.{Sorts, HasSort, IsSortedFamily, IsSortedKind}
@@ -30,6 +30,9 @@ RaisingKeepsSorts = (sorts : Sorts) (after between before : SimpleContext) (m : 
 
 abbrev pub RaisingKeepsSortedFamilies : Type 0
 RaisingKeepsSortedFamilies = (sorts : Sorts) (after between before : SimpleContext) (a : Family) → IsSortedFamily sorts (after ++ before) a → IsSortedFamily sorts (after ++ (between ++ before)) (raise_family (length between) (length after) a)
+
+abbrev pub RaisingKeepsSortedKinds : Type 0
+RaisingKeepsSortedKinds = (sorts : Sorts) (after between before : SimpleContext) (k : Kind) → IsSortedKind sorts (after ++ before) k → IsSortedKind sorts (after ++ (between ++ before)) (raise_kind (length between) (length after) k)
 
 -- What has a sort in a simple context is not changed by raising from behind it.
 abbrev pub RaisingPastDoesNothing : Type 0

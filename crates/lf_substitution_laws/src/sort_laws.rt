@@ -1,6 +1,6 @@
 //! Simple types: what keeps them, and that well-sorted substitutions meet no misfit.
 
-ghost use Rattle.lf_substitution_laws.specs.SortLaws.{SubstitutionKeepsSorts, SubstitutionKeepsSortedFamilies, SubstitutionKeepsSortedKinds, SubstitutionMeetsNoMisfit, SubstitutionMeetsNoMisfitInFamilies, RaisingKeepsSorts, RaisingKeepsSortedFamilies, RaisingPastDoesNothing};
+ghost use Rattle.lf_substitution_laws.specs.SortLaws.{SubstitutionKeepsSorts, SubstitutionKeepsSortedFamilies, SubstitutionKeepsSortedKinds, SubstitutionMeetsNoMisfit, SubstitutionMeetsNoMisfitInFamilies, RaisingKeepsSorts, RaisingKeepsSortedFamilies, RaisingKeepsSortedKinds, RaisingPastDoesNothing};
 
 /// Substitution keeps the sorts of objects, and well-sorted families and kinds.
 pub fn law_substitution_keeps_sorts()
@@ -19,5 +19,6 @@ pub fn law_no_misfit()
 pub fn law_raising_keeps_sorts()
     ensures object { RaisingKeepsSorts }
     ensures family { RaisingKeepsSortedFamilies }
+    ensures kind { RaisingKeepsSortedKinds }
     ensures past { RaisingPastDoesNothing }
 {}
