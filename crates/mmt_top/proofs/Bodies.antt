@@ -1,16 +1,17 @@
 -- The declarations that were read, and those that follow.
 use Rattle.std.proofs.Common.{◌≡◌, ℕ, zero, suc, ◌+◌, ◌-◌, ◌<◌, ◌≤◌, Bool, true, false, List, [], ◌∷◌, ◌++◌, length, take, drop, get_or, refl, sym, ap, ◌∙◌, subst, arith, add-one, append_assoc}
-use Rattle.std.specs.Prelude.{Option, Some, None, ◌==◌, if◌then◌else◌, codes, map}
+use Rattle.std.specs.Prelude.{Option, Some, None, if◌then◌else◌, codes, map}
 use Rattle.std.specs.Option.{option_map, option_and_then}
-use Rattle.std.proofs.lemmas.List.{append-nil, take-append-drop, take_more}
+use Rattle.std.proofs.lemmas.List.{append-nil, take-append-drop, take_more, drop-drop, length-drop}
+use Rattle.std.proofs.Math.ListN.{drop_of_length-le}
 use Rattle.std.proofs.Math.Seq.{drop-cons}
 use Rattle.output_meaning.specs.Pieces as meant
 use Rattle.output_meaning.specs.FirstForm as form
 use Rattle.output_meaning.specs.FirstForm.{NoDot, Declaration, declaration_of, is_close}
 use Rattle.output_meaning.proofs.FormLemmas.{NoDot-append, body_in, body_in-none, body_in-last, body_in-more}
 use Rattle.mmt_top.specs.Pieces.{piece_of, pieces_in}
+use Rattle.mmt_top.specs.Forms.{IsDotAt}
 use Rattle.mmt_top.specs.declared.pieces.Piece.{Piece}
-use Rattle.std.proofs.lemmas.Bool.Decides.{nat_tests}
 use Rattle.mmt_top.proofs.PieceSteps.{map-append}
 use Rattle.mmt_top.proofs.Forms.{tail_is}
 
@@ -107,20 +108,60 @@ body_goes_on read xs i d all first lt plain dot some is so_far =
       (option_and_then (λ (f : Declaration). option_map (λ (ds : List Declaration). f ∷ ds) (body_in (pieces_in (drop (i + 1) xs)))) o)) is
     ∙ body_more read xs i d all lt plain dot some so_far
 
-nil_by : (xs : List Piece) (b : Bool) → b ≡ (length xs == 0) → b ≡ true → xs ≡ []
-nil_by [] b is holds = refl
-nil_by (x ∷ xs) b is holds = absurd (grind (arith, nat_tests, is, holds))
-
-some_by : (xs : List Piece) (b : Bool) → b ≡ (length xs == 0) → b ≡ false → xs ≡ [] → ⊥
-some_by xs b is fails none = grind (arith, nat_tests, is, fails, ap (λ (ps : List Piece). length ps) none)
-
--- what is left behind a dot is empty, or not
-pub empty_tail : (xs : List Piece) (i : ℕ) (b : Bool) → b ≡ (length (take (length xs - i) (drop i xs)) == 0) → b ≡ true → drop i xs ≡ []
-empty_tail xs i b is holds = nil_by (drop i xs) b (is ∙ ap (λ (ps : List Piece). length ps == 0) (tail_is xs i)) holds
-
-pub some_tail : (xs : List Piece) (i : ℕ) (b : Bool) → b ≡ (length (take (length xs - i) (drop i xs)) == 0) → b ≡ false → drop i xs ≡ [] → ⊥
-some_tail xs i b is fails = some_by (drop i xs) b (is ∙ ap (λ (ps : List Piece). length ps == 0) (tail_is xs i)) fails
-
 -- a piece for the places past the end
 abbrev pub no_piece : Piece
 no_piece = record { at = 0; bytes = record { ref_ptr = (0, 0); now = [] } }
+
+-- ---- the same from a place in all pieces on
+
+dot_in : (ps : List Piece) (from i : ℕ) → IsDotAt (take (length ps - from) (drop from ps)) (Some i) → IsDotAt (drop from ps) (Some i)
+dot_in ps from i dot = subst (λ (xs : List Piece). IsDotAt xs (Some i)) (tail_is ps from) dot
+
+sentence_is : (ps : List Piece) (from i : ℕ) → take (from + i - from) (drop from ps) ≡ take i (drop from ps)
+sentence_is ps from i = let same : from + i - from ≡ i = omega arith in ap (λ (n : ℕ). take n (drop from ps)) same
+
+nothing_behind : (ps : List Piece) (from i : ℕ) → from + (i + 1) ≡ length ps → drop (i + 1) (drop from ps) ≡ []
+nothing_behind ps from i end = drop-drop (i + 1) from ps ∙ drop_of_length-le ps (omega arith)
+
+something_behind : (ps : List Piece) (from i : ℕ) → i < length (drop from ps) → (from + (i + 1) ≡ length ps → ⊥) → drop (i + 1) (drop from ps) ≡ [] → ⊥
+something_behind ps from i lt more none =
+    more (omega (arith, length-drop from ps, length-drop (from + (i + 1)) ps, ap (λ (xs : List Piece). length xs) (sym (drop-drop (i + 1) from ps) ∙ none)))
+
+pub closes_at : (read : List Declaration) (ps : List Piece) (from i : ℕ) (all : List meant.Piece) (b : Bool)
+    → IsDotAt (take (length ps - from) (drop from ps)) (Some i) → from + (i + 1) ≡ length ps
+    → b ≡ is_close (pieces_in (take (from + i - from) (drop from ps))) → b ≡ true → BodySoFar read (pieces_in (drop from ps)) all → Some read ≡ body_in all
+closes_at read ps from i all b dot end is closes so_far =
+    let found = dot_in ps from i dot in
+    body_closes read (drop from ps) i no_piece all b found.0 found.1 (found.2 no_piece) (nothing_behind ps from i end)
+    (is ∙ ap (λ (xs : List Piece). is_close (pieces_in xs)) (sentence_is ps from i)) closes so_far
+
+pub open_at : (read : List Declaration) (ps : List Piece) (from i : ℕ) (all : List meant.Piece) (b : Bool)
+    → IsDotAt (take (length ps - from) (drop from ps)) (Some i) → from + (i + 1) ≡ length ps
+    → b ≡ is_close (pieces_in (take (from + i - from) (drop from ps))) → b ≡ false → BodySoFar read (pieces_in (drop from ps)) all → None ≡ body_in all
+open_at read ps from i all b dot end is closes so_far =
+    let found = dot_in ps from i dot in
+    body_open read (drop from ps) i no_piece all b found.0 found.1 (found.2 no_piece) (nothing_behind ps from i end)
+    (is ∙ ap (λ (xs : List Piece). is_close (pieces_in xs)) (sentence_is ps from i)) closes so_far
+
+pub fails_at : (read : List Declaration) (ps : List Piece) (from i : ℕ) (all : List meant.Piece)
+    → IsDotAt (take (length ps - from) (drop from ps)) (Some i) → (from + (i + 1) ≡ length ps → ⊥)
+    → None ≡ declaration_of (pieces_in (take (from + i - from) (drop from ps))) → BodySoFar read (pieces_in (drop from ps)) all → None ≡ body_in all
+fails_at read ps from i all dot more is so_far =
+    let found = dot_in ps from i dot in
+    body_fails read (drop from ps) i no_piece all found.0 found.1 (found.2 no_piece) (something_behind ps from i found.0 more)
+    (is ∙ ap (λ (xs : List Piece). declaration_of (pieces_in xs)) (sentence_is ps from i)) so_far
+
+pub goes_on_at : (read : List Declaration) (ps : List Piece) (from i : ℕ) (all : List meant.Piece) (first : Declaration)
+    → IsDotAt (take (length ps - from) (drop from ps)) (Some i) → (from + (i + 1) ≡ length ps → ⊥)
+    → Some first ≡ declaration_of (pieces_in (take (from + i - from) (drop from ps))) → BodySoFar read (pieces_in (drop from ps)) all
+    → BodySoFar (read ++ (first ∷ [])) (pieces_in (drop (from + (i + 1)) ps)) all
+goes_on_at read ps from i all first dot more is so_far =
+    let found = dot_in ps from i dot in
+    subst (λ (xs : List Piece). BodySoFar (read ++ (first ∷ [])) (pieces_in xs) all) (drop-drop (i + 1) from ps)
+    (body_goes_on read (drop from ps) i no_piece all first found.0 found.1 (found.2 no_piece) (something_behind ps from i found.0 more)
+      (is ∙ ap (λ (xs : List Piece). declaration_of (pieces_in xs)) (sentence_is ps from i)) so_far)
+
+pub end_at : (read : List Declaration) (ps : List Piece) (from : ℕ) (all : List meant.Piece)
+    → IsDotAt (take (length ps - from) (drop from ps)) None → BodySoFar read (pieces_in (drop from ps)) all → None ≡ body_in all
+end_at read ps from all plain so_far =
+    body_end read (drop from ps) all (subst (λ (xs : List Piece). NoDot (pieces_in xs)) (tail_is ps from) plain) so_far

@@ -1,3 +1,4 @@
 pub mod PieceSteps
 pub mod Forms
 pub mod Bodies
+pub mod Texts

@@ -1,6 +1,7 @@
 //! A text of the first form as its declarations.
 ghost use Rattle.std.specs.Prelude.{◌≡◌, ◌<◌, length, IfOk, IfSome};
 ghost use Rattle.std.specs.Option.{option_map, option_and_then};
+ghost use Rattle.std.specs.Str as utf8;
 ghost use Rattle.output_meaning.specs.FirstForm as meant;
 ghost use Rattle.mmt_top.specs.Pieces.{pieces_in};
 ghost use Rattle.mmt_top.specs.Forms.{declarations_in, IsDotAt};
@@ -39,11 +40,11 @@ fn read_body<'t>(alloc: Global, pieces: &[Piece<'t>]) -> Result<Option<Vec<Decla
     ensures { IfOk result (λ body. option_map (λ v. declarations_in v.items) body ≡ option_and_then meant.body_of (meant.sentences_of (pieces_in pieces.now))) }
 {
     let mut found = Vec::new(alloc);
-    let mut rest = pieces;
-    while let Some(end) = dot_at(rest) {
-        let sentence = &rest[..end];
-        rest = &rest[end + 1..];
-        if rest.is_empty() {
+    let mut from = 0;
+    while let Some(length) = dot_at(&pieces[from..]) {
+        let sentence = &pieces[from..from + length];
+        from += length + 1;
+        if from == pieces.len() {
             if is_close(sentence) {
                 return Ok(Some(found));
             }
@@ -84,11 +85,17 @@ fn read_theory<'t>(alloc: Global, name: &[u8], pieces: &[Piece<'t>]) -> Result<O
     }
 }
 
+fn is_utf8(text: &[u8]) -> bool
+    ensures { result ≡ utf8.is_utf8 text.now }
+{
+    str::from_utf8(text).is_ok()
+}
+
 /// The declarations of a text of the first form, under this name. Two of them may have one name.
 pub(crate) fn spelled<'t>(alloc: Global, name: &[u8], text: &'t [u8]) -> Result<Option<Vec<Declaration<'t>>>, AllocError>
     ensures { IfOk result (λ theory. option_map (λ v. declarations_in v.items) theory ≡ meant.spelled name.now text.now) }
 {
-    if str::from_utf8(text).is_err() || !text.starts_with(b"%sig") {
+    if !(is_utf8(text) && text.starts_with(b"%sig")) {
         return Ok(None);
     }
     let pieces = pieces(alloc, text)?;
