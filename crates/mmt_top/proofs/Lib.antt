@@ -2,3 +2,4 @@ pub mod PieceSteps
 pub mod Forms
 pub mod Bodies
 pub mod Texts
+pub mod Levels

@@ -5,3 +5,4 @@ mod form;
 mod pieces;
 mod theory;
 mod tokens;
+mod verdict;
