@@ -1,0 +1,79 @@
+-- What a session does, turn by turn.
+use Rattle.std.specs.Prelude.{◌≡◌, ℕ, Bool, true, false, List, [], ◌++◌, length, IfSome, IsSome, Option, Some, None, is_none}
+use Rattle.std.specs.Option.{option_map}
+use Rattle.mmt_outside.specs.Bytes.{Taken, appended, flushed, TookPrefix}
+use Rattle.output_meaning.specs.Lines.{lines_of}
+use Rattle.output_meaning.specs.Commands as commands
+use Rattle.output_meaning.specs.Script as meant
+use Rattle.script_reader.specs.Reading.{Reading}
+use Rattle.script_reader.specs.declared.command.Command.{Command}
+use Rattle.script_reader.specs.declared.command.Command.TheVariants as spoken
+use Rattle.mmt_top.specs.declared.answer.Theory.{Theory}
+use Rattle.mmt_top.specs.declared.status.Status.{Status}
+use Rattle.mmt_top.specs.declared.status.Status.TheVariants.{Done, Refused, Usage, ReadFault, WriteFault, Memory, ScriptFault}
+
+-- Read: the text that was put, as the definitions have it.
+abbrev pub put_in : Option Theory → Option meant.Put
+put_in theory = option_map (λ t. record { name = t.name; text = t.text }) theory
+
+-- Read: the command that the reader gave, as the definitions have it.
+abbrev pub command_in : Command → commands.Command
+command_in (spoken.Put name text) = commands.put name text
+command_in (spoken.Drop name) = commands.blank
+command_in (spoken.Report name) = commands.report name
+command_in spoken.Check = commands.blank
+command_in (spoken.Flat name) = commands.blank
+command_in (spoken.Carry view text) = commands.blank
+command_in spoken.Log = commands.blank
+command_in spoken.Blank = commands.blank
+command_in spoken.End = commands.blank
+
+-- Read: the items of the bytes to come.
+abbrev pub items_to_come : Reading → List ℕ → List meant.Item
+items_to_come reading bytes = meant.items_of reading.line reading.may_put (lines_of bytes)
+
+-- Read: the output of the bytes to come.
+abbrev pub output_to_come : Option Theory → Reading → List ℕ → List ℕ
+output_to_come theory reading bytes = meant.output_from (put_in theory) (items_to_come reading bytes)
+
+-- Read: some bytes were written, and what is still to come is what follows them.
+pub record GoesOn (before now : Option Taken) (bytes : List ℕ) (theory next : Option Theory) (reading later : Reading) (rest : List ℕ) : Type 0 where
+  pub written : List ℕ
+  pub took : now ≡ appended before written
+  pub output : output_to_come theory reading bytes ≡ written ++ output_to_come next later rest
+  pub faults : meant.has_fault (items_to_come reading bytes) ≡ meant.has_fault (items_to_come later rest)
+
+-- Read: how a session ends by a status, where this is the output and whether a line is at fault: at Done and at a script
+-- fault all of the output was written, and flushed; with any other status a first part of it was written.
+abbrev pub EndsAs : Status → Option Taken → Option Taken → List ℕ → Bool → Type 0
+EndsAs Done before now output fault = (fault ≡ false) × (now ≡ flushed (appended before output))
+EndsAs Refused before now output fault = ⊥
+EndsAs Usage before now output fault = ⊥
+EndsAs ReadFault before now output fault = TookPrefix before now output
+EndsAs WriteFault before now output fault = TookPrefix before now output
+EndsAs Memory before now output fault = TookPrefix before now output
+EndsAs ScriptFault before now output fault = (fault ≡ true) × (now ≡ flushed (appended before output))
+
+-- Read: where the sink tells it, all that it took is flushed.
+abbrev pub IsFlushed : Option Taken → Type 0
+IsFlushed now = IfSome now (λ taken. taken.flushed ≡ length taken.bytes)
+
+-- Read: with these statuses all is flushed.
+abbrev pub FlushesAt : Status → Option Taken → Type 0
+FlushesAt Done now = IsFlushed now
+FlushesAt Refused now = Unit {0}
+FlushesAt Usage now = Unit {0}
+FlushesAt ReadFault now = Unit {0}
+FlushesAt WriteFault now = Unit {0}
+FlushesAt Memory now = Unit {0}
+FlushesAt ScriptFault now = IsFlushed now
+
+-- Read: a session answers these statuses alone.
+abbrev pub IsSessionStatus : Status → Type 0
+IsSessionStatus Done = Unit {0}
+IsSessionStatus Refused = ⊥
+IsSessionStatus Usage = ⊥
+IsSessionStatus ReadFault = Unit {0}
+IsSessionStatus WriteFault = Unit {0}
+IsSessionStatus Memory = Unit {0}
+IsSessionStatus ScriptFault = Unit {0}
