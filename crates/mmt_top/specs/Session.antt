@@ -5,7 +5,10 @@ use Rattle.mmt_outside.specs.Bytes.{Taken, appended, flushed, TookPrefix}
 use Rattle.output_meaning.specs.Lines.{lines_of}
 use Rattle.output_meaning.specs.Commands as commands
 use Rattle.output_meaning.specs.Script as meant
+use Rattle.output_meaning.specs.Printed.{bad_line, unended_line}
 use Rattle.script_reader.specs.Reading.{Reading}
+use Rattle.script_reader.specs.declared.fault.ScriptFault.{ScriptFault as Fault}
+use Rattle.script_reader.specs.declared.fault.ScriptFault.TheVariants.{Bad, Unended, Failed, Spent, Memory as OutOfMemory}
 use Rattle.script_reader.specs.declared.command.Command.{Command}
 use Rattle.script_reader.specs.declared.command.Command.TheVariants as spoken
 use Rattle.mmt_top.specs.declared.answer.Theory.{Theory}
@@ -77,3 +80,20 @@ IsSessionStatus ReadFault = Unit {0}
 IsSessionStatus WriteFault = Unit {0}
 IsSessionStatus Memory = Unit {0}
 IsSessionStatus ScriptFault = Unit {0}
+
+-- Read: a command was answered: its lines were written, and what was put is what the command leaves; or a first part of
+-- its lines was written, and the session ends.
+abbrev pub SpokenTells : Option Status → Option Taken → Option Taken → Option meant.Put → Option meant.Put → commands.Command → Type 0
+SpokenTells None before now theory next command =
+    (now ≡ appended before (meant.command_lines theory command)) × (next ≡ meant.put_after theory command)
+SpokenTells (Some status) before now theory next command =
+    EndsAs status before now (meant.command_lines theory command) false × IsSessionStatus status × (status ≡ Done → ⊥)
+
+-- Read: how a session ends after an error of the script: the line of the fault is written; a failed source or want of
+-- memory writes nothing.
+abbrev pub FaultTells : Fault → Status → Option Taken → Option Taken → Type 0
+FaultTells (Bad line) status before now = EndsAs status before now (bad_line line) true
+FaultTells (Unended line) status before now = EndsAs status before now (unended_line line) true
+FaultTells Failed status before now = (status ≡ ReadFault) × (now ≡ before)
+FaultTells Spent status before now = ⊥
+FaultTells OutOfMemory status before now = (status ≡ Memory) × (now ≡ before)

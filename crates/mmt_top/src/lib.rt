@@ -5,6 +5,7 @@ mod answer;
 mod form;
 mod lines;
 mod pieces;
+mod session;
 mod status;
 mod theory;
 mod tokens;

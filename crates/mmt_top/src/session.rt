@@ -1,0 +1,89 @@
+//! A script that is played from a source to a sink.
+ghost use Rattle.std.specs.Prelude.{◌≡◌, ◌≤◌, ◌++◌, true, false, [], IfSome, IfNone, IsNone};
+ghost use Rattle.mmt_outside.specs.Bytes.{Taken, appended, flushed, TookPrefix};
+ghost use Rattle.mmt_outside.specs.Faults.{Rose};
+ghost use Rattle.output_meaning.specs.Script as meant;
+ghost use Rattle.script_reader.specs.Answers.{IsGiven};
+ghost use Rattle.script_reader.specs.Reading.{to_come};
+ghost use Rattle.mmt_top.specs.Session.{put_in, command_in, items_to_come, output_to_come, GoesOn, EndsAs, FlushesAt, IsSessionStatus, SpokenTells, FaultTells};
+
+use crate::answer::{Theory, answer};
+use crate::lines::{bad_line, unended_line};
+use crate::status::Status;
+use mmt_outside::{Sink, Source, write_all};
+use script_reader::{Command, Script, ScriptFault};
+use std::alloc::Global;
+use std::sync::Wait;
+
+/// Flushes at the end of the script.
+fn finish<K: Sink>(sink: &mut K) -> Status
+    ensures end { EndsAs result (K.taken sink.old) (K.taken sink.new) [] false }
+    ensures flush { FlushesAt result (K.taken sink.new) }
+    ensures status { IsSessionStatus result }
+    ensures later { K.faults sink.old ≤ K.faults sink.new }
+    ensures write { result ≡ Status.WriteFault → Rose (K.faults sink.old) (K.faults sink.new) }
+    ensures read { result ≡ Status.ReadFault → ⊥ }
+{
+    match sink.flush() {
+        Ok(()) => Status::Done,
+        Err(_) => Status::WriteFault,
+    }
+}
+
+/// Writes the lines of a command. A status is the end of the session.
+fn speak<K: Sink>(alloc: Global, theory: &mut Option<Theory>, sink: &mut K, command: Command) -> Option<Status>
+    requires { IsGiven command }
+    ensures spoken { SpokenTells result (K.taken sink.old) (K.taken sink.new) (put_in theory.old) (put_in theory.new) (command_in command) }
+    ensures later { K.faults sink.old ≤ K.faults sink.new }
+    ensures write { IfSome result (λ status. status ≡ Status.WriteFault → Rose (K.faults sink.old) (K.faults sink.new)) }
+    ensures read { IfSome result (λ status. status ≡ Status.ReadFault → ⊥) }
+{
+    let Ok(lines) = answer(alloc, theory, command) else {
+        return Some(Status::Memory);
+    };
+    match write_all(sink, &lines) {
+        Ok(()) => None,
+        Err(_) => Some(Status::WriteFault),
+    }
+}
+
+/// Writes the line of a fault of the script, and flushes.
+fn write_fault<K: Sink>(sink: &mut K, line: &[u8]) -> Status
+    ensures end { EndsAs result (K.taken sink.old) (K.taken sink.new) line.now true }
+    ensures flush { FlushesAt result (K.taken sink.new) }
+    ensures status { IsSessionStatus result }
+    ensures later { K.faults sink.old ≤ K.faults sink.new }
+    ensures write { result ≡ Status.WriteFault → Rose (K.faults sink.old) (K.faults sink.new) }
+    ensures read { result ≡ Status.ReadFault → ⊥ }
+{
+    if write_all(sink, line).is_err() {
+        return Status::WriteFault;
+    }
+    match sink.flush() {
+        Ok(()) => Status::ScriptFault,
+        Err(_) => Status::WriteFault,
+    }
+}
+
+/// Ends the session after an error of the script.
+fn end_by<K: Sink>(alloc: Global, sink: &mut K, fault: ScriptFault) -> Status
+    requires { fault ≡ ScriptFault.Spent → ⊥ }
+    ensures end { FaultTells fault result (K.taken sink.old) (K.taken sink.new) }
+    ensures flush { FlushesAt result (K.taken sink.new) }
+    ensures status { IsSessionStatus result }
+    ensures later { K.faults sink.old ≤ K.faults sink.new }
+    ensures write { result ≡ Status.WriteFault → Rose (K.faults sink.old) (K.faults sink.new) }
+    ensures read { result ≡ Status.ReadFault → fault ≡ ScriptFault.Failed }
+{
+    let line = match fault {
+        ScriptFault::Bad { line } => bad_line(alloc, line),
+        ScriptFault::Unended { line } => unended_line(alloc, line),
+        ScriptFault::Failed => return Status::ReadFault,
+        ScriptFault::Spent => unreachable!(),
+        ScriptFault::Memory => return Status::Memory,
+    };
+    match line {
+        Ok(line) => write_fault(sink, &line),
+        Err(_) => Status::Memory,
+    }
+}
