@@ -3,3 +3,4 @@ pub mod Forms
 pub mod Bodies
 pub mod Texts
 pub mod Levels
+pub mod Turns

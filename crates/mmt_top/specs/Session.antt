@@ -36,11 +36,11 @@ abbrev pub items_to_come : Reading → List ℕ → List meant.Item
 items_to_come reading bytes = meant.items_of reading.line reading.may_put (lines_of bytes)
 
 -- Read: the output of the bytes to come.
-abbrev pub output_to_come : Option Theory → Reading → List ℕ → List ℕ
-output_to_come theory reading bytes = meant.output_from (put_in theory) (items_to_come reading bytes)
+abbrev pub output_to_come : Option meant.Put → Reading → List ℕ → List ℕ
+output_to_come theory reading bytes = meant.output_from theory (items_to_come reading bytes)
 
 -- Read: some bytes were written, and what is still to come is what follows them.
-pub record GoesOn (before now : Option Taken) (bytes : List ℕ) (theory next : Option Theory) (reading later : Reading) (rest : List ℕ) : Type 0 where
+pub record GoesOn (before now : Option Taken) (bytes : List ℕ) (theory next : Option meant.Put) (reading later : Reading) (rest : List ℕ) : Type 0 where
   pub written : List ℕ
   pub took : now ≡ appended before written
   pub output : output_to_come theory reading bytes ≡ written ++ output_to_come next later rest
@@ -87,7 +87,7 @@ abbrev pub SpokenTells : Option Status → Option Taken → Option Taken → Opt
 SpokenTells None before now theory next command =
     (now ≡ appended before (meant.command_lines theory command)) × (next ≡ meant.put_after theory command)
 SpokenTells (Some status) before now theory next command =
-    EndsAs status before now (meant.command_lines theory command) false × IsSessionStatus status × (status ≡ Done → ⊥)
+    EndsAs status before now (meant.command_lines theory command) false × (status ≡ Done → ⊥)
 
 -- Read: how a session ends after an error of the script: the line of the fault is written; a failed source or want of
 -- memory writes nothing.
@@ -97,3 +97,11 @@ FaultTells (Unended line) status before now = EndsAs status before now (unended_
 FaultTells Failed status before now = (status ≡ ReadFault) × (now ≡ before)
 FaultTells Spent status before now = ⊥
 FaultTells OutOfMemory status before now = (status ≡ Memory) × (now ≡ before)
+
+-- Read: what a turn did: the session goes on, or ends.
+abbrev pub TurnTells : Option Status → Option Taken → Option Taken → List ℕ → Option (List ℕ) → Option meant.Put → Option meant.Put → Reading → Reading → Type 0
+TurnTells None before now bytes after theory next reading later =
+    IfSome after (λ rest. GoesOn before now bytes theory next reading later rest) × IsSome after
+TurnTells (Some status) before now bytes after theory next reading later =
+    EndsAs status before now (output_to_come theory reading bytes) (meant.has_fault (items_to_come reading bytes))
+    × (status ≡ Done → IfSome after (λ rest. rest ≡ []))

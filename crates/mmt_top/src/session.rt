@@ -5,7 +5,7 @@ ghost use Rattle.mmt_outside.specs.Faults.{Rose};
 ghost use Rattle.output_meaning.specs.Script as meant;
 ghost use Rattle.script_reader.specs.Answers.{IsGiven};
 ghost use Rattle.script_reader.specs.Reading.{to_come};
-ghost use Rattle.mmt_top.specs.Session.{put_in, command_in, items_to_come, output_to_come, GoesOn, EndsAs, FlushesAt, IsSessionStatus, SpokenTells, FaultTells};
+ghost use Rattle.mmt_top.specs.Session.{put_in, command_in, items_to_come, output_to_come, GoesOn, EndsAs, FlushesAt, IsSessionStatus, SpokenTells, FaultTells, TurnTells};
 
 use crate::answer::{Theory, answer};
 use crate::lines::{bad_line, unended_line};
@@ -34,6 +34,8 @@ fn finish<K: Sink>(sink: &mut K) -> Status
 fn speak<K: Sink>(alloc: Global, theory: &mut Option<Theory>, sink: &mut K, command: Command) -> Option<Status>
     requires { IsGiven command }
     ensures spoken { SpokenTells result (K.taken sink.old) (K.taken sink.new) (put_in theory.old) (put_in theory.new) (command_in command) }
+    ensures status { IfSome result IsSessionStatus }
+    ensures flush { IfSome result (λ status. FlushesAt status (K.taken sink.new)) }
     ensures later { K.faults sink.old ≤ K.faults sink.new }
     ensures write { IfSome result (λ status. status ≡ Status.WriteFault → Rose (K.faults sink.old) (K.faults sink.new)) }
     ensures read { IfSome result (λ status. status ≡ Status.ReadFault → ⊥) }
@@ -85,5 +87,33 @@ fn end_by<K: Sink>(alloc: Global, sink: &mut K, fault: ScriptFault) -> Status
     match line {
         Ok(line) => write_fault(sink, &line),
         Err(_) => Status::Memory,
+    }
+}
+
+/// One command of the script. A status is the end of the session.
+fn turn<S: Source, K: Sink>(
+    alloc: Global,
+    script: &mut Script,
+    theory: &mut Option<Theory>,
+    source: &mut S,
+    sink: &mut K,
+) -> Option<Status>
+    requires { script.old.is_spent ≡ false }
+    ensures tells { IfSome (to_come script.old (S.left source.old)) (λ bytes. TurnTells result (K.taken sink.old) (K.taken sink.new)
+        bytes (to_come script.new (S.left source.new)) (put_in theory.old) (put_in theory.new) script.old script.new) }
+    ensures on { IsNone result → script.new.is_spent ≡ false }
+    ensures status { IfSome result IsSessionStatus }
+    ensures flush { IfSome result (λ status. FlushesAt status (K.taken sink.new)) }
+    ensures source_later { S.faults source.old ≤ S.faults source.new }
+    ensures sink_later { K.faults sink.old ≤ K.faults sink.new }
+    ensures read { IfSome result (λ status. status ≡ Status.ReadFault → Rose (S.faults source.old) (S.faults source.new)) }
+    ensures write { IfSome result (λ status. status ≡ Status.WriteFault → Rose (K.faults sink.old) (K.faults sink.new)) }
+{
+    match script.next_command(alloc, source) {
+        Ok(command) => match command {
+            Command::End => Some(finish(sink)),
+            command => speak(alloc, theory, sink, command),
+        },
+        Err(fault) => Some(end_by(alloc, sink, fault)),
     }
 }
