@@ -4,3 +4,4 @@ pub mod Bodies
 pub mod Texts
 pub mod Levels
 pub mod Turns
+pub mod Sessions

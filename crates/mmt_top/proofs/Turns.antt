@@ -149,14 +149,14 @@ no_items theory = (refl, refl)
 
 -- a turn that found the end
 pub turn_ended : (status : Status) (reading later : Reading) (bytes : List ℕ) (after : Option (List ℕ)) (theory next : Option meant.Put) (before now : Option Taken)
-    → (commands.next_of reading.may_put (lines_of bytes) ≡ commands.ends) × IfSome after (λ rest. rest ≡ []) → EndsAs status before now [] false
+    → (commands.next_of reading.may_put (lines_of bytes) ≡ commands.ends) × IfSome after (λ rest. rest ≡ []) → IsSome after → EndsAs status before now [] false
     → TurnTells (Some status) before now bytes after theory next reading later
-turn_ended status reading later bytes after theory next before now is ends =
+turn_ended status reading later bytes after theory next before now is told ends =
     (subst (λ (items : List meant.Item). EndsAs status before now (meant.output_from theory items) (meant.has_fault items))
       (sym (items_by_next reading bytes commands.ends is.0))
       (subst (λ (output : List ℕ). EndsAs status before now output (meant.has_fault [])) (sym (no_items theory).0)
         (subst (λ (fault : Bool). EndsAs status before now [] fault) (sym (no_items theory).1) ends)),
-      λ done. is.1)
+      λ done. (is.1, told))
 
 -- ---- a fault
 
@@ -245,10 +245,11 @@ told_spoken result reading later (Some bytes) after theory next before now comma
 pub told_ended : (status : Status) (reading later : Reading) (come after : Option (List ℕ)) (theory next : Option meant.Put) (before now : Option Taken)
     → reading.is_spent ≡ false
     → IfSome come (λ bytes. reading.is_spent ≡ false → (commands.next_of reading.may_put (lines_of bytes) ≡ commands.ends) × IfSome after (λ rest. rest ≡ []))
-    → EndsAs status before now [] false
+    → StaysTold come after → EndsAs status before now [] false
     → IfSome come (λ bytes. TurnTells (Some status) before now bytes after theory next reading later)
-told_ended status reading later None after theory next before now fresh is ends = tt
-told_ended status reading later (Some bytes) after theory next before now fresh is ends = turn_ended status reading later bytes after theory next before now (is fresh) ends
+told_ended status reading later None after theory next before now fresh is told ends = tt
+told_ended status reading later (Some bytes) after theory next before now fresh is told ends =
+    turn_ended status reading later bytes after theory next before now (is fresh) (told refl) ends
 
 pub told_faulted : (fault : Fault) (status : Status) (reading later : Reading) (come after : Option (List ℕ)) (theory next : Option meant.Put) (before now : Option Taken)
     → reading.is_spent ≡ false

@@ -65,7 +65,7 @@ IsFlushed now = IfSome now (λ taken. taken.flushed ≡ length taken.bytes)
 abbrev pub FlushesAt : Status → Option Taken → Type 0
 FlushesAt Done now = IsFlushed now
 FlushesAt Refused now = Unit {0}
-FlushesAt Usage now = Unit {0}
+FlushesAt Usage now = IsFlushed now
 FlushesAt ReadFault now = Unit {0}
 FlushesAt WriteFault now = Unit {0}
 FlushesAt Memory now = Unit {0}
@@ -104,4 +104,4 @@ TurnTells None before now bytes after theory next reading later =
     IfSome after (λ rest. GoesOn before now bytes theory next reading later rest) × IsSome after
 TurnTells (Some status) before now bytes after theory next reading later =
     EndsAs status before now (output_to_come theory reading bytes) (meant.has_fault (items_to_come reading bytes))
-    × (status ≡ Done → IfSome after (λ rest. rest ≡ []))
+    × (status ≡ Done → IfSome after (λ rest. rest ≡ []) × IsSome after)

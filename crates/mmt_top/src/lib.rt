@@ -5,6 +5,7 @@ mod answer;
 mod form;
 mod lines;
 mod pieces;
+mod program;
 mod session;
 mod status;
 mod theory;
@@ -12,4 +13,5 @@ mod tokens;
 mod verdict;
 mod words;
 
+pub use program::run;
 pub use status::Status;

@@ -1,16 +1,16 @@
 //! A script that is played from a source to a sink.
-ghost use Rattle.std.specs.Prelude.{◌≡◌, ◌≤◌, ◌++◌, true, false, [], IfSome, IfNone, IsNone};
-ghost use Rattle.mmt_outside.specs.Bytes.{Taken, appended, flushed, TookPrefix};
-ghost use Rattle.mmt_outside.specs.Faults.{Rose};
-ghost use Rattle.output_meaning.specs.Script as meant;
+ghost use Rattle.std.specs.Prelude.{◌≡◌, ◌≤◌, true, false, [], Some, IfSome, IsNone, OnOk, OnErr};
+ghost use Rattle.mmt_outside.specs.Bytes.{appended, flushed, TookPrefix};
+ghost use Rattle.mmt_outside.specs.Faults.{Rose, HasCause};
+ghost use Rattle.output_meaning.specs.Script.{output_of, script_of, has_fault};
 ghost use Rattle.script_reader.specs.Answers.{IsGiven};
 ghost use Rattle.script_reader.specs.Reading.{to_come};
-ghost use Rattle.mmt_top.specs.Session.{put_in, command_in, items_to_come, output_to_come, GoesOn, EndsAs, FlushesAt, IsSessionStatus, SpokenTells, FaultTells, TurnTells};
+ghost use Rattle.mmt_top.specs.Session.{put_in, command_in, items_to_come, output_to_come, GoesOn, EndsAs, IsFlushed, FlushesAt, IsSessionStatus, SpokenTells, FaultTells, TurnTells};
 
 use crate::answer::{Theory, answer};
 use crate::lines::{bad_line, unended_line};
 use crate::status::Status;
-use mmt_outside::{Sink, Source, write_all};
+use mmt_outside::{Failed, Sink, Source, write_all};
 use script_reader::{Command, Script, ScriptFault};
 use std::alloc::Global;
 use std::sync::Wait;
@@ -49,6 +49,17 @@ fn speak<K: Sink>(alloc: Global, theory: &mut Option<Theory>, sink: &mut K, comm
     }
 }
 
+/// Writes the last line, and flushes.
+pub(crate) fn write_last<K: Sink>(sink: &mut K, line: &[u8]) -> Result<(), Failed>
+    ensures all { OnOk result (K.taken sink.new ≡ flushed (appended (K.taken sink.old) line.now)) }
+    ensures flush { OnOk result (IsFlushed (K.taken sink.new)) }
+    ensures failed { OnErr result (TookPrefix (K.taken sink.old) (K.taken sink.new) line.now) }
+    ensures cause { HasCause (K.faults sink.old) (K.faults sink.new) result }
+{
+    write_all(sink, line)?;
+    sink.flush()
+}
+
 /// Writes the line of a fault of the script, and flushes.
 fn write_fault<K: Sink>(sink: &mut K, line: &[u8]) -> Status
     ensures end { EndsAs result (K.taken sink.old) (K.taken sink.new) line.now true }
@@ -58,10 +69,7 @@ fn write_fault<K: Sink>(sink: &mut K, line: &[u8]) -> Status
     ensures write { result ≡ Status.WriteFault → Rose (K.faults sink.old) (K.faults sink.new) }
     ensures read { result ≡ Status.ReadFault → ⊥ }
 {
-    if write_all(sink, line).is_err() {
-        return Status::WriteFault;
-    }
-    match sink.flush() {
+    match write_last(sink, line) {
         Ok(()) => Status::ScriptFault,
         Err(_) => Status::WriteFault,
     }
@@ -116,4 +124,25 @@ fn turn<S: Source, K: Sink>(
         },
         Err(fault) => Some(end_by(alloc, sink, fault)),
     }
+}
+
+/// Plays the script on the source, from its first byte to its end.
+pub(crate) fn play<R: Wait, S: Source, K: Sink>(rt: &R, alloc: Global, source: &mut S, sink: &mut K) -> Status
+    ensures end { IfSome (S.left source.old) (λ bytes. EndsAs result (K.taken sink.old) (K.taken sink.new) (output_of bytes) (has_fault (script_of bytes))) }
+    ensures read_all { result ≡ Status.Done → IfSome (S.left source.old) (λ bytes. S.left source.new ≡ Some []) }
+    ensures status { IsSessionStatus result }
+    ensures flush { FlushesAt result (K.taken sink.new) }
+    ensures source_later { S.faults source.old ≤ S.faults source.new }
+    ensures sink_later { K.faults sink.old ≤ K.faults sink.new }
+    ensures read { result ≡ Status.ReadFault → Rose (S.faults source.old) (S.faults source.new) }
+    ensures write { result ≡ Status.WriteFault → Rose (K.faults sink.old) (K.faults sink.new) }
+{
+    let mut script = Script::new();
+    let mut theory = None;
+    for _ in rt.forever() {
+        if let Some(status) = turn(alloc, &mut script, &mut theory, source, sink) {
+            return status;
+        }
+    }
+    unreachable!()
 }

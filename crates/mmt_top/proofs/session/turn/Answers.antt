@@ -19,7 +19,7 @@ returns-in-End-clause-tells g c =
     (subst (λ (command : Command). IfSome (to_come c.args.script.now (g.S.Source.left c.args.source.now)) (λ bytes. c.args.script.now.is_spent ≡ false →
       IsNext command (commands.next_of c.args.script.now.may_put (lines_of bytes)) (lines_of bytes) (to_come c.next_command.new.self (g.S.Source.left c.next_command.new.source)) c.args.script.now.line c.next_command.new.self.line))
       c.in-End.is c.in-Ok.ensures.answer)
-    c.finish.ensures.end
+    c.in-Ok.ensures.told c.finish.ensures.end
 
 pub returns-in_default : goal.returns-in_default
 returns-in_default g c = record {
