@@ -21,17 +21,17 @@ BodySoFar read rest all = option_map (λ (ds : List Declaration). read ++ ds) (b
 
 pub BodySoFar-nil : (read : List Declaration) (all : List meant.Piece) → read ≡ [] → BodySoFar read all all
 BodySoFar-nil read all none = subst (λ (ds : List Declaration). BodySoFar ds all all) (sym none) (same (body_in all))
-    where
-      same : (o : Option (List Declaration)) → option_map (λ (ds : List Declaration). [] ++ ds) o ≡ o
-      same None = refl
-      same (Some ds) = refl
+  where
+    same : (o : Option (List Declaration)) → option_map (λ (ds : List Declaration). [] ++ ds) o ≡ o
+    same None = refl
+    same (Some ds) = refl
 
 pub NoDot-take_more : (xs : List Piece) (i : ℕ) (d : Piece) → i < length xs → NoDot (pieces_in (take i xs))
     → meant.is_text (codes ".") (piece_of (get_or xs i d)) ≡ false → NoDot (pieces_in (take (i + 1) xs))
 NoDot-take_more xs i d lt front other =
     subst (λ (ps : List Piece). NoDot (pieces_in ps)) (sym (take_more xs i d lt))
     (subst (λ (ps : List meant.Piece). NoDot ps) (sym (map-append piece_of (take i xs) (get_or xs i d ∷ [])))
-      (NoDot-append (pieces_in (take i xs)) (piece_of (get_or xs i d) ∷ []) front (other, tt)))
+    (NoDot-append (pieces_in (take i xs)) (piece_of (get_or xs i d) ∷ []) front (other, tt)))
 
 -- the pieces round a dot
 pub round : (xs : List Piece) (i : ℕ) (d : Piece) → i < length xs
@@ -51,7 +51,7 @@ body_last : (read : List Declaration) (xs : List Piece) (i : ℕ) (d : Piece) (a
 body_last read xs i d all lt plain dot none so_far =
     ap (λ (o : Option (List Declaration)). option_map (λ (ds : List Declaration). read ++ ds) o)
     (sym (ap (λ (ps : List meant.Piece). body_in ps) (round xs i d lt ∙ ap (λ (ps : List Piece). pieces_in (take i xs) ++ (piece_of (get_or xs i d) ∷ pieces_in ps)) none)
-      ∙ body_in-last (pieces_in (take i xs)) (piece_of (get_or xs i d)) plain dot))
+    ∙ body_in-last (pieces_in (take i xs)) (piece_of (get_or xs i d)) plain dot))
     ∙ so_far
 
 pub body_closes : (read : List Declaration) (xs : List Piece) (i : ℕ) (d : Piece) (all : List meant.Piece) (b : Bool) → i < length xs → NoDot (pieces_in (take i xs))
@@ -78,7 +78,7 @@ more_by (x ∷ xs) front dot some plain is = body_in-more front dot (piece_of x)
 body_more : (read : List Declaration) (xs : List Piece) (i : ℕ) (d : Piece) (all : List meant.Piece) → i < length xs → NoDot (pieces_in (take i xs))
     → meant.is_text (codes ".") (piece_of (get_or xs i d)) ≡ true → (drop (i + 1) xs ≡ [] → ⊥) → BodySoFar read (pieces_in xs) all
     → option_map (λ (ds : List Declaration). read ++ ds)
-      (option_and_then (λ (first : Declaration). option_map (λ (ds : List Declaration). first ∷ ds) (body_in (pieces_in (drop (i + 1) xs)))) (declaration_of (pieces_in (take i xs))))
+    (option_and_then (λ (first : Declaration). option_map (λ (ds : List Declaration). first ∷ ds) (body_in (pieces_in (drop (i + 1) xs)))) (declaration_of (pieces_in (take i xs))))
     ≡ body_in all
 body_more read xs i d all lt plain dot some so_far =
     ap (λ (o : Option (List Declaration)). option_map (λ (ds : List Declaration). read ++ ds) o)
@@ -90,7 +90,7 @@ pub body_fails : (read : List Declaration) (xs : List Piece) (i : ℕ) (d : Piec
     → BodySoFar read (pieces_in xs) all → None ≡ body_in all
 body_fails read xs i d all lt plain dot some fails so_far =
     ap (λ (o : Option Declaration). option_map (λ (ds : List Declaration). read ++ ds)
-      (option_and_then (λ (first : Declaration). option_map (λ (ds : List Declaration). first ∷ ds) (body_in (pieces_in (drop (i + 1) xs)))) o)) fails
+    (option_and_then (λ (first : Declaration). option_map (λ (ds : List Declaration). first ∷ ds) (body_in (pieces_in (drop (i + 1) xs)))) o)) fails
     ∙ body_more read xs i d all lt plain dot some so_far
 
 with_front : (first : Declaration) (read : List Declaration) (o : Option (List Declaration))
@@ -105,7 +105,7 @@ pub body_goes_on : (read : List Declaration) (xs : List Piece) (i : ℕ) (d : Pi
 body_goes_on read xs i d all first lt plain dot some is so_far =
     with_front first read (body_in (pieces_in (drop (i + 1) xs)))
     ∙ ap (λ (o : Option Declaration). option_map (λ (ds : List Declaration). read ++ ds)
-      (option_and_then (λ (f : Declaration). option_map (λ (ds : List Declaration). f ∷ ds) (body_in (pieces_in (drop (i + 1) xs)))) o)) is
+    (option_and_then (λ (f : Declaration). option_map (λ (ds : List Declaration). f ∷ ds) (body_in (pieces_in (drop (i + 1) xs)))) o)) is
     ∙ body_more read xs i d all lt plain dot some so_far
 
 -- a piece for the places past the end
@@ -159,7 +159,7 @@ goes_on_at read ps from i all first dot more is so_far =
     let found = dot_in ps from i dot in
     subst (λ (xs : List Piece). BodySoFar (read ++ (first ∷ [])) (pieces_in xs) all) (drop-drop (i + 1) from ps)
     (body_goes_on read (drop from ps) i no_piece all first found.0 found.1 (found.2 no_piece) (something_behind ps from i found.0 more)
-      (is ∙ ap (λ (xs : List Piece). declaration_of (pieces_in xs)) (sentence_is ps from i)) so_far)
+    (is ∙ ap (λ (xs : List Piece). declaration_of (pieces_in xs)) (sentence_is ps from i)) so_far)
 
 pub end_at : (read : List Declaration) (ps : List Piece) (from : ℕ) (all : List meant.Piece)
     → IsDotAt (take (length ps - from) (drop from ps)) None → BodySoFar read (pieces_in (drop from ps)) all → None ≡ body_in all

@@ -21,7 +21,7 @@ alone_step xs i d r lt e =
     ap (λ (ps : List Piece). meant.stand_alone (pieces_in ps)) (drop-cons xs i d lt)
     ∙ ap (λ (n : ℕ). not (meant.is_joined (piece_of (get_or xs i d)) (pieces_in (drop n xs))) && meant.stand_alone (pieces_in (drop n xs))) (sym (add-one i))
     ∙ ap (λ (b : Bool). not b && meant.stand_alone (pieces_in (drop (i + 1) xs)))
-      (sym (e ∙ ap (λ (ps : List Piece). meant.is_joined (piece_of (get_or xs i d)) (pieces_in ps)) (tail_is xs (i + 1))))
+    (sym (e ∙ ap (λ (ps : List Piece). meant.is_joined (piece_of (get_or xs i d)) (pieces_in ps)) (tail_is xs (i + 1))))
 
 pub alone_end : (xs : List Piece) (i : ℕ) → length xs ≤ i → meant.stand_alone (pieces_in (drop i xs)) ≡ true
 unfolding meant.stand_alone
@@ -32,7 +32,7 @@ alone_end xs i past = rw (drop_of_length-le xs past) refl
 pub names_two : (xs : List Piece) (d e : Piece) → 2 ≤ length xs
     → meant_form.names_of (pieces_in xs)
     ≡ (if meant_form.is_name_piece (piece_of (get_or xs 0 d)) && meant.is_text (codes "->") (piece_of (get_or xs 1 e))
-      then option_map (λ (names : List meant.Piece). piece_of (get_or xs 0 d) ∷ names) (meant_form.names_of (pieces_in (drop 2 xs))) else None)
+    then option_map (λ (names : List meant.Piece). piece_of (get_or xs 0 d) ∷ names) (meant_form.names_of (pieces_in (drop 2 xs))) else None)
 unfolding meant_form.names_of
 names_two [] d e two = absurd (omega arith)
 names_two (x ∷ []) d e two = absurd (omega arith)
@@ -76,9 +76,9 @@ pub names_go_on : (xs : List Piece) (d e : Piece) (read : List meant.Piece) (all
 names_go_on xs d e read all b two is more so_far =
     option_map-map (piece_of (get_or xs 0 d)) read (meant_form.names_of (pieces_in (drop 2 xs)))
     ∙ ap (λ (o : Option (List meant.Piece)). option_map (λ (names : List meant.Piece). read ++ names) o) (sym some) ∙ so_far
-    where
-      some : meant_form.names_of (pieces_in xs) ≡ option_map (λ (names : List meant.Piece). piece_of (get_or xs 0 d) ∷ names) (meant_form.names_of (pieces_in (drop 2 xs)))
-      some = rw (names_two xs d e two, sym is ∙ more) refl
+  where
+    some : meant_form.names_of (pieces_in xs) ≡ option_map (λ (names : List meant.Piece). piece_of (get_or xs 0 d) ∷ names) (meant_form.names_of (pieces_in (drop 2 xs)))
+    some = rw (names_two xs d e two, sym is ∙ more) refl
 
 pub name_yes : (xs : List Piece) (d : Piece) (b : Bool) → length xs ≡ 1 → b ≡ meant_form.is_name_piece (piece_of (get_or xs 0 d)) → b ≡ true
     → Some (piece_of (get_or xs 0 d) ∷ []) ≡ meant_form.names_of (pieces_in xs)

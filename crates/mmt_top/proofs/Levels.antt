@@ -56,7 +56,7 @@ next_is : (declarations : List Declaration) (i : ℕ) (item : Declaration) → i
     → declarations_in (drop i declarations) ≡ declaration_in item ∷ declarations_in (drop (i + 1) declarations)
 next_is declarations i item lt is =
     ap (λ (ds : List Declaration). declarations_in ds) (drop-cons declarations i item lt ∙ ap (λ (n : ℕ). get_or declarations i item ∷ drop n declarations) (sym (add-one i))
-      ∙ ap (λ (d : Declaration). d ∷ drop (i + 1) declarations) (sym is))
+    ∙ ap (λ (d : Declaration). d ∷ drop (i + 1) declarations) (sym is))
 
 -- a name that is there already
 pub tested_twice : (levels : List ℕ → Option meant.Level) (fault : Option meant.Refusal) (declarations : List Declaration) (i : ℕ) (item : Declaration)
@@ -86,14 +86,14 @@ tested_more levels new fault found declarations i item lt is tested fresh faults
   table = declared-more levels new tested.above (declaration_in item) tested.table grows;
   distinct =
       ap (λ (b : Bool). b && meant.are_distinct (declaration_in item ∷ tested.above) (declarations_in (drop (i + 1) declarations)))
-        (sym (ap (λ (o : Option meant.Level). is_none o) (sym (tested.table (piece_of item.name).bytes)) ∙ fresh))
+      (sym (ap (λ (o : Option meant.Level). is_none o) (sym (tested.table (piece_of item.name).bytes)) ∙ fresh))
       ∙ sym (ap (λ (ds : List form.Declaration). meant.are_distinct tested.above ds) (next_is declarations i item lt is)) ∙ tested.distinct;
   faults =
       ap (λ (o : Option meant.Refusal). meant.or_else o (meant.first_fault (declaration_in item ∷ tested.above) (declarations_in (drop (i + 1) declarations))))
-        (faults ∙ ap (λ (o : Option meant.Refusal). meant.or_else fault o)
-          (row_fault-by levels tested.above tested.table (piece_of item.name).bytes (meant.names_in (row_in item.row))))
+      (faults ∙ ap (λ (o : Option meant.Refusal). meant.or_else fault o)
+      (row_fault-by levels tested.above tested.table (piece_of item.name).bytes (meant.names_in (row_in item.row))))
       ∙ or_else-assoc fault (meant.row_fault tested.above (piece_of item.name).bytes (meant.names_in (row_in item.row)))
-        (meant.first_fault (declaration_in item ∷ tested.above) (declarations_in (drop (i + 1) declarations)))
+      (meant.first_fault (declaration_in item ∷ tested.above) (declarations_in (drop (i + 1) declarations)))
       ∙ ap (λ (ds : List form.Declaration). meant.or_else fault (meant.first_fault tested.above ds)) (sym (next_is declarations i item lt is)) ∙ tested.faults;
 }
 
@@ -107,9 +107,10 @@ pub tested_all : (levels : List ℕ → Option meant.Level) (fault : Option mean
     → (meant.are_distinct [] (declarations_in declarations) ≡ true) × (meant.first_fault [] (declarations_in declarations) ≡ fault)
 unfolding meant.are_distinct meant.first_fault
 tested_all levels fault declarations i past tested =
-    let none : drop i declarations ≡ [] = drop_of_length-le declarations past in
-    (sym tested.distinct ∙ ap (λ (ds : List Declaration). meant.are_distinct tested.above (declarations_in ds)) none,
-      sym tested.faults ∙ ap (λ (ds : List Declaration). meant.or_else fault (meant.first_fault tested.above (declarations_in ds))) none ∙ or_else-none fault)
+    let none : drop i declarations ≡ [] = drop_of_length-le declarations past in (
+      sym tested.distinct ∙ ap (λ (ds : List Declaration). meant.are_distinct tested.above (declarations_in ds)) none,
+      sym tested.faults ∙ ap (λ (ds : List Declaration). meant.or_else fault (meant.first_fault tested.above (declarations_in ds))) none ∙ or_else-none fault,
+    )
 
 pub found_some : (o : Option Level) (b : Bool) → b ≡ is_some o → b ≡ true → is_none (option_map level_in o) ≡ false
 found_some None b is holds = absurd cc

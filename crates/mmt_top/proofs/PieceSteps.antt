@@ -53,23 +53,25 @@ begins_run text at n lt white special within run longest =
       within = omega (arith, length-drop at text);
       first = ap (λ (bs : List ℕ). meant.pieces_from at bs) (sym (take-append-drop n (drop at text)))
           ∙ run_begins at (take n (drop at text)) (drop n (drop at text)) (omega arith) (AllIdentifier-from_list_all (take n (drop at text)) run)
-            (ends_after (drop at text) n longest)
+          (ends_after (drop at text) n longest)
           ∙ ap (λ (m : ℕ). record { at = at; bytes = take n (drop at text) } ∷ meant.pieces_from (at + m) (drop n (drop at text))) len
           ∙ ap (λ (bs : List ℕ). record { at = at; bytes = take n (drop at text) } ∷ meant.pieces_from (at + n) bs) (drop-drop n at text)
           ∙ ap (λ (m : ℕ). record { at = at; bytes = take n (drop at text) } ∷ meant.pieces_from (at + m) (drop (at + m) text)) (sym len);
     }
-    where
-      at_least_one : (m : ℕ) → (m ≡ 0 → ⊥) → 0 < m
-      at_least_one zero h = absurd (h refl)
-      at_least_one (suc m) h = omega arith
-      identifier_first : n ≡ 0 → is_identifier_byte (get_or text at 0) ≡ false
-      identifier_first e =
-          let first : get_or (drop at text) 0 0 ≡ get_or text at 0 = ap (λ (bs : List ℕ). get_or bs 0 0) (drop-cons text at 0 lt) in
-          let more : 0 < length (drop at text) = omega (arith, length-drop at text) in
-          let other : is_identifier_byte (get_or (drop at text) n 0) ≡ false = longest (omega arith) in
-          ap (λ (b : ℕ). is_identifier_byte b) (sym first ∙ ap (λ (m : ℕ). get_or (drop at text) m 0) (sym e)) ∙ other
-      clash : is_identifier_byte (get_or text at 0) ≡ false → ⊥
-      clash other = grind (arith, white, special, other)
+  where
+    at_least_one : (m : ℕ) → (m ≡ 0 → ⊥) → 0 < m
+    at_least_one zero h = absurd (h refl)
+    at_least_one (suc m) h = omega arith
+
+    identifier_first : n ≡ 0 → is_identifier_byte (get_or text at 0) ≡ false
+    identifier_first e =
+        let first : get_or (drop at text) 0 0 ≡ get_or text at 0 = ap (λ (bs : List ℕ). get_or bs 0 0) (drop-cons text at 0 lt) in
+        let more : 0 < length (drop at text) = omega (arith, length-drop at text) in
+        let other : is_identifier_byte (get_or (drop at text) n 0) ≡ false = longest (omega arith) in
+        ap (λ (b : ℕ). is_identifier_byte b) (sym first ∙ ap (λ (m : ℕ). get_or (drop at text) m 0) (sym e)) ∙ other
+
+    clash : is_identifier_byte (get_or text at 0) ≡ false → ⊥
+    clash other = grind (arith, white, special, other)
 
 pub map-append : {A B : Type 0} (f : A → B) (xs ys : List A) → map f (xs ++ ys) ≡ map f xs ++ map f ys
 map-append f [] ys = refl
@@ -93,5 +95,5 @@ pub begins_run-in : (text rest : List ℕ) (at n : ℕ) → drop at text ≡ res
     → (n < length rest → is_identifier_byte (get_or rest n 0) ≡ false) → BeginsWith text at (record { at = at; bytes = take n rest })
 begins_run-in text rest at n same lt white special within run longest =
     subst (λ (bs : List ℕ). n ≤ length bs → list_all is_identifier_byte (take n bs) ≡ true
-        → (n < length bs → is_identifier_byte (get_or bs n 0) ≡ false) → BeginsWith text at (record { at = at; bytes = take n bs })) same
+    → (n < length bs → is_identifier_byte (get_or bs n 0) ≡ false) → BeginsWith text at (record { at = at; bytes = take n bs })) same
     (λ a b c. begins_run text at n lt white special a b c) within run longest

@@ -38,13 +38,13 @@ pub played_more : (before now new : Option Taken) (come after left : Option (Lis
     → Played before new come left theory then reading last
 played_more before now new None after left theory next then reading later last played tells = tt
 played_more before now new (Some bytes) None left theory next then reading later last played tells = absurd (not_told played.1)
-    where
-      not_told : IsSome {T = List ℕ} None → ⊥
-      not_told t = cc
+  where
+    not_told : IsSome {T = List ℕ} None → ⊥
+    not_told t = cc
 played_more before now new (Some bytes) (Some rest) None theory next then reading later last played tells = absurd (not_told tells.1)
-    where
-      not_told : IsSome {T = List ℕ} None → ⊥
-      not_told t = cc
+  where
+    not_told : IsSome {T = List ℕ} None → ⊥
+    not_told t = cc
 played_more before now new (Some bytes) (Some rest) (Some left) theory next then reading later last played tells =
     (goes_further before now new bytes rest left theory next then reading later last played.0 tells.0, refl)
 
@@ -67,13 +67,13 @@ pub played_end : (status : Status) (before now new : Option Taken) (come after l
     → IfSome come (λ bytes. EndsAs status before new (output_to_come theory reading bytes) (meant.has_fault (items_to_come reading bytes)))
 played_end status before now new None after left theory next then reading later last played tells = tt
 played_end status before now new (Some bytes) None left theory next then reading later last played tells = absurd (not_told played.1)
-    where
-      not_told : IsSome {T = List ℕ} None → ⊥
-      not_told t = cc
+  where
+    not_told : IsSome {T = List ℕ} None → ⊥
+    not_told t = cc
 played_end status before now new (Some bytes) (Some rest) left theory next then reading later last played tells =
     subst (λ (output : List ℕ). EndsAs status before new output (meant.has_fault (items_to_come reading bytes))) (sym played.0.output)
     (subst (λ (fault : Bool). EndsAs status before new (played.0.written ++ output_to_come next later rest) fault) (sym played.0.faults)
-      (ends_after status before now new played.0.written (output_to_come next later rest) (meant.has_fault (items_to_come later rest)) played.0.took tells.0))
+    (ends_after status before now new played.0.written (output_to_come next later rest) (meant.has_fault (items_to_come later rest)) played.0.took tells.0))
 
 append_empty : (xs ys : List ℕ) → xs ++ ys ≡ [] → ys ≡ []
 append_empty [] ys e = e
@@ -82,9 +82,9 @@ append_empty (x ∷ xs) ys e = absurd cc
 -- at the end of the input nothing is left of the source
 pub nothing_left : (buffered : List ℕ) (left : Option (List ℕ)) → IsSome (preceded buffered left) → IfSome (preceded buffered left) (λ rest. rest ≡ []) → left ≡ Some []
 nothing_left buffered None told none = absurd (not_told told)
-    where
-      not_told : IsSome {T = List ℕ} None → ⊥
-      not_told t = cc
+  where
+    not_told : IsSome {T = List ℕ} None → ⊥
+    not_told t = cc
 nothing_left buffered (Some left) told none = ap (λ (bs : List ℕ). Some bs) (append_empty buffered left none)
 
 pub played_all : (before now new : Option Taken) (come after left : Option (List ℕ)) (theory next then : Option meant.Put) (reading later last : Reading)
@@ -93,9 +93,9 @@ pub played_all : (before now new : Option Taken) (come after left : Option (List
     → IfSome come (λ bytes. IfSome left (λ rest. rest ≡ []) × IsSome left)
 played_all before now new None after left theory next then reading later last played tells = tt
 played_all before now new (Some bytes) None left theory next then reading later last played tells = absurd (not_told played.1)
-    where
-      not_told : IsSome {T = List ℕ} None → ⊥
-      not_told t = cc
+  where
+    not_told : IsSome {T = List ℕ} None → ⊥
+    not_told t = cc
 played_all before now new (Some bytes) (Some rest) left theory next then reading later last played tells = tells.1 refl
 
 -- the script before anything was read

@@ -75,7 +75,7 @@ fault_command c items = refl
 
 goes_on : (reading later : Reading) (bytes rest : List ℕ) (theory next : Option meant.Put) (before now : Option Taken) (command : Command)
     → (commands.next_of reading.may_put (lines_of bytes) ≡ commands.gives (command_in command) (lines_of rest))
-      × (later.line ≡ meant.line_after reading.line (lines_of bytes) (lines_of rest))
+    × (later.line ≡ meant.line_after reading.line (lines_of bytes) (lines_of rest))
     → later.may_put ≡ may_put_next reading.may_put command
     → SpokenTells None before now theory next (command_in command) → GoesOn before now bytes theory next reading later rest
 goes_on reading later bytes rest theory next before now command leaves may_put tells =
@@ -105,9 +105,9 @@ cut_short ReadFault before now lines more fault ends other = TookPrefix-append b
 cut_short WriteFault before now lines more fault ends other = TookPrefix-append before now lines more ends
 cut_short Memory before now lines more fault ends other = TookPrefix-append before now lines more ends
 cut_short ScriptFault before now lines more fault ends other = absurd (false_true ends.0)
-    where
-      false_true : false ≡ true → ⊥
-      false_true e = cc
+  where
+    false_true : false ≡ true → ⊥
+    false_true e = cc
 
 ends_by : (status : Status) (reading later : Reading) (bytes : List ℕ) (after : Option (List ℕ)) (theory next : Option meant.Put) (before now : Option Taken) (command : Command)
     → Leaves (commands.next_of reading.may_put (lines_of bytes)) (command_in command) (lines_of bytes) after reading.line later.line
@@ -115,16 +115,16 @@ ends_by : (status : Status) (reading later : Reading) (bytes : List ℕ) (after 
     → EndsAs status before now (meant.command_lines theory (command_in command)) false → (status ≡ Done → ⊥)
     → EndsAs status before now (output_to_come theory reading bytes) (meant.has_fault (items_to_come reading bytes))
 ends_by status reading later bytes None theory next before now command leaves told may_put ends other = absurd (not_told told)
-    where
-      not_told : IsSome {T = List ℕ} None → ⊥
-      not_told t = cc
+  where
+    not_told : IsSome {T = List ℕ} None → ⊥
+    not_told t = cc
 ends_by status reading later bytes (Some rest) theory next before now command leaves told may_put ends other =
     subst (λ (is : List meant.Item). EndsAs status before now (meant.output_from theory is) (meant.has_fault is))
     (sym (items_command reading later bytes rest (command_in command) leaves.0 leaves.1 (may_put ∙ sym (may_put_is reading.may_put command))))
     (subst (λ (output : List ℕ). EndsAs status before now output (meant.has_fault (meant.command (command_in command) ∷ items_to_come later rest)))
-      (sym (output_command theory (command_in command) (items_to_come later rest)))
-      (cut_short status before now (meant.command_lines theory (command_in command)) (meant.output_from (meant.put_after theory (command_in command)) (items_to_come later rest))
-        (meant.has_fault (meant.command (command_in command) ∷ items_to_come later rest)) ends other))
+    (sym (output_command theory (command_in command) (items_to_come later rest)))
+    (cut_short status before now (meant.command_lines theory (command_in command)) (meant.output_from (meant.put_after theory (command_in command)) (items_to_come later rest))
+    (meant.has_fault (meant.command (command_in command) ∷ items_to_come later rest)) ends other))
 
 -- a turn that answered a command
 pub turn_spoken : (result : Option Status) (reading later : Reading) (bytes : List ℕ) (after : Option (List ℕ)) (theory next : Option meant.Put) (before now : Option Taken) (command : Command)
@@ -133,13 +133,16 @@ pub turn_spoken : (result : Option Status) (reading later : Reading) (bytes : Li
     → IsSome after → later.may_put ≡ may_put_next reading.may_put command
     → SpokenTells result before now theory next (command_in command)
     → TurnTells result before now bytes after theory next reading later
-turn_spoken None reading later bytes after theory next before now command given other is told may_put tells =
-    (goes_on_by reading later bytes after theory next before now command
-      (leaves_of command (commands.next_of reading.may_put (lines_of bytes)) (lines_of bytes) after reading.line later.line given other is) may_put tells, told)
-turn_spoken (Some status) reading later bytes after theory next before now command given other is told may_put tells =
-    (ends_by status reading later bytes after theory next before now command
+turn_spoken None reading later bytes after theory next before now command given other is told may_put tells = (
+  goes_on_by reading later bytes after theory next before now command
+      (leaves_of command (commands.next_of reading.may_put (lines_of bytes)) (lines_of bytes) after reading.line later.line given other is) may_put tells,
+  told,
+)
+turn_spoken (Some status) reading later bytes after theory next before now command given other is told may_put tells = (
+  ends_by status reading later bytes after theory next before now command
       (leaves_of command (commands.next_of reading.may_put (lines_of bytes)) (lines_of bytes) after reading.line later.line given other is) told may_put tells.0 tells.1,
-      λ done. absurd (tells.1 done))
+  λ done. absurd (tells.1 done),
+)
 
 -- ---- the end
 
@@ -151,12 +154,13 @@ no_items theory = (refl, refl)
 pub turn_ended : (status : Status) (reading later : Reading) (bytes : List ℕ) (after : Option (List ℕ)) (theory next : Option meant.Put) (before now : Option Taken)
     → (commands.next_of reading.may_put (lines_of bytes) ≡ commands.ends) × IfSome after (λ rest. rest ≡ []) → IsSome after → EndsAs status before now [] false
     → TurnTells (Some status) before now bytes after theory next reading later
-turn_ended status reading later bytes after theory next before now is told ends =
-    (subst (λ (items : List meant.Item). EndsAs status before now (meant.output_from theory items) (meant.has_fault items))
+turn_ended status reading later bytes after theory next before now is told ends = (
+  subst (λ (items : List meant.Item). EndsAs status before now (meant.output_from theory items) (meant.has_fault items))
       (sym (items_by_next reading bytes commands.ends is.0))
       (subst (λ (output : List ℕ). EndsAs status before now output (meant.has_fault [])) (sym (no_items theory).0)
-        (subst (λ (fault : Bool). EndsAs status before now [] fault) (sym (no_items theory).1) ends)),
-      λ done. (is.1, told))
+      (subst (λ (fault : Bool). EndsAs status before now [] fault) (sym (no_items theory).1) ends)),
+  λ done. (is.1, told),
+)
 
 -- ---- a fault
 
@@ -190,14 +194,14 @@ fault_ends (faults.Bad line) status reading bytes theory before now is tells =
     subst (λ (items : List meant.Item). EndsAs status before now (meant.output_from theory items) (meant.has_fault items))
     (sym (items_by_next reading bytes commands.bad is.0))
     (subst (λ (output : List ℕ). EndsAs status before now output (meant.has_fault (meant.bad_at reading.line ∷ []))) (sym (bad_item theory reading.line).0)
-      (subst (λ (f : Bool). EndsAs status before now (bad_line reading.line) f) (sym (bad_item theory reading.line).1)
-        (subst (λ (l : ℕ). EndsAs status before now (bad_line l) true) is.1 tells)))
+    (subst (λ (f : Bool). EndsAs status before now (bad_line reading.line) f) (sym (bad_item theory reading.line).1)
+    (subst (λ (l : ℕ). EndsAs status before now (bad_line l) true) is.1 tells)))
 fault_ends (faults.Unended line) status reading bytes theory before now is tells =
     subst (λ (items : List meant.Item). EndsAs status before now (meant.output_from theory items) (meant.has_fault items))
     (sym (items_by_next reading bytes commands.unended is.0))
     (subst (λ (output : List ℕ). EndsAs status before now output (meant.has_fault (meant.unended_at reading.line ∷ []))) (sym (unended_item theory reading.line).0)
-      (subst (λ (f : Bool). EndsAs status before now (unended_line reading.line) f) (sym (unended_item theory reading.line).1)
-        (subst (λ (l : ℕ). EndsAs status before now (unended_line l) true) is.1 tells)))
+    (subst (λ (f : Bool). EndsAs status before now (unended_line reading.line) f) (sym (unended_item theory reading.line).1)
+    (subst (λ (l : ℕ). EndsAs status before now (unended_line l) true) is.1 tells)))
 fault_ends faults.Failed status reading bytes theory before now is tells =
     nothing_written status before now (output_to_come theory reading bytes) (meant.has_fault (items_to_come reading bytes)) (inl tells.0) tells.1
 fault_ends faults.Spent status reading bytes theory before now is tells = absurd tells
@@ -206,22 +210,22 @@ fault_ends faults.Memory status reading bytes theory before now is tells =
 
 not_done : (fault : Fault) (status : Status) (before now : Option Taken) → FaultTells fault status before now → status ≡ Done → ⊥
 not_done (faults.Bad line) status before now tells done = true_false (subst (λ (s : Status). EndsAs s before now (bad_line line) true) done tells).0
-    where
-      true_false : true ≡ false → ⊥
-      true_false e = cc
+  where
+    true_false : true ≡ false → ⊥
+    true_false e = cc
 not_done (faults.Unended line) status before now tells done = true_false (subst (λ (s : Status). EndsAs s before now (unended_line line) true) done tells).0
-    where
-      true_false : true ≡ false → ⊥
-      true_false e = cc
+  where
+    true_false : true ≡ false → ⊥
+    true_false e = cc
 not_done faults.Failed status before now tells done = other (sym done ∙ tells.0)
-    where
-      other : Done ≡ ReadFault → ⊥
-      other e = cc
+  where
+    other : Done ≡ ReadFault → ⊥
+    other e = cc
 not_done faults.Spent status before now tells done = tells
 not_done faults.Memory status before now tells done = other (sym done ∙ tells.0)
-    where
-      other : Done ≡ Memory → ⊥
-      other e = cc
+  where
+    other : Done ≡ Memory → ⊥
+    other e = cc
 
 -- a turn that found a fault of the script
 pub turn_faulted : (fault : Fault) (status : Status) (reading later : Reading) (bytes : List ℕ) (after : Option (List ℕ)) (theory next : Option meant.Put) (before now : Option Taken)

@@ -38,7 +38,11 @@ fn report_line(alloc: Global, theory: &Option<Theory>, name: &[u8]) -> Result<Ve
 }
 
 /// The lines of a command. A text that is put takes the place of what was put before.
-pub(crate) fn answer(alloc: Global, theory: &mut Option<Theory>, command: Command) -> Result<Vec<u8>, AllocError>
+pub(crate) fn answer(
+    alloc: Global,
+    theory: &mut Option<Theory>,
+    command: Command,
+) -> Result<Vec<u8>, AllocError>
     requires { IsGiven command }
     ensures lines { IfOk result (λ lines. lines.items ≡ meant.command_lines (put_in theory.old) (command_in command)) }
     ensures put { OnOk result (put_in theory.new ≡ meant.put_after (put_in theory.old) (command_in command)) }

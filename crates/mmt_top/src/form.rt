@@ -90,7 +90,10 @@ fn read_row<'t>(alloc: Global, pieces: &[Piece<'t>]) -> Result<Option<Row<'t>>, 
 }
 
 /// The declaration that the pieces in front of a dot spell.
-pub(crate) fn read_declaration<'t>(alloc: Global, pieces: &[Piece<'t>]) -> Result<Option<Declaration<'t>>, AllocError>
+pub(crate) fn read_declaration<'t>(
+    alloc: Global,
+    pieces: &[Piece<'t>],
+) -> Result<Option<Declaration<'t>>, AllocError>
     ensures { IfOk result (λ declaration. option_map declaration_in declaration ≡ meant.declaration_of (pieces_in pieces.now)) }
 {
     match pieces {

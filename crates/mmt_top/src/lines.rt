@@ -10,7 +10,8 @@ use crate::verdict::{Refusal, Rule, Verdict};
 use std::alloc::{AllocError, Global};
 
 /// The line that is printed for words that are not accepted.
-pub(crate) const USAGE: &[u8] = b"usage: mmt play [--workers N] | mmt check FOLDER [--workers N] | mmt gen START MODULES EDITS [--workers N]\n";
+pub(crate) const USAGE: &[u8] =
+    b"usage: mmt play [--workers N] | mmt check FOLDER [--workers N] | mmt gen START MODULES EDITS [--workers N]\n";
 
 /// How many line feeds there are.
 fn feeds(bytes: &[u8]) -> usize
@@ -24,7 +25,11 @@ fn behind_feed(bytes: &[u8]) -> usize
     ensures count { result ≡ suffix_len (λ byte. not (byte == 10)) bytes.now }
     ensures within { result ≤ length bytes.now }
 {
-    bytes.iter().rev().take_while(|byte| **byte != b'\n').count()
+    bytes
+        .iter()
+        .rev()
+        .take_while(|byte| **byte != b'\n')
+        .count()
 }
 
 /// The bytes in front of a place, all of them where it is past the end.
@@ -83,7 +88,12 @@ pub(crate) fn absent_line(alloc: Global, name: &[u8], version: u64) -> Result<Ve
     Ok(line)
 }
 
-fn accepted_line(alloc: Global, name: &[u8], version: u64, size: usize) -> Result<Vec<u8>, AllocError>
+fn accepted_line(
+    alloc: Global,
+    name: &[u8],
+    version: u64,
+    size: usize,
+) -> Result<Vec<u8>, AllocError>
     ensures { IfOk result (λ line. line.items ≡ printed.accepted_line name.now version size) }
 {
     let mut line = named_at(alloc, name, version)?;
@@ -93,7 +103,13 @@ fn accepted_line(alloc: Global, name: &[u8], version: u64, size: usize) -> Resul
     Ok(line)
 }
 
-fn refused_line(alloc: Global, name: &[u8], version: u64, text: &[u8], refusal: &Refusal<'_>) -> Result<Vec<u8>, AllocError>
+fn refused_line(
+    alloc: Global,
+    name: &[u8],
+    version: u64,
+    text: &[u8],
+    refusal: &Refusal<'_>,
+) -> Result<Vec<u8>, AllocError>
     ensures { IfOk result (λ line. line.items ≡ printed.refused_line name.now version text.now (refusal_in refusal.now)) }
 {
     let front = in_front(text, refusal.at);
@@ -110,7 +126,13 @@ fn refused_line(alloc: Global, name: &[u8], version: u64, text: &[u8], refusal: 
     Ok(line)
 }
 
-pub(crate) fn verdict_line(alloc: Global, name: &[u8], version: u64, text: &[u8], verdict: &Verdict<'_>) -> Result<Vec<u8>, AllocError>
+pub(crate) fn verdict_line(
+    alloc: Global,
+    name: &[u8],
+    version: u64,
+    text: &[u8],
+    verdict: &Verdict<'_>,
+) -> Result<Vec<u8>, AllocError>
     ensures { IfOk result (λ line. line.items ≡ printed.verdict_line name.now version text.now (verdict_in verdict.now)) }
 {
     match verdict {

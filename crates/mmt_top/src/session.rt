@@ -31,7 +31,12 @@ fn finish<K: Sink>(sink: &mut K) -> Status
 }
 
 /// Writes the lines of a command. A status is the end of the session.
-fn speak<K: Sink>(alloc: Global, theory: &mut Option<Theory>, sink: &mut K, command: Command) -> Option<Status>
+fn speak<K: Sink>(
+    alloc: Global,
+    theory: &mut Option<Theory>,
+    sink: &mut K,
+    command: Command,
+) -> Option<Status>
     requires { IsGiven command }
     ensures spoken { SpokenTells result (K.taken sink.old) (K.taken sink.new) (put_in theory.old) (put_in theory.new) (command_in command) }
     ensures status { IfSome result IsSessionStatus }
@@ -127,7 +132,12 @@ fn turn<S: Source, K: Sink>(
 }
 
 /// Plays the script on the source, from its first byte to its end.
-pub(crate) fn play<R: Wait, S: Source, K: Sink>(rt: &R, alloc: Global, source: &mut S, sink: &mut K) -> Status
+pub(crate) fn play<R: Wait, S: Source, K: Sink>(
+    rt: &R,
+    alloc: Global,
+    source: &mut S,
+    sink: &mut K,
+) -> Status
     ensures end { IfSome (S.left source.old) (λ bytes. EndsAs result (K.taken sink.old) (K.taken sink.new) (output_of bytes) (has_fault (script_of bytes))) }
     ensures read_all { result ≡ Status.Done → IfSome (S.left source.old) (λ bytes. S.left source.new ≡ Some []) }
     ensures status { IsSessionStatus result }

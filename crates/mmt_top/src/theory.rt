@@ -36,7 +36,10 @@ fn is_close(sentence: &[Piece<'_>]) -> bool
 }
 
 /// The declarations of the pieces behind the opening.
-fn read_body<'t>(alloc: Global, pieces: &[Piece<'t>]) -> Result<Option<Vec<Declaration<'t>>>, AllocError>
+fn read_body<'t>(
+    alloc: Global,
+    pieces: &[Piece<'t>],
+) -> Result<Option<Vec<Declaration<'t>>>, AllocError>
     ensures { IfOk result (λ body. option_map (λ v. declarations_in v.items) body ≡ option_and_then meant.body_of (meant.sentences_of (pieces_in pieces.now))) }
 {
     let mut found = Vec::new(alloc);
@@ -64,16 +67,21 @@ fn behind_opening<'p, 't>(name: &[u8], pieces: &'p [Piece<'t>]) -> Option<&'p [P
 {
     match pieces {
         [percent, sig, own, equal, brace, body @ ..]
-            if percent.is(b"%") && sig.is(b"sig") && own.is(name) && equal.is(b"=") && brace.is(b"{") =>
-        {
-            Some(body)
-        }
+            if percent.is(b"%")
+                && sig.is(b"sig")
+                && own.is(name)
+                && equal.is(b"=")
+                && brace.is(b"{") => { Some(body) }
         _ => None,
     }
 }
 
 /// The declarations of the pieces of a theory of this name.
-fn read_theory<'t>(alloc: Global, name: &[u8], pieces: &[Piece<'t>]) -> Result<Option<Vec<Declaration<'t>>>, AllocError>
+fn read_theory<'t>(
+    alloc: Global,
+    name: &[u8],
+    pieces: &[Piece<'t>],
+) -> Result<Option<Vec<Declaration<'t>>>, AllocError>
     ensures { IfOk result (λ theory. option_map (λ v. declarations_in v.items) theory ≡ meant.theory_of name.now (pieces_in pieces.now)) }
 {
     if !(stand_alone(pieces) && is_identifier(name)) {
@@ -92,7 +100,11 @@ fn is_utf8(text: &[u8]) -> bool
 }
 
 /// The declarations of a text of the first form, under this name. Two of them may have one name.
-pub(crate) fn spelled<'t>(alloc: Global, name: &[u8], text: &'t [u8]) -> Result<Option<Vec<Declaration<'t>>>, AllocError>
+pub(crate) fn spelled<'t>(
+    alloc: Global,
+    name: &[u8],
+    text: &'t [u8],
+) -> Result<Option<Vec<Declaration<'t>>>, AllocError>
     ensures { IfOk result (λ theory. option_map (λ v. declarations_in v.items) theory ≡ meant.spelled name.now text.now) }
 {
     if !(is_utf8(text) && text.starts_with(b"%sig")) {

@@ -107,7 +107,11 @@ fn row_fault<'t>(levels: &Levels<'_>, declaration: &Declaration<'t>) -> Option<R
 }
 
 /// The first fault: the one that was found, or that of the row.
-fn first_fault<'t>(found: Option<Refusal<'t>>, levels: &Levels<'_>, declaration: &Declaration<'t>) -> Option<Refusal<'t>>
+fn first_fault<'t>(
+    found: Option<Refusal<'t>>,
+    levels: &Levels<'_>,
+    declaration: &Declaration<'t>,
+) -> Option<Refusal<'t>>
     ensures { option_map refusal_in result ≡ meant.or_else (option_map refusal_in found.entry)
         (row_fault_by (levels_at levels.now) (piece_of declaration.now.name).bytes (meant.names_in (row_in declaration.now.row))) }
 {
@@ -138,7 +142,11 @@ fn verdict_of_fault(size: usize, fault: Option<Refusal<'_>>) -> Verdict<'_>
 }
 
 /// The verdict of declarations under a name.
-fn verdict_by<'t>(alloc: Global, name: &'t [u8], declarations: &[Declaration<'t>]) -> Result<Verdict<'t>, AllocError>
+fn verdict_by<'t>(
+    alloc: Global,
+    name: &'t [u8],
+    declarations: &[Declaration<'t>],
+) -> Result<Verdict<'t>, AllocError>
     ensures { IfOk result (λ verdict. verdict_in verdict ≡ verdict_of_spelled name.entry.now (Some (declarations_in declarations.now))) }
 {
     let mut levels = BTreeMap::new(alloc);
@@ -156,7 +164,11 @@ fn verdict_by<'t>(alloc: Global, name: &'t [u8], declarations: &[Declaration<'t>
 
 /// The verdict of a text under a name.
 #[tactic(auto, unfolding(output_meaning::specs::Verdicts::verdict_of))]
-pub(crate) fn verdict_of_text<'t>(alloc: Global, name: &'t [u8], text: &'t [u8]) -> Result<Verdict<'t>, AllocError>
+pub(crate) fn verdict_of_text<'t>(
+    alloc: Global,
+    name: &'t [u8],
+    text: &'t [u8],
+) -> Result<Verdict<'t>, AllocError>
     ensures { IfOk result (λ verdict. verdict_in verdict ≡ verdict_of name.entry.now text.entry.now) }
 {
     match spelled(alloc, name, text)? {

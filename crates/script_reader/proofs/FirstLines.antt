@@ -25,11 +25,12 @@ piece_is before after empty now most end none read = sym (read.grows ∙ ap (λ 
 
 pub first-feed : (before after : Option (List ℕ)) (empty now : List ℕ) (most : ℕ) → empty ≡ [] → ReadsLine before after empty now most Feed
     → IfSome before (λ bytes. IfSome after (λ rest. lines_of bytes ≡ now ∷ lines_of rest)) × StaysTold before after
-first-feed before after empty now most none read =
-    (subst (λ (line : List ℕ). IfSome before (λ bytes. IfSome after (λ rest. lines_of bytes ≡ line ∷ lines_of rest)))
+first-feed before after empty now most none read = (
+  subst (λ (line : List ℕ). IfSome before (λ bytes. IfSome after (λ rest. lines_of bytes ≡ line ∷ lines_of rest)))
       (piece_is before after empty now most Feed none read)
       (first_of read.piece before after read.bytes (λ rest e. ends_in_feed-first read.piece read.ends rest)),
-    stays_told read.piece before after read.bytes)
+  stays_told read.piece before after read.bytes,
+)
 
 last_first : (piece rest : List ℕ) → NoFeed piece → (piece ≡ [] → ⊥) → rest ≡ [] → lines_of (piece ++ rest) ≡ piece ∷ lines_of rest
 unfolding lines_of
@@ -41,12 +42,13 @@ last_first (b ∷ bs) rest plain some none =
 pub first-input : (before after : Option (List ℕ)) (empty now : List ℕ) (most : ℕ) → empty ≡ [] → (now ≡ [] → ⊥) → ReadsLine before after empty now most Input
     → IfSome before (λ bytes. IfSome after (λ rest. lines_of bytes ≡ now ∷ lines_of rest)) × StaysTold before after
 first-input before after empty now most none some read =
-    let piece = piece_is before after empty now most Input none read in
-    (subst (λ (line : List ℕ). IfSome before (λ bytes. IfSome after (λ rest. lines_of bytes ≡ line ∷ lines_of rest))) piece
-      (first_of read.piece before after read.bytes
-        (λ rest e. last_first read.piece rest read.ends.0 (λ empty'. some (sym piece ∙ empty'))
+    let piece = piece_is before after empty now most Input none read in (
+      subst (λ (line : List ℕ). IfSome before (λ bytes. IfSome after (λ rest. lines_of bytes ≡ line ∷ lines_of rest))) piece
+          (first_of read.piece before after read.bytes
+          (λ rest e. last_first read.piece rest read.ends.0 (λ empty'. some (sym piece ∙ empty'))
           (subst (λ (o : Option (List ℕ)). IfSome o (λ bytes. bytes ≡ [])) e read.ends.1))),
-    stays_told read.piece before after read.bytes)
+      stays_told read.piece before after read.bytes,
+    )
 
 none_before : (before after : Option (List ℕ)) → before ≡ preceded [] after → IfSome after (λ bytes. bytes ≡ []) → IfSome before (λ bytes. bytes ≡ [])
 none_before before None e h = subst (λ (o : Option (List ℕ)). IfSome o (λ bytes. bytes ≡ [])) (sym e) tt
@@ -63,7 +65,7 @@ bad_begin [] rest may_put plain long = absurd (omega arith)
 bad_begin (b ∷ piece) rest may_put plain long =
     let first = first_begins b piece rest plain in
     let over : said_by (content_of ((b ∷ piece) ++ first.more)) ≡ wrong =
-        said_by-long ((b ∷ piece) ++ first.more) (omega (arith, length-append (b ∷ piece) first.more)) in
+    said_by-long ((b ∷ piece) ++ first.more) (omega (arith, length-append (b ∷ piece) first.more)) in
     ap (λ (ls : List (List ℕ)). next_of may_put ls) first.is ∙ rw over refl
 
 bad_of : (piece : List ℕ) (before after : Option (List ℕ)) → before ≡ preceded piece after → NoFeed piece → 1027 ≤ length piece

@@ -67,4 +67,4 @@ put_answer result may_put name line (Some bytes) None after first counted now al
 put_answer result may_put name line (Some bytes) (Some rest) after first counted now allowed said counts begins answers =
     subst (λ (lines : List (List ℕ)). IsAnswer result (meant.next_of may_put lines) lines after first first now) (sym begins.0)
     (subst (λ (next : meant.Next). IsAnswer result next (line ∷ lines_of rest) after first first now) (sym (next_is_put may_put name line (lines_of rest) allowed said))
-      (answer_more result name line (lines_of rest) after first counted now counts answers))
+    (answer_more result name line (lines_of rest) after first counted now counts answers))

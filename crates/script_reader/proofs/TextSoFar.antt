@@ -86,23 +86,27 @@ if_some_rest rest piece h = h
 pub has_whole : (before now next : Option (List ℕ)) (line counted : ℕ) (text kept : List ℕ) → HasText before now line counted text
     → ReadsTextLine now next text kept End → length text ≤ text_limit
     → IfSome before (λ bytes. (length kept ≤ text_limit) × (kept ≡ text_before (lines_of bytes))
-      × IfSome next (λ rest. (behind_end (lines_of bytes) ≡ Some (lines_of rest)) × (min (counted + 1) (2 ^ 64 - 1) ≡ line_after line (lines_of bytes) (lines_of rest))))
+    × IfSome next (λ rest. (behind_end (lines_of bytes) ≡ Some (lines_of rest)) × (min (counted + 1) (2 ^ 64 - 1) ≡ line_after line (lines_of bytes) (lines_of rest))))
 has_whole before now next line counted text kept has reads short =
     subst (λ (o : Option (List ℕ)). IfSome o P) (sym all) (told_by (text ++ reads.piece) next P each)
-    where
-      P : List ℕ → Type 0
-      P bytes = (length kept ≤ text_limit) × (kept ≡ text_before (lines_of bytes))
-          × IfSome next (λ rest. (behind_end (lines_of bytes) ≡ Some (lines_of rest)) × (min (counted + 1) (2 ^ 64 - 1) ≡ line_after line (lines_of bytes) (lines_of rest)))
-      all : before ≡ preceded (text ++ reads.piece) next
-      all = has.bytes ∙ ap (λ (bs : Option (List ℕ)). preceded text bs) reads.bytes ∙ sym (preceded-append text reads.piece next)
-      each : (rest : List ℕ) → next ≡ Some rest → P ((text ++ reads.piece) ++ rest)
-      each rest e =
-          let ends : EndsInFeed reads.piece ⊎ (NoFeed reads.piece × IfSome (Some rest) (λ bytes. bytes ≡ [])) =
-              subst (λ (o : Option (List ℕ)). EndsInFeed reads.piece ⊎ (NoFeed reads.piece × IfSome o (λ bytes. bytes ≡ []))) e reads.is.0 in
-          let whole = whole_text line counted text reads.piece rest has.lines has.so_far has.count ends reads.is.1 in
-          (subst (λ (t : List ℕ). length t ≤ text_limit) (sym reads.is.2) short, reads.is.2 ∙ whole.is,
-            subst (λ (o : Option (List ℕ)). IfSome o (λ r. (behind_end (lines_of ((text ++ reads.piece) ++ rest)) ≡ Some (lines_of r)) × (min (counted + 1) (2 ^ 64 - 1) ≡ line_after line (lines_of ((text ++ reads.piece) ++ rest)) (lines_of r))))
-              (sym e) (whole.behind, whole.count))
+  where
+    P : List ℕ → Type 0
+    P bytes = (length kept ≤ text_limit) × (kept ≡ text_before (lines_of bytes))
+        × IfSome next (λ rest. (behind_end (lines_of bytes) ≡ Some (lines_of rest)) × (min (counted + 1) (2 ^ 64 - 1) ≡ line_after line (lines_of bytes) (lines_of rest)))
+
+    all : before ≡ preceded (text ++ reads.piece) next
+    all = has.bytes ∙ ap (λ (bs : Option (List ℕ)). preceded text bs) reads.bytes ∙ sym (preceded-append text reads.piece next)
+
+    each : (rest : List ℕ) → next ≡ Some rest → P ((text ++ reads.piece) ++ rest)
+    each rest e =
+        let ends : EndsInFeed reads.piece ⊎ (NoFeed reads.piece × IfSome (Some rest) (λ bytes. bytes ≡ [])) =
+        subst (λ (o : Option (List ℕ)). EndsInFeed reads.piece ⊎ (NoFeed reads.piece × IfSome o (λ bytes. bytes ≡ []))) e reads.is.0 in
+        let whole = whole_text line counted text reads.piece rest has.lines has.so_far has.count ends reads.is.1 in (
+          subst (λ (t : List ℕ). length t ≤ text_limit) (sym reads.is.2) short,
+          reads.is.2 ∙ whole.is,
+          subst (λ (o : Option (List ℕ)). IfSome o (λ r. (behind_end (lines_of ((text ++ reads.piece) ++ rest)) ≡ Some (lines_of r)) × (min (counted + 1) (2 ^ 64 - 1) ≡ line_after line (lines_of ((text ++ reads.piece) ++ rest)) (lines_of r))))
+              (sym e) (whole.behind, whole.count),
+        )
 
 -- the text runs out: its length decides
 pub has_last : (before now next : Option (List ℕ)) (line counted : ℕ) (text longer : List ℕ) → HasText before now line counted text
@@ -110,47 +114,52 @@ pub has_last : (before now next : Option (List ℕ)) (line counted : ℕ) (text 
     → IfSome before (λ bytes. (text_before (lines_of bytes) ≡ longer) × (behind_end (lines_of bytes) ≡ None))
 has_last before now next line counted text longer has reads =
     subst (λ (o : Option (List ℕ)). IfSome o P) (sym all) (told_by (text ++ reads.piece) next P each)
-    where
-      P : List ℕ → Type 0
-      P bytes = (text_before (lines_of bytes) ≡ longer) × (behind_end (lines_of bytes) ≡ None)
-      all : before ≡ preceded (text ++ reads.piece) next
-      all = has.bytes ∙ ap (λ (bs : Option (List ℕ)). preceded text bs) reads.bytes ∙ sym (preceded-append text reads.piece next)
-      each : (rest : List ℕ) → next ≡ Some rest → P ((text ++ reads.piece) ++ rest)
-      each rest e =
-          let none : rest ≡ [] = subst (λ (o : Option (List ℕ)). IfSome o (λ bytes. bytes ≡ [])) e reads.is.1 in
-          let out : RunsOut text reads.piece = text_runs_out has.lines text reads.piece has.so_far reads.is.0 reads.is.2 in
-          subst (λ (bs : List ℕ). P bs) (sym (ap (λ (r : List ℕ). (text ++ reads.piece) ++ r) none ∙ append-nil (text ++ reads.piece)))
-          (out.before ∙ sym reads.is.3, out.behind)
+  where
+    P : List ℕ → Type 0
+    P bytes = (text_before (lines_of bytes) ≡ longer) × (behind_end (lines_of bytes) ≡ None)
+
+    all : before ≡ preceded (text ++ reads.piece) next
+    all = has.bytes ∙ ap (λ (bs : Option (List ℕ)). preceded text bs) reads.bytes ∙ sym (preceded-append text reads.piece next)
+
+    each : (rest : List ℕ) → next ≡ Some rest → P ((text ++ reads.piece) ++ rest)
+    each rest e =
+        let none : rest ≡ [] = subst (λ (o : Option (List ℕ)). IfSome o (λ bytes. bytes ≡ [])) e reads.is.1 in
+        let out : RunsOut text reads.piece = text_runs_out has.lines text reads.piece has.so_far reads.is.0 reads.is.2 in
+        subst (λ (bs : List ℕ). P bs) (sym (ap (λ (r : List ℕ). (text ++ reads.piece) ++ r) none ∙ append-nil (text ++ reads.piece)))
+        (out.before ∙ sym reads.is.3, out.behind)
 
 -- the text is too long, whatever follows
 pub has_long : (before now next : Option (List ℕ)) (line counted : ℕ) (text longer : List ℕ) → HasText before now line counted text
     → ReadsTextLine now next text longer Long → length text ≤ text_limit → IfSome before (λ bytes. text_limit < length (text_before (lines_of bytes)))
 has_long before now next line counted text longer has reads short =
     subst (λ (o : Option (List ℕ)). IfSome o P) (sym all) (told_by (text ++ reads.piece) next P each)
-    where
-      P : List ℕ → Type 0
-      P bytes = text_limit < length (text_before (lines_of bytes))
-      all : before ≡ preceded (text ++ reads.piece) next
-      all = has.bytes ∙ ap (λ (bs : Option (List ℕ)). preceded text bs) reads.bytes ∙ sym (preceded-append text reads.piece next)
-      each : (rest : List ℕ) → next ≡ Some rest → P ((text ++ reads.piece) ++ rest)
-      each rest e =
-          let long : text_limit + 8 ≤ length text + length reads.piece = omega (arith, reads.is.1, length-append text reads.piece) in
-          let holds : length reads.piece ≤ length (text_before (lines_of (reads.piece ++ rest))) = text_before-long reads.piece rest reads.is.0 (omega arith) in
-          let total : length (text_before (lines_of ((text ++ reads.piece) ++ rest))) ≡ length text + length (text_before (lines_of (reads.piece ++ rest))) =
-              ap (λ (bs : List ℕ). length (text_before (lines_of bs))) (append_assoc text reads.piece rest) ∙ ap (λ (bs : List ℕ). length bs) (has.so_far.before (reads.piece ++ rest))
-              ∙ length-append text (text_before (lines_of (reads.piece ++ rest))) in
-          omega arith
+  where
+    P : List ℕ → Type 0
+    P bytes = text_limit < length (text_before (lines_of bytes))
+
+    all : before ≡ preceded (text ++ reads.piece) next
+    all = has.bytes ∙ ap (λ (bs : Option (List ℕ)). preceded text bs) reads.bytes ∙ sym (preceded-append text reads.piece next)
+
+    each : (rest : List ℕ) → next ≡ Some rest → P ((text ++ reads.piece) ++ rest)
+    each rest e =
+        let long : text_limit + 8 ≤ length text + length reads.piece = omega (arith, reads.is.1, length-append text reads.piece) in
+        let holds : length reads.piece ≤ length (text_before (lines_of (reads.piece ++ rest))) = text_before-long reads.piece rest reads.is.0 (omega arith) in
+        let total : length (text_before (lines_of ((text ++ reads.piece) ++ rest))) ≡ length text + length (text_before (lines_of (reads.piece ++ rest))) =
+        ap (λ (bs : List ℕ). length (text_before (lines_of bs))) (append_assoc text reads.piece rest) ∙ ap (λ (bs : List ℕ). length bs) (has.so_far.before (reads.piece ++ rest))
+        ∙ length-append text (text_before (lines_of (reads.piece ++ rest))) in
+        omega arith
 
 -- whole lines alone are too long
 pub has_longer : (before now : Option (List ℕ)) (line counted : ℕ) (text : List ℕ) → HasText before now line counted text
     → text_limit < length text → IfSome before (λ bytes. text_limit < length (text_before (lines_of bytes)))
 has_longer before now line counted text has long =
     subst (λ (o : Option (List ℕ)). IfSome o P) (sym has.bytes) (told_by text now P each)
-    where
-      P : List ℕ → Type 0
-      P bytes = text_limit < length (text_before (lines_of bytes))
-      each : (rest : List ℕ) → now ≡ Some rest → P (text ++ rest)
-      each rest e = omega (arith, text_longer has.lines text rest has.so_far)
+  where
+    P : List ℕ → Type 0
+    P bytes = text_limit < length (text_before (lines_of bytes))
+
+    each : (rest : List ℕ) → now ≡ Some rest → P (text ++ rest)
+    each rest e = omega (arith, text_longer has.lines text rest has.so_far)
 
 -- what was told is told
 pub has_told : (before now next : Option (List ℕ)) (line counted : ℕ) (text longer : List ℕ) (piece : List ℕ) → HasText before now line counted text

@@ -5,11 +5,14 @@ mod buffer;
 mod command;
 mod fault;
 mod line;
-mod said;
 mod next;
+mod said;
 mod script;
 mod text;
 
 pub use command::Command;
 pub use fault::ScriptFault;
 pub use script::Script;
+
+#[cfg(test)]
+mod tests;

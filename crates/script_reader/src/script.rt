@@ -75,7 +75,13 @@ impl Script {
         if self.is_spent {
             return Err(ScriptFault::Spent);
         }
-        let answer = next(alloc, &mut self.buffer, source, &mut self.line, self.may_put);
+        let answer = next(
+            alloc,
+            &mut self.buffer,
+            source,
+            &mut self.line,
+            self.may_put,
+        );
         match &answer {
             Ok(Command::Put { .. }) => self.may_put = false,
             Ok(_) => {}

@@ -17,15 +17,15 @@ returns-in-End-clause-tells g c =
     (to_come c.next_command.new.self (g.S.Source.left c.next_command.new.source)) (put_in c.args.theory.now) (put_in c.args.theory.now) (g.K.Sink.taken c.args.sink.now) (g.K.Sink.taken c.finish.new.sink)
     c.requires
     (subst (λ (command : Command). IfSome (to_come c.args.script.now (g.S.Source.left c.args.source.now)) (λ bytes. c.args.script.now.is_spent ≡ false →
-      IsNext command (commands.next_of c.args.script.now.may_put (lines_of bytes)) (lines_of bytes) (to_come c.next_command.new.self (g.S.Source.left c.next_command.new.source)) c.args.script.now.line c.next_command.new.self.line))
-      c.in-End.is c.in-Ok.ensures.answer)
+    IsNext command (commands.next_of c.args.script.now.may_put (lines_of bytes)) (lines_of bytes) (to_come c.next_command.new.self (g.S.Source.left c.next_command.new.source)) c.args.script.now.line c.next_command.new.self.line))
+    c.in-End.is c.in-Ok.ensures.answer)
     c.in-Ok.ensures.told c.finish.ensures.end
 
 pub returns-in_default : goal.returns-in_default
 returns-in_default g c = record {
   tells = told_spoken c.speak.result c.args.script.now c.next_command.new.self (to_come c.args.script.now (g.S.Source.left c.args.source.now))
-    (to_come c.next_command.new.self (g.S.Source.left c.next_command.new.source)) (put_in c.args.theory.now) (put_in c.speak.new.theory) (g.K.Sink.taken c.args.sink.now) (g.K.Sink.taken c.speak.new.sink)
-    c.in-Ok.command c.requires c.in-Ok.ensures.given c.in_default.not-End c.in-Ok.ensures.answer c.in-Ok.ensures.told c.in-Ok.ensures.once c.speak.ensures.spoken;
+      (to_come c.next_command.new.self (g.S.Source.left c.next_command.new.source)) (put_in c.args.theory.now) (put_in c.speak.new.theory) (g.K.Sink.taken c.args.sink.now) (g.K.Sink.taken c.speak.new.sink)
+      c.in-Ok.command c.requires c.in-Ok.ensures.given c.in_default.not-End c.in-Ok.ensures.answer c.in-Ok.ensures.told c.in-Ok.ensures.once c.speak.ensures.spoken;
   on = search rules;
   status = search rules;
   flush = search rules;

@@ -25,7 +25,7 @@ returns-in_default-2 c =
     fails_at (declarations_in c.loop-length.found.items) c.args.pieces.now c.loop-length.from c.in-Some.length (pieces_in c.args.pieces.now)
     c.in-Some.ensures.dot c.if-from-pieces.false
     (subst (λ (o : Option Declaration). option_map declaration_in o ≡ meant.declaration_of (pieces_in (take (c.loop-length.from + c.in-Some.length - c.loop-length.from) (drop c.loop-length.from c.args.pieces.now))))
-      c.in_default-2.is c.in_ok-declaration.ensures)
+    c.in_default-2.is c.in_ok-declaration.ensures)
     c.loop-length.invariant.so_far
 
 pub loop-length-preserved : goal.loop-length-preserved
@@ -34,10 +34,10 @@ loop-length-preserved c = record {
   so_far = subst (λ (ds : List meant.Declaration). BodySoFar ds (pieces_in (drop (c.loop-length.from + (c.in-Some.length + 1)) c.args.pieces.now)) (pieces_in c.args.pieces.now))
       (sym (ap (λ (items : List Declaration). declarations_in items) c.in_ok-push.ensures.items ∙ map-append declaration_in c.loop-length.found.items _))
       (goes_on_at (declarations_in c.loop-length.found.items) c.args.pieces.now c.loop-length.from c.in-Some.length (pieces_in c.args.pieces.now) (declaration_in c.in-Some-2.declaration)
-        c.in-Some.ensures.dot c.if-from-pieces.false
-        (subst (λ (o : Option Declaration). option_map declaration_in o ≡ meant.declaration_of (pieces_in (take (c.loop-length.from + c.in-Some.length - c.loop-length.from) (drop c.loop-length.from c.args.pieces.now))))
-          c.in-Some-2.is c.in_ok-declaration.ensures)
-        c.loop-length.invariant.so_far);
+      c.in-Some.ensures.dot c.if-from-pieces.false
+      (subst (λ (o : Option Declaration). option_map declaration_in o ≡ meant.declaration_of (pieces_in (take (c.loop-length.from + c.in-Some.length - c.loop-length.from) (drop c.loop-length.from c.args.pieces.now))))
+      c.in-Some-2.is c.in_ok-declaration.ensures)
+      c.loop-length.invariant.so_far);
 }
 
 pub returns : goal.returns

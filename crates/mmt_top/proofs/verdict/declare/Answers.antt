@@ -11,5 +11,5 @@ use Rattle.mmt_top.proofs.verdict.declare.Goals as goal
 pub returns : goal.returns
 returns c = λ other.
     ap (λ (o : Option Level). option_map level_in o)
-      (btree_map_updates_str c.args.name.now c.args.levels.now c.insert.new.self (Some c.args.level) c.in_ok-insert.ensures.updates other)
+    (btree_map_updates_str c.args.name.now c.args.levels.now c.insert.new.self (Some c.args.level) c.in_ok-insert.ensures.updates other)
     ∙ map_update (bytes_eq c.args.name.now other) c.args.level _

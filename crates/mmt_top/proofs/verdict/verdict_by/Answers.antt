@@ -16,8 +16,8 @@ pub returns-then-is_some : goal.returns-then-is_some
 returns-then-is_some c =
     verdict_twice c.args.name.now (declarations_in c.args.declarations.now) (verdict_in c.other_form.result) c.other_form.ensures
     (tested_twice (levels_at c.loop-declaration.levels) (option_map refusal_in c.loop-declaration.fault) c.args.declarations.now c.loop-declaration.declaration-index c.declaration-item.result
-      (omega arith) c.declaration-item.is c.loop-declaration.invariant
-      (subst (λ (o : Option meant.Level). is_none o ≡ false) c.look_up.ensures (found_some c.look_up.result c.is_some.result c.is_some.ensures c.if-is_some.true)))
+    (omega arith) c.declaration-item.is c.loop-declaration.invariant
+    (subst (λ (o : Option meant.Level). is_none o ≡ false) c.look_up.ensures (found_some c.look_up.result c.is_some.result c.is_some.ensures c.if-is_some.true)))
 
 pub loop-declaration-preserved : goal.loop-declaration-preserved
 loop-declaration-preserved c =
