@@ -1,12 +1,11 @@
 -- The declarations that were read, and those that follow.
-use Rattle.std.proofs.Common.{◌≡◌, ℕ, zero, suc, ◌+◌, ◌-◌, ◌<◌, ◌≤◌, Bool, true, false, List, [], ◌∷◌, ◌++◌, length, take, drop, get_or, refl, sym, ap, ◌∙◌, subst, arith, add-one, append_assoc}
-use Rattle.std.specs.Prelude.{Option, Some, None, if◌then◌else◌, codes, map}
+use Rattle.std.proofs.Common.{◌≡◌, ℕ, ◌+◌, ◌-◌, ◌<◌, Bool, true, false, List, [], ◌∷◌, ◌++◌, length, take, drop, get_or, refl, sym, ap, ◌∙◌, subst, arith, add-one, append_assoc}
+use Rattle.std.specs.Prelude.{Option, Some, None, if◌then◌else◌, codes}
 use Rattle.std.specs.Option.{option_map, option_and_then}
 use Rattle.std.proofs.lemmas.List.{append-nil, take-append-drop, take_more, drop-drop, length-drop}
 use Rattle.std.proofs.Math.ListN.{drop_of_length-le}
 use Rattle.std.proofs.Math.Seq.{drop-cons}
 use Rattle.output_meaning.specs.Pieces as meant
-use Rattle.output_meaning.specs.FirstForm as form
 use Rattle.output_meaning.specs.FirstForm.{NoDot, Declaration, declaration_of, is_close}
 use Rattle.output_meaning.proofs.FormLemmas.{NoDot-append, body_in, body_in-none, body_in-last, body_in-more}
 use Rattle.mmt_top.specs.Pieces.{piece_of, pieces_in}

@@ -1,5 +1,5 @@
 -- Lists of pieces that are read from the front.
-use Rattle.std.proofs.Common.{◌≡◌, ℕ, zero, suc, ◌+◌, ◌-◌, ◌<◌, ◌≤◌, Bool, true, false, ◌&&◌, not, List, [], ◌∷◌, ◌++◌, length, take, drop, get_or, refl, sym, ap, ◌∙◌, subst, arith, add-one, append_assoc}
+use Rattle.std.proofs.Common.{◌≡◌, ℕ, ◌+◌, ◌-◌, ◌<◌, ◌≤◌, Bool, true, false, ◌&&◌, not, List, [], ◌∷◌, ◌++◌, length, take, drop, get_or, refl, sym, ap, ◌∙◌, arith, add-one, append_assoc}
 use Rattle.std.proofs.lemmas.List.{length-drop, take_all}
 use Rattle.std.proofs.Math.Seq.{drop-cons}
 use Rattle.std.proofs.Math.ListN.{drop_of_length-le}
@@ -7,7 +7,7 @@ use Rattle.output_meaning.specs.Pieces as meant
 use Rattle.mmt_top.specs.Pieces.{piece_of, pieces_in}
 use Rattle.output_meaning.specs.FirstForm as meant_form
 use Rattle.std.specs.Prelude.{Option, Some, None, if◌then◌else◌, codes}
-use Rattle.std.specs.Option.{option_map, option_and_then}
+use Rattle.std.specs.Option.{option_map}
 use Rattle.mmt_top.specs.declared.pieces.Piece.{Piece}
 
 pub tail_is : (xs : List Piece) (i : ℕ) → take (length xs - i) (drop i xs) ≡ drop i xs

@@ -1,5 +1,5 @@
 -- The pieces of a text, from a place on.
-use Rattle.std.proofs.Common.{◌≡◌, ℕ, zero, suc, ◌+◌, ◌-◌, ◌<◌, ◌≤◌, Bool, true, false, List, [], ◌∷◌, ◌++◌, length, take, drop, get_or, map, refl, sym, ap, ◌∙◌, subst, arith, add-one, append_assoc}
+use Rattle.std.proofs.Common.{◌≡◌, ℕ, zero, suc, ◌+◌, ◌-◌, ◌<◌, ◌≤◌, true, false, List, [], ◌∷◌, ◌++◌, length, take, drop, get_or, map, refl, sym, ap, ◌∙◌, subst, arith, add-one}
 use Rattle.std.specs.List.{list_all}
 use Rattle.std.proofs.lemmas.List.{take-append-drop, drop-drop, length-take, length-drop, take_all}
 use Rattle.std.proofs.Math.Seq.{drop-cons}

@@ -4,7 +4,7 @@ use Rattle.std.specs.Prelude.{Option, Some, None, IfSome, IsSome}
 use Rattle.mmt_outside.specs.Bytes.{Taken, appended, flushed, TookPrefix, preceded}
 use Rattle.mmt_outside.proofs.Bytes.{appended-nil, appended-appended, TookPrefix-after}
 use Rattle.output_meaning.specs.Script as meant
-use Rattle.script_reader.specs.Reading.{Reading, to_come}
+use Rattle.script_reader.specs.Reading.{Reading}
 use Rattle.mmt_top.specs.declared.status.Status.{Status}
 use Rattle.mmt_top.specs.declared.status.Status.TheVariants.{Done, Refused, Usage, ReadFault, WriteFault, Memory, ScriptFault}
 use Rattle.mmt_top.specs.Session.{items_to_come, output_to_come, GoesOn, EndsAs, TurnTells}

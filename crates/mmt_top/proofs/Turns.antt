@@ -1,9 +1,8 @@
 -- What a turn of a session did, from what its parts did.
-use Rattle.std.proofs.Common.{◌≡◌, ℕ, ◌+◌, ◌-◌, Bool, true, false, List, [], ◌∷◌, ◌++◌, ◌⊎◌, inl, inr, refl, sym, ap, ◌∙◌, subst}
-use Rattle.std.specs.Prelude.{Option, Some, None, IfSome, IsSome, Result, Ok, Err}
-use Rattle.std.proofs.lemmas.List.{append-nil}
-use Rattle.mmt_outside.specs.Bytes.{Taken, appended, flushed, TookPrefix}
-use Rattle.mmt_outside.proofs.Bytes.{appended-nil, TookPrefix-append, TookPrefix-none}
+use Rattle.std.proofs.Common.{◌≡◌, ℕ, Bool, true, false, List, [], ◌∷◌, ◌++◌, ◌⊎◌, inl, inr, refl, sym, ap, ◌∙◌, subst}
+use Rattle.std.specs.Prelude.{Option, Some, None, IfSome, IsSome}
+use Rattle.mmt_outside.specs.Bytes.{Taken, TookPrefix}
+use Rattle.mmt_outside.proofs.Bytes.{TookPrefix-append, TookPrefix-none}
 use Rattle.output_meaning.specs.Lines.{lines_of}
 use Rattle.output_meaning.specs.Commands as commands
 use Rattle.output_meaning.specs.Printed.{bad_line, unended_line}
@@ -11,7 +10,7 @@ use Rattle.output_meaning.specs.Script as meant
 use Rattle.output_meaning.proofs.Items.{items_of-next}
 use Rattle.script_reader.specs.Reading.{Reading, may_put_next}
 use Rattle.script_reader.specs.Texts.{StaysTold}
-use Rattle.script_reader.specs.Answers.{Leaves, IsNext, IsFault, IsAnswer, IsGiven}
+use Rattle.script_reader.specs.Answers.{Leaves, IsNext, IsFault, IsGiven}
 use Rattle.script_reader.specs.declared.command.Command.{Command}
 use Rattle.script_reader.specs.declared.command.Command.TheVariants as spoken
 use Rattle.script_reader.specs.declared.fault.ScriptFault.{ScriptFault as Fault}

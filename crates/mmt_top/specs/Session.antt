@@ -1,5 +1,5 @@
 -- What a session does, turn by turn.
-use Rattle.std.specs.Prelude.{◌≡◌, ℕ, Bool, true, false, List, [], ◌++◌, length, IfSome, IsSome, Option, Some, None, is_none}
+use Rattle.std.specs.Prelude.{◌≡◌, ℕ, Bool, true, false, List, [], ◌++◌, length, IfSome, IsSome, Option, Some, None}
 use Rattle.std.specs.Option.{option_map}
 use Rattle.mmt_outside.specs.Bytes.{Taken, appended, flushed, TookPrefix}
 use Rattle.output_meaning.specs.Lines.{lines_of}

@@ -23,28 +23,30 @@ name_has_one : (above : List Declaration) (label : List ℕ) (name : Piece) (fou
     → HasOne (declared above name.bytes ≡ Some family) (FaultsAt above label name) (fault_at name label found)
 name_has_one above label name None e =
     (record { breaks = e; place = refl; about = refl }, λ refusal fault. only refusal fault, λ stands. cc)
-    where
-      rule_is : (rule : Rule) → Breaks above name.bytes rule → rule ≡ unknown_name
-      rule_is unknown_name breaks = refl
-      rule_is level breaks = absurd cc
-      rule_is unsupported breaks = absurd breaks
-      only : (refusal : Refusal) → FaultsAt above label name refusal → refusal ≡ record { at = name.at; rule = unknown_name; label = label }
-      only refusal fault = record_is refusal (record { at = name.at; rule = unknown_name; label = label }) fault.place (rule_is refusal.rule fault.breaks) fault.about
+  where
+    rule_is : (rule : Rule) → Breaks above name.bytes rule → rule ≡ unknown_name
+    rule_is unknown_name breaks = refl
+    rule_is level breaks = absurd cc
+    rule_is unsupported breaks = absurd breaks
+
+    only : (refusal : Refusal) → FaultsAt above label name refusal → refusal ≡ record { at = name.at; rule = unknown_name; label = label }
+    only refusal fault = record_is refusal (record { at = name.at; rule = unknown_name; label = label }) fault.place (rule_is refusal.rule fault.breaks) fault.about
 name_has_one above label name (Some family) e = (e, λ refusal fault. none refusal.rule fault.breaks)
-    where
-      none : (rule : Rule) → Breaks above name.bytes rule → ⊥
-      none unknown_name breaks = cc
-      none level breaks = cc
-      none unsupported breaks = breaks
+  where
+    none : (rule : Rule) → Breaks above name.bytes rule → ⊥
+    none unknown_name breaks = cc
+    none level breaks = cc
+    none unsupported breaks = breaks
 name_has_one above label name (Some object) e =
     (record { breaks = e; place = refl; about = refl }, λ refusal fault. only refusal fault, λ stands. cc)
-    where
-      rule_is : (rule : Rule) → Breaks above name.bytes rule → rule ≡ level
-      rule_is unknown_name breaks = absurd cc
-      rule_is level breaks = refl
-      rule_is unsupported breaks = absurd breaks
-      only : (refusal : Refusal) → FaultsAt above label name refusal → refusal ≡ record { at = name.at; rule = level; label = label }
-      only refusal fault = record_is refusal (record { at = name.at; rule = level; label = label }) fault.place (rule_is refusal.rule fault.breaks) fault.about
+  where
+    rule_is : (rule : Rule) → Breaks above name.bytes rule → rule ≡ level
+    rule_is unknown_name breaks = absurd cc
+    rule_is level breaks = refl
+    rule_is unsupported breaks = absurd breaks
+
+    only : (refusal : Refusal) → FaultsAt above label name refusal → refusal ≡ record { at = name.at; rule = level; label = label }
+    only refusal fault = record_is refusal (record { at = name.at; rule = level; label = label }) fault.place (rule_is refusal.rule fault.breaks) fault.about
 
 row_has_one : (above : List Declaration) (label : List ℕ) (row : List Piece)
     → HasOne (AllStand above row) (IsRowFault above label row) (row_fault above label row)

@@ -1,8 +1,8 @@
 -- The items of lines, command by command.
-use Rattle.std.proofs.Common.{◌≡◌, ℕ, zero, suc, ◌≤◌, ◌<◌, Bool, true, false, cond, List, [], ◌∷◌, length, refl, sym, ap, ◌∙◌, arith}
+use Rattle.std.proofs.Common.{◌≡◌, ℕ, zero, suc, ◌≤◌, ◌<◌, Bool, true, false, cond, List, [], ◌∷◌, length, refl, ap, arith}
 use Rattle.std.specs.Prelude.{Option, Some, None, nat_lt}
 use Rattle.output_meaning.specs.Lines.{content_of}
-use Rattle.output_meaning.specs.Commands.{Said, nothing, puts, reports, wrong, said_by, is_end_line, text_limit, text_before, behind_end, Command, put, Next, ends, gives, bad, unended, ended, put_of, next_by, next_of}
+use Rattle.output_meaning.specs.Commands.{Said, nothing, puts, reports, wrong, said_by, is_end_line, text_limit, text_before, behind_end, Command, Next, ends, gives, bad, unended, ended, put_of, next_by, next_of}
 use Rattle.output_meaning.specs.Script.{Item, command, may_put_after, line_after, items_by, items_within, items_of}
 
 shorter_by : (b : Bool) (line : List ℕ) (lines rest : List (List ℕ)) (deeper : Option (List (List ℕ)))
@@ -25,10 +25,10 @@ ended-shorter name text (Some lines) n spoken rest h e = h rest cc
 pub put_of-shorter : (name : List ℕ) (lines : List (List ℕ)) (spoken : Command) (rest : List (List ℕ)) → put_of name lines ≡ gives spoken rest
     → length rest < length lines
 put_of-shorter name lines spoken rest e = by_test (nat_lt text_limit (length (text_before lines))) e
-    where
-      by_test : (b : Bool) → cond b bad (ended name (text_before lines) (behind_end lines)) ≡ gives spoken rest → length rest < length lines
-      by_test true h = absurd cc
-      by_test false h = ended-shorter name (text_before lines) (behind_end lines) (length lines) spoken rest (λ others. behind_end-shorter lines others) h
+  where
+    by_test : (b : Bool) → cond b bad (ended name (text_before lines) (behind_end lines)) ≡ gives spoken rest → length rest < length lines
+    by_test true h = absurd cc
+    by_test false h = ended-shorter name (text_before lines) (behind_end lines) (length lines) spoken rest (λ others. behind_end-shorter lines others) h
 
 next_by-shorter : (may_put : Bool) (said : Said) (line : List ℕ) (lines : List (List ℕ)) (spoken : Command) (rest : List (List ℕ))
     → next_by may_put said lines ≡ gives spoken rest → length rest < length (line ∷ lines)
@@ -67,7 +67,7 @@ items_within-same (suc n) (suc m) line may_put lines a b =
     (λ spoken rest. items_within n (line_after line lines rest) (may_put_after may_put spoken) rest)
     (λ spoken rest. items_within m (line_after line lines rest) (may_put_after may_put spoken) rest)
     (λ spoken rest e. let shorter : length rest < length lines = next_of-shorter may_put lines spoken rest e in
-        items_within-same n m (line_after line lines rest) (may_put_after may_put spoken) rest (omega arith) (omega arith))
+    items_within-same n m (line_after line lines rest) (may_put_after may_put spoken) rest (omega arith) (omega arith))
 
 -- the items of lines are those of what comes next
 pub items_of-next : (line : ℕ) (may_put : Bool) (lines : List (List ℕ))
@@ -80,4 +80,4 @@ items_of-next line may_put (first ∷ lines) =
     (λ spoken rest. items_within (length lines) (line_after line (first ∷ lines) rest) (may_put_after may_put spoken) rest)
     (λ spoken rest. items_of (line_after line (first ∷ lines) rest) (may_put_after may_put spoken) rest)
     (λ spoken rest e. let shorter : length rest < length (first ∷ lines) = next_of-shorter may_put (first ∷ lines) spoken rest e in
-        items_within-same (length lines) (length rest) (line_after line (first ∷ lines) rest) (may_put_after may_put spoken) rest (omega arith) (omega arith))
+    items_within-same (length lines) (length rest) (line_after line (first ∷ lines) rest) (may_put_after may_put spoken) rest (omega arith) (omega arith))

@@ -1,10 +1,8 @@
 -- The pieces of a text, one after another.
-use Rattle.std.proofs.Common.{◌≡◌, ℕ, zero, suc, ◌+◌, ◌-◌, ◌<◌, ◌≤◌, Bool, true, false, ◌&&◌, ◌||◌, not, cond, List, [], ◌∷◌, ◌++◌, length, take, drop, get_or, refl, sym, ap, ◌∙◌, subst, arith, add-one}
-use Rattle.std.specs.Prelude.{◌==◌, slice_index, if◌then◌else◌}
+use Rattle.std.proofs.Common.{◌≡◌, ℕ, ◌+◌, ◌≤◌, Bool, true, false, ◌&&◌, ◌||◌, not, cond, List, [], ◌∷◌, ◌++◌, length, refl, sym, ap, ◌∙◌, subst, arith}
+use Rattle.std.specs.Prelude.{◌==◌}
 use Rattle.std.specs.List.{list_all}
 use Rattle.std.proofs.lemmas.Bool.Decides.{nat_tests}
-use Rattle.std.proofs.lemmas.List.{take-append-drop, drop-drop}
-use Rattle.std.proofs.Math.Seq.{drop-cons}
 use Rattle.name_meaning.specs.Characters.{is_white_space, is_special, is_identifier_byte}
 use Rattle.output_meaning.specs.Pieces.{Piece, is_run_piece, onto_run, pieces_from}
 
@@ -39,10 +37,10 @@ StartsFrom-le at from (piece ∷ pieces) le h = omega arith
 onto_run-starts : (at byte : ℕ) (pieces : List Piece) → StartsFrom at (onto_run at byte pieces)
 onto_run-starts at byte [] = omega arith
 onto_run-starts at byte (piece ∷ pieces) = by_test (is_run_piece piece && (piece.at == at + 1))
-    where
-      by_test : (b : Bool) → StartsFrom at (cond b (record { at = at; bytes = byte ∷ piece.bytes } ∷ pieces) (record { at = at; bytes = byte ∷ [] } ∷ (piece ∷ pieces)))
-      by_test true = omega arith
-      by_test false = omega arith
+  where
+    by_test : (b : Bool) → StartsFrom at (cond b (record { at = at; bytes = byte ∷ piece.bytes } ∷ pieces) (record { at = at; bytes = byte ∷ [] } ∷ (piece ∷ pieces)))
+    by_test true = omega arith
+    by_test false = omega arith
 
 starts_by : (a b : Bool) (at : ℕ) (white special run : List Piece) → StartsFrom at white → StartsFrom at special → StartsFrom at run
     → StartsFrom at (cond a white (cond b special run))
@@ -125,7 +123,7 @@ pieces_from-run at b [] rest all ends =
     pieces_from-identifier at b rest all.0 ∙ onto_run-apart at b (pieces_from (at + 1) rest) (Apart-after (at + 1) rest ends)
 pieces_from-run at b (c ∷ run) rest all ends =
     let deeper : pieces_from (at + 1) ((c ∷ run) ++ rest) ≡ record { at = at + 1; bytes = c ∷ run } ∷ pieces_from (at + 1 + length (c ∷ run)) rest =
-        pieces_from-run (at + 1) c run rest all.1 ends in
+    pieces_from-run (at + 1) c run rest all.1 ends in
     let place : at + 1 + length (c ∷ run) ≡ at + length (b ∷ (c ∷ run)) = omega arith in
     pieces_from-identifier at b ((c ∷ run) ++ rest) all.0 ∙ ap (λ (ps : List Piece). onto_run at b ps) deeper
     ∙ onto_run-touching at b (record { at = at + 1; bytes = c ∷ run }) (pieces_from (at + 1 + length (c ∷ run)) rest) all.1.0 refl

@@ -1,13 +1,10 @@
 -- A text that is read line by line, up to its end line.
-use Rattle.std.proofs.Common.{◌≡◌, ℕ, ◌+◌, ◌-◌, ◌<◌, ◌≤◌, Bool, true, false, cond, List, [], ◌∷◌, ◌++◌, length, take, get_or, refl, sym, ap, ◌∙◌, subst, arith, append_assoc}
-use Rattle.std.specs.Prelude.{Some, None, slice_index, ◌==◌, if◌then◌else◌}
-use Rattle.std.specs.declared.option.Option.{Option}
-use Rattle.std.specs.Str.{bytes_eq}
-use Rattle.std.specs.Str.Lines.{strip_carriage_return}
-use Rattle.std.proofs.lemmas.List.{append-nil, length-append, length-take}
-use Rattle.output_meaning.specs.Lines.{lines_of, NoFeed, without_line_feed, content_of}
+use Rattle.std.proofs.Common.{◌≡◌, ℕ, ◌+◌, ◌≤◌, true, false, List, [], ◌∷◌, ◌++◌, length, refl, sym, ap, ◌∙◌, arith, append_assoc}
+use Rattle.std.specs.Prelude.{Some, None}
+use Rattle.std.proofs.lemmas.List.{append-nil, length-append}
+use Rattle.output_meaning.specs.Lines.{lines_of, NoFeed}
 use Rattle.output_meaning.specs.Commands.{is_end_line, text_before, behind_end}
-use Rattle.output_meaning.proofs.LineLemmas.{lines_of-whole, lines_of-last, NoFeed-append}
+use Rattle.output_meaning.proofs.LineLemmas.{lines_of-whole, lines_of-last}
 
 -- these are so many whole lines, none of which is an end line
 pub record IsTextSoFar (count : ℕ) (text : List ℕ) : Type 0 where
@@ -51,7 +48,7 @@ IsTextSoFar-more count text line so_far first other = record {
       ∙ ap (λ (ls : List (List ℕ)). behind_end ls) (first rest) ∙ behind_end-other line (lines_of rest) other;
   lines = λ rest.
       let whole : length (lines_of ((text ++ line) ++ rest)) ≡ count + length (lines_of (line ++ rest)) =
-          ap (λ (bs : List ℕ). length (lines_of bs)) (append_assoc text line rest) ∙ so_far.lines (line ++ rest) in
+      ap (λ (bs : List ℕ). length (lines_of bs)) (append_assoc text line rest) ∙ so_far.lines (line ++ rest) in
       let one : length (lines_of (line ++ rest)) ≡ length (line ∷ lines_of rest) = ap (λ (ls : List (List ℕ)). length ls) (first rest) in
       omega arith;
 }
@@ -72,7 +69,7 @@ text_ends count text line rest so_far first end = record {
       ∙ ap (λ (ls : List (List ℕ)). behind_end ls) first ∙ behind_end-end line (lines_of rest) end;
   lines =
       let whole : length (lines_of ((text ++ line) ++ rest)) ≡ count + length (lines_of (line ++ rest)) =
-          ap (λ (bs : List ℕ). length (lines_of bs)) (append_assoc text line rest) ∙ so_far.lines (line ++ rest) in
+      ap (λ (bs : List ℕ). length (lines_of bs)) (append_assoc text line rest) ∙ so_far.lines (line ++ rest) in
       let one : length (lines_of (line ++ rest)) ≡ length (line ∷ lines_of rest) = ap (λ (ls : List (List ℕ)). length ls) first in
       omega arith;
 }

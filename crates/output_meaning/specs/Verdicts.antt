@@ -1,5 +1,5 @@
 -- The verdict of a text under a name (this profile).
-use Rattle.std.specs.Prelude.{ℕ, Bool, List, [], Option, Some, None, length, if◌then◌else◌}
+use Rattle.std.specs.Prelude.{ℕ, List, [], Option, Some, None, length, if◌then◌else◌}
 use Rattle.output_meaning.specs.FirstForm.{Declaration, spelled}
 use Rattle.output_meaning.specs.Declared.{Refusal, unsupported, are_distinct, first_fault}
 

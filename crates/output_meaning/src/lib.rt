@@ -11,5 +11,4 @@ ghost use Rattle.output_meaning.specs.Declared.{HasOneVerdict};
 #[tactic(auto, using(crate::proofs::FirstFaults::has_one_verdict))]
 pub fn law_one_verdict()
     ensures { (declarations : List Declaration) → HasOneVerdict declarations }
-{
-}
+{}

@@ -1,14 +1,14 @@
 -- The first of the lines to come, when it was read.
-use Rattle.std.proofs.Common.{◌≡◌, ℕ, ◌+◌, ◌-◌, ◌^◌, ◌<◌, ◌≤◌, Bool, true, false, List, [], ◌∷◌, ◌++◌, length, refl, sym, ap, ◌∙◌, subst, arith}
-use Rattle.std.specs.Prelude.{Some, None, IfSome, IsSome, min}
+use Rattle.std.proofs.Common.{◌≡◌, ℕ, ◌≤◌, Bool, List, [], ◌∷◌, ◌++◌, length, refl, sym, ap, ◌∙◌, subst, arith}
+use Rattle.std.specs.Prelude.{Some, None, IfSome}
 use Rattle.std.specs.declared.option.Option.{Option}
 use Rattle.std.proofs.lemmas.List.{append-nil, length-append}
 use Rattle.mmt_outside.specs.Bytes.{preceded}
 use Rattle.output_meaning.specs.Lines.{lines_of, NoFeed, content_of}
-use Rattle.output_meaning.specs.Commands.{bad, next_by, next_of, said_by, wrong}
+use Rattle.output_meaning.specs.Commands.{bad, next_of, said_by, wrong}
 use Rattle.output_meaning.proofs.LineLemmas.{lines_of-last}
-use Rattle.output_meaning.proofs.LongLines.{FirstBegins, first_begins, said_by-long}
-use Rattle.script_reader.specs.Pieces.{EndsInFeed, ReadsLine}
+use Rattle.output_meaning.proofs.LongLines.{first_begins, said_by-long}
+use Rattle.script_reader.specs.Pieces.{ReadsLine}
 use Rattle.script_reader.specs.declared.line.LineEnd.TheVariants.{Feed, Input, Limit}
 use Rattle.script_reader.specs.Texts.{StaysTold}
 use Rattle.script_reader.proofs.TextSoFar.{ends_in_feed-first, stays_told}

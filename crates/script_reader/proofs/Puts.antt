@@ -1,13 +1,12 @@
 -- The answer of a command from that of its parts.
-use Rattle.std.proofs.Common.{◌≡◌, ℕ, ◌+◌, ◌-◌, ◌^◌, ◌<◌, ◌≤◌, Bool, true, false, List, [], ◌∷◌, length, refl, sym, ap, ◌∙◌, subst, arith}
+use Rattle.std.proofs.Common.{◌≡◌, ℕ, ◌+◌, ◌-◌, ◌^◌, ◌<◌, Bool, true, List, [], ◌∷◌, length, refl, sym, subst, arith}
 use Rattle.std.specs.Prelude.{Some, None, IfSome, IsSome, min, Result, Ok, Err}
 use Rattle.std.specs.declared.option.Option.{Option}
 use Rattle.output_meaning.specs.Lines.{lines_of, content_of}
 use Rattle.output_meaning.specs.Commands as meant
-use Rattle.output_meaning.specs.Script.{line_after}
 use Rattle.output_meaning.proofs.Items.{put_of-shorter}
 use Rattle.script_reader.specs.Texts.{StaysTold}
-use Rattle.script_reader.specs.Answers.{Leaves, IsNext, IsFault, IsAnswer}
+use Rattle.script_reader.specs.Answers.{Leaves, IsNext, IsAnswer}
 use Rattle.script_reader.specs.declared.command.Command.{Command}
 use Rattle.script_reader.specs.declared.command.Command.TheVariants as commands
 use Rattle.script_reader.specs.declared.fault.ScriptFault.{ScriptFault}

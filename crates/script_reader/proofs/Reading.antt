@@ -1,14 +1,14 @@
 -- A line that is read piece by piece.
-use Rattle.std.proofs.Common.{◌≡◌, ℕ, ◌+◌, ◌-◌, ◌<◌, ◌≤◌, Bool, true, false, List, [], ◌∷◌, ◌++◌, length, take, drop, get_or, refl, sym, ap, ◌∙◌, subst, arith, append_assoc, append-nil}
+use Rattle.std.proofs.Common.{◌≡◌, ℕ, ◌+◌, ◌<◌, Bool, true, false, List, [], ◌∷◌, ◌++◌, length, take, drop, get_or, refl, sym, ap, ◌∙◌, arith, append_assoc, append-nil}
 use Rattle.std.proofs.Math.Seq.{take-length, drop-length}
-use Rattle.std.specs.Prelude.{Some, None, IfSome}
+use Rattle.std.specs.Prelude.{Some, None}
 use Rattle.std.specs.declared.option.Option.{Option}
 use Rattle.std.proofs.lemmas.List.{take_more, take-append-drop, length-append, length-take}
 use Rattle.mmt_outside.specs.Bytes.{preceded}
 use Rattle.output_meaning.specs.Lines.{NoFeed}
 use Rattle.output_meaning.proofs.LineLemmas.{NoFeed-append}
 use Rattle.script_reader.specs.Pieces.{EndsInFeed, MovesFront, ReadsLine}
-use Rattle.script_reader.specs.declared.line.LineEnd.TheVariants.{Feed, Input, Limit}
+use Rattle.script_reader.specs.declared.line.LineEnd.TheVariants.{Feed}
 
 pub preceded-append : (xs ys : List ℕ) (left : Option (List ℕ)) → preceded (xs ++ ys) left ≡ preceded xs (preceded ys left)
 preceded-append xs ys None = refl

@@ -1,5 +1,5 @@
 -- A text that is read line by line from a buffer and a source.
-use Rattle.std.proofs.Common.{◌≡◌, ℕ, ◌+◌, ◌-◌, ◌*◌, ◌^◌, ◌<◌, ◌≤◌, Bool, true, false, List, [], ◌∷◌, ◌++◌, ◌⊎◌, inl, inr, length, refl, sym, ap, ◌∙◌, subst, arith, append_assoc}
+use Rattle.std.proofs.Common.{◌≡◌, ℕ, ◌+◌, ◌-◌, ◌^◌, ◌<◌, ◌≤◌, true, List, [], ◌∷◌, ◌++◌, ◌⊎◌, inl, inr, length, refl, sym, ap, ◌∙◌, subst, arith, append_assoc}
 use Rattle.std.specs.Prelude.{Some, None, IfSome, IsSome, min}
 use Rattle.std.specs.declared.option.Option.{Option}
 use Rattle.std.proofs.lemmas.List.{append-nil, length-append}
@@ -11,9 +11,8 @@ use Rattle.output_meaning.proofs.LineLemmas.{lines_of-last}
 use Rattle.output_meaning.proofs.TextLemmas.{IsTextSoFar, IsTextSoFar-nil, IsTextSoFar-more, EndsText, text_ends, RunsOut, text_runs_out, text_longer, first_line-feed}
 use Rattle.output_meaning.proofs.LongLines.{text_before-long}
 use Rattle.script_reader.specs.Pieces.{EndsInFeed}
-use Rattle.script_reader.specs.Texts.{IsTextLine, ReadsTextLine, TextGives, StaysTold}
+use Rattle.script_reader.specs.Texts.{ReadsTextLine, StaysTold}
 use Rattle.script_reader.specs.declared.text.TextLine.TheVariants.{Text, End, Last, Long}
-use Rattle.script_reader.specs.declared.text.Ending.TheVariants.{Whole, TooLong, Unended}
 use Rattle.script_reader.proofs.Reading.{preceded-append, preceded-nil}
 
 -- the text so far was taken from the bytes to come, and the count of lines went on over its lines

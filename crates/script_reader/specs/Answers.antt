@@ -1,5 +1,5 @@
 -- What a call for the next command answers.
-use Rattle.std.specs.Prelude.{◌≡◌, ◌≤◌, ℕ, Bool, List, [], ◌∷◌, IfSome, IsSome, length, Result, Ok, Err}
+use Rattle.std.specs.Prelude.{◌≡◌, ◌≤◌, ℕ, Bool, List, [], ◌∷◌, IfSome, length, Result, Ok, Err}
 use Rattle.std.specs.declared.option.Option.{Option}
 use Rattle.mmt_outside.specs.Faults.{Rose}
 use Rattle.output_meaning.specs.Lines.{lines_of}

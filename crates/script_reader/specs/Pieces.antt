@@ -1,5 +1,5 @@
 -- What is read of a line from a buffer and a source.
-use Rattle.std.specs.Prelude.{◌≡◌, ◌<◌, ◌≤◌, ℕ, Bool, true, false, List, [], ◌∷◌, ◌++◌, length, IfSome, IsErrOf, Result}
+use Rattle.std.specs.Prelude.{◌≡◌, ◌<◌, ◌≤◌, ℕ, Bool, true, false, List, [], ◌∷◌, ◌++◌, length, IfSome}
 use Rattle.std.specs.declared.option.Option.{Option}
 use Rattle.mmt_outside.specs.Bytes.{preceded}
 use Rattle.mmt_outside.specs.Faults.{Rose}

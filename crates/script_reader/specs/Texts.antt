@@ -5,8 +5,7 @@ use Rattle.mmt_outside.specs.Bytes.{preceded}
 use Rattle.output_meaning.specs.Lines.{lines_of, NoFeed}
 use Rattle.output_meaning.specs.Commands.{is_end_line, text_before, behind_end, text_limit}
 use Rattle.output_meaning.specs.Script.{line_after}
-use Rattle.script_reader.specs.Pieces.{EndsInFeed, EndsBy}
-use Rattle.script_reader.specs.declared.line.LineEnd.TheVariants.{Feed, Input}
+use Rattle.script_reader.specs.Pieces.{EndsInFeed}
 use Rattle.script_reader.specs.declared.text.TextLine.{TextLine}
 use Rattle.script_reader.specs.declared.text.TextLine.TheVariants.{Text, End, Last, Long}
 use Rattle.script_reader.specs.declared.text.Ending.{Ending}

@@ -1,4 +1,4 @@
-use Rattle.std.proofs.Common.{sym, arith}
+use Rattle.std.proofs.Common.{sym}
 use Rattle.mmt_top.proofs.Forms.{name_yes, name_other, names_short}
 use Rattle.mmt_top.proofs.form.last_name.Goals as goal
 

@@ -1,5 +1,4 @@
-use Rattle.std.proofs.Common.{◌≡◌, ◌++◌, ◌-◌, List, take, drop, length, sym, ap, ◌∙◌, arith, rules, subst}
-use Rattle.std.proofs.lemmas.List.{length-drop}
+use Rattle.std.proofs.Common.{List, drop, sym, ap, ◌∙◌, arith, rules, subst}
 use Rattle.output_meaning.specs.Pieces as pieces
 use Rattle.mmt_top.specs.Pieces.{piece_of, pieces_in}
 use Rattle.mmt_top.specs.declared.pieces.Piece.{Piece}

@@ -1,4 +1,4 @@
-use Rattle.std.proofs.Common.{◌≡◌, ◌++◌, [], List, ℕ, drop, length, sym, ap, ◌∙◌, arith}
+use Rattle.std.proofs.Common.{◌++◌, List, sym, ap, ◌∙◌, arith}
 use Rattle.std.proofs.lemmas.List.{append-nil}
 use Rattle.output_meaning.specs.Pieces as meant
 use Rattle.mmt_top.specs.Pieces.{pieces_in}

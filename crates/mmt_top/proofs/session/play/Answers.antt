@@ -3,8 +3,7 @@ use Rattle.std.specs.Prelude.{Option, Some, None, IfSome}
 use Rattle.output_meaning.specs.Script as meant
 use Rattle.script_reader.specs.Reading.{to_come}
 use Rattle.mmt_top.specs.declared.status.Status.{Status}
-use Rattle.mmt_top.specs.declared.status.Status.TheVariants.{Done}
-use Rattle.mmt_top.specs.Session.{put_in, items_to_come, output_to_come, EndsAs, TurnTells}
+use Rattle.mmt_top.specs.Session.{put_in, EndsAs, TurnTells}
 use Rattle.mmt_outside.proofs.Bytes.{preceded-nil}
 use Rattle.mmt_top.proofs.Sessions.{start, played_more, played_end, played_done}
 use Rattle.mmt_top.proofs.session.play.Goals as goal

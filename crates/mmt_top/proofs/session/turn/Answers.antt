@@ -1,13 +1,11 @@
-use Rattle.std.proofs.Common.{◌≡◌, ℕ, List, false, subst, rules}
-use Rattle.std.specs.Prelude.{Option, IfSome, Ok, Result}
-use Rattle.mmt_outside.specs.Bytes.{Taken}
+use Rattle.std.proofs.Common.{◌≡◌, false, subst, rules}
+use Rattle.std.specs.Prelude.{IfSome}
 use Rattle.output_meaning.specs.Lines.{lines_of}
 use Rattle.output_meaning.specs.Commands as commands
-use Rattle.script_reader.specs.Reading.{to_come, may_put_next}
-use Rattle.script_reader.specs.Answers.{IsNext, IsAnswer, IsGiven}
-use Rattle.script_reader.specs.Texts.{StaysTold}
+use Rattle.script_reader.specs.Reading.{to_come}
+use Rattle.script_reader.specs.Answers.{IsNext}
 use Rattle.script_reader.specs.declared.command.Command.{Command}
-use Rattle.mmt_top.specs.Session.{put_in, command_in}
+use Rattle.mmt_top.specs.Session.{put_in}
 use Rattle.mmt_top.proofs.Turns.{told_spoken, told_ended, told_faulted}
 use Rattle.mmt_top.proofs.session.turn.Goals as goal
 

@@ -1,5 +1,4 @@
 use Rattle.std.specs.Option.{option_map}
-use Rattle.mmt_top.specs.Forms.{declarations_in}
 use Rattle.mmt_top.specs.Verdicts.{levels_at, refusal_in}
 use Rattle.mmt_top.proofs.Levels.{Tested}
 use Rattle.mmt_top.proofs.verdict.verdict_by.Given as goal

@@ -1,8 +1,7 @@
-use Rattle.std.proofs.Common.{◌≡◌, ◌<◌, ◌≤◌, ◌-◌, length, Bool, true, false, List, ℕ, subst, arith}
+use Rattle.std.proofs.Common.{◌<◌, length, Bool, List, ℕ, subst, arith}
 use Rattle.std.specs.declared.option.Option.{Option}
-use Rattle.std.proofs.lemmas.List.{length-append}
 use Rattle.mmt_outside.specs.Bytes.{preceded}
-use Rattle.script_reader.specs.Pieces.{MovesFront, ReadsLine}
+use Rattle.script_reader.specs.Pieces.{MovesFront}
 use Rattle.script_reader.proofs.Reading.{ReadsPart, ReadsPart-more, ReadsLine-feed, MovesFront-longer}
 use Rattle.script_reader.proofs.line.read_line.Goals as goal
 

@@ -1,4 +1,4 @@
-use Rattle.std.proofs.Common.{◌≡◌, length, ℕ, List, [], subst, ap, arith}
+use Rattle.std.proofs.Common.{length, ℕ, List, subst, ap, arith}
 use Rattle.std.proofs.lemmas.Bool.Decides.{nat_tests}
 use Rattle.mmt_outside.specs.Bytes.{preceded}
 use Rattle.script_reader.specs.Pieces.{ReadsLine}

@@ -1,5 +1,4 @@
 use Rattle.std.proofs.Common.{◌≡◌, ℕ, List, subst, sym, ap, ◌∙◌}
-use Rattle.std.specs.declared.option.Option.{Option}
 use Rattle.mmt_outside.specs.Bytes.{preceded}
 use Rattle.output_meaning.specs.Lines.{content_of}
 use Rattle.output_meaning.specs.Commands as meant

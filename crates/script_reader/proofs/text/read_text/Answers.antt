@@ -1,12 +1,8 @@
-use Rattle.std.proofs.Common.{◌≡◌, ◌<◌, ◌≤◌, length, ℕ, List, [], subst, sym, ◌∙◌, arith}
-use Rattle.std.specs.Prelude.{IfSome}
-use Rattle.std.specs.declared.option.Option.{Option}
+use Rattle.std.proofs.Common.{subst, arith}
 use Rattle.mmt_outside.specs.Bytes.{preceded}
-use Rattle.output_meaning.specs.Commands.{text_limit, text_before, behind_end}
-use Rattle.output_meaning.specs.Lines.{lines_of}
 use Rattle.script_reader.specs.Texts.{ReadsTextLine}
 use Rattle.script_reader.specs.declared.text.TextLine.{TextLine}
-use Rattle.script_reader.proofs.TextSoFar.{HasText, HasText-nil, HasText-more, has_whole, has_last_short, has_last_long, has_long}
+use Rattle.script_reader.proofs.TextSoFar.{HasText-nil, HasText-more, has_whole, has_last_short, has_last_long, has_long}
 use Rattle.script_reader.proofs.text.read_text.Goals as goal
 
 pub loop-buffer-init : goal.loop-buffer-init
