@@ -1,0 +1,10 @@
+-- What a text spells.
+pub mod Bytes
+pub mod Tokens
+pub mod Cut
+pub mod Trees
+pub mod Grammar
+pub mod Nesting
+pub mod Reading
+pub mod Splitting
+pub mod UpToSpans
