@@ -53,11 +53,17 @@ abbrev pub ends_row : List ℕ → Bool
 ends_row [] = true
 ends_row (b ∷ bs) = not (is_identifier_byte b || (b == dot && begins is_identifier_byte bs))
 
--- the brackets
+-- the brackets, and their tokens
+abbrev pub brackets : List (ℕ × Sign)
+brackets = (40, LeftParen) ∷ (41, RightParen) ∷ (91, LeftBracket) ∷ (93, RightBracket) ∷ (left_brace, LeftBrace) ∷ (right_brace, RightBrace) ∷ []
+
+abbrev pub sign_in : List (ℕ × Sign) → ℕ → Option Sign
+sign_in [] b = None
+sign_in (p ∷ ps) b = if b == p.0 then Some p.1 else sign_in ps b
+
+-- the token that a byte is by itself, where it is a bracket
 abbrev pub bracket_sign : ℕ → Option Sign
-bracket_sign b =
-    if b == 40 then Some LeftParen else if b == 41 then Some RightParen else if b == 91 then Some LeftBracket
-    else if b == 93 then Some RightBracket else if b == left_brace then Some LeftBrace else if b == right_brace then Some RightBrace else None
+bracket_sign b = sign_in brackets b
 
 -- From a place of the text on, these bytes are cut into these tokens, with this ending.
 pub data Cut : ℕ → List ℕ → List Token → Ending → Type 0 where

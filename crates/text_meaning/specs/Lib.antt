@@ -2,6 +2,8 @@
 pub mod Bytes
 pub mod Tokens
 pub mod Cut
+pub mod Cutting
+pub mod CutLaws
 pub mod Trees
 pub mod Grammar
 pub mod Nesting

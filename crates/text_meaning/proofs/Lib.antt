@@ -1,0 +1,4 @@
+-- Lemmas about what a text spells.
+pub mod CutFollows
+pub mod CutExists
+pub mod OneCut
