@@ -2,3 +2,5 @@
 pub mod CutFollows
 pub mod CutExists
 pub mod OneCut
+pub mod Runs
+pub mod Spelled

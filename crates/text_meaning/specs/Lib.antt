@@ -8,5 +8,6 @@ pub mod Trees
 pub mod Grammar
 pub mod Nesting
 pub mod Reading
+pub mod Parsing
 pub mod Splitting
 pub mod UpToSpans
