@@ -4,3 +4,5 @@ pub mod CutExists
 pub mod OneCut
 pub mod Runs
 pub mod Spelled
+pub mod Fits
+pub mod Sound
