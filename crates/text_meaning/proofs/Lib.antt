@@ -6,3 +6,4 @@ pub mod Runs
 pub mod Spelled
 pub mod Fits
 pub mod Sound
+pub mod Completes
