@@ -7,3 +7,4 @@ pub mod Spelled
 pub mod Fits
 pub mod Sound
 pub mod Completes
+pub mod Stopping

@@ -9,5 +9,6 @@ pub mod Grammar
 pub mod Nesting
 pub mod Reading
 pub mod Parsing
+pub mod ReadingLaws
 pub mod Splitting
 pub mod UpToSpans
