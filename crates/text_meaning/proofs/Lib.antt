@@ -8,3 +8,4 @@ pub mod Fits
 pub mod Sound
 pub mod Completes
 pub mod Stopping
+pub mod OneAnswer

@@ -382,7 +382,7 @@ module _ (target : Target) where
   expect_path_fits g before s (Ident p) f = f (record { path = p; span = s })
   expect_path_fits g before s (Mark m) f = tt
 
-  step_fits : (u : State) (before : List Token) (t : Token) → Fits target u before → Fits target (step u t) (before ++ (t ∷ []))
+  pub step_fits : (u : State) (before : List Token) (t : Token) → Fits target u before → Fits target (step u t) (before ++ (t ∷ []))
   unfolding Fits
   step_fits Refused before t f = tt
   step_fits (Whole tree) before t f = tt
@@ -403,7 +403,7 @@ module _ (target : Target) where
   run_fits u before [] f = moved u before (before ++ []) (sym (append-nil before)) f
   run_fits u before (t ∷ ts) f = moved (run (step u t) ts) ((before ++ (t ∷ [])) ++ ts) (before ++ (t ∷ ts)) (append_assoc before (t ∷ []) ts) (run_fits (step u t) (before ++ (t ∷ [])) ts (step_fits u before t f))
 
-start_fits : (target : Target) → Fits target (start target) []
+pub start_fits : (target : Target) → Fits target (start target) []
 unfolding Fits Waits
 start_fits ModuleText = (refl, refl)
 start_fits JudgementText = record { front = []; operands = []; atoms = []; parts = refl; waiting = (refl, refl); row_fits = (refl, refl); atoms_fit = refl }
