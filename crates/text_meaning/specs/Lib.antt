@@ -3,12 +3,10 @@ pub mod Bytes
 pub mod Tokens
 pub mod Cut
 pub mod Cutting
-pub mod CutLaws
 pub mod Trees
 pub mod Grammar
 pub mod Nesting
 pub mod Reading
 pub mod Parsing
-pub mod ReadingLaws
 pub mod Splitting
 pub mod UpToSpans

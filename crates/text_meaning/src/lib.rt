@@ -1,4 +1,2 @@
-// What a text spells: its tokens, its trees, and where reading stops.
+//! What a text spells: its tokens, its trees, and where reading stops. It holds definitions alone, in `specs/`.
 #![tactic(auto)]
-
-pub mod laws;

@@ -5,8 +5,8 @@ use Rattle.text_meaning.specs.Trees.{Binder, Expr, TypeExpr, ArrowExpr, Exprs, N
 use Rattle.text_meaning.specs.Grammar.{join, applied}
 use Rattle.text_meaning.specs.Reading.{Target, ModuleText, JudgementText, Tree}
 use Rattle.text_meaning.specs.Parsing.{Simple, Atoms, NoAtoms, SomeAtoms, Row, Plain, AfterArrow, AfterBack, Brace, Curly, Square, Owner, InStruct, InView, Purpose, ClassOf, ValueOf, ValueFor, ObjectOf, FamilyOf, Waiting, Ends, InParens, InDomain, InBody, InCodomain, State, Refused, Whole, Expect, ExpectName, ExpectPath, MoreWords, AtModule, AtDecl, AfterDomain, AtAssign, AtOperand, AtVariable, AfterVariable, Binding, code, expect, add_atom, bound, typed, right_sign, last_span, last_tree, row_span, row_tree, at_expr, at_module, at_decl, after_domain, close_owner, at_morph, at_assign, more_words, class_ends, purpose_ends, resume, operand_ends, arrow_move, back_move, at_operand, at_variable, after_variable, expect_name, expect_path, step, run, is_refused, takes_include, start}
-use Rattle.text_meaning.proofs.Runs.{run-append, IsAfter, right_paren, right_bracket, right_brace, colon, equal, dot, end, IsWhole}
-use Rattle.text_meaning.proofs.Sound.{code_injective}
+use Rattle.text_laws.proofs.Runs.{run-append, IsAfter, right_paren, right_bracket, right_brace, colon, equal, dot, end, IsWhole}
+use Rattle.text_laws.proofs.Sound.{code_injective}
 
 abbrev pub is_whole : State → Bool
 is_whole (Whole t) = true

@@ -6,7 +6,7 @@ use Rattle.text_meaning.specs.Grammar.{join, applied, SpellsBinder, named, blank
 use Rattle.text_meaning.specs.Reading.{Target, ModuleText, JudgementText, Tree, ModuleTree, JudgementTree, Spells, spells_module, spells_judgement}
 use Rattle.text_meaning.specs.Parsing.{Simple, as_written, Atoms, NoAtoms, SomeAtoms, Row, Plain, AfterArrow, AfterBack, Brace, Curly, Square, Binding, PiOf, LamOf, TypedLamOf, Owner, InStruct, InView, Purpose, ClassOf, ValueOf, ValueFor, ObjectOf, FamilyOf, Waiting, Ends, InParens, InDomain, InBody, InCodomain, State, Refused, Whole, Expect, ExpectName, ExpectPath, MoreWords, AtModule, AtDecl, AfterDomain, AtAssign, AtOperand, AtVariable, AfterVariable, code, expect, add_atom, bound, typed, left_sign, right_sign, last_span, last_tree, row_span, row_tree, at_expr, at_module, at_decl, after_domain, close_owner, at_morph, at_assign, class_ends, purpose_ends, resume, operand_ends, arrow_move, back_move, at_operand, at_variable, after_variable, expect_name, expect_path, step, run, start}
 use Rattle.text_meaning.specs.Parsing as machine
-use Rattle.text_meaning.proofs.Fits.{name_token, path_token, AtomsFit, RowFits, is_codomain, Fills, Opened, InSig, OwnsStruct, OwnsView, Owns, InAssigns, HasClass, HasValue, HasTarget, HasObject, PurposeFits, Waits, OpenedAt, AfterDomainFits, Fits}
+use Rattle.text_laws.proofs.Fits.{name_token, path_token, AtomsFit, RowFits, is_codomain, Fills, Opened, InSig, OwnsStruct, OwnsView, Owns, InAssigns, HasClass, HasValue, HasTarget, HasObject, PurposeFits, Waits, OpenedAt, AfterDomainFits, Fits}
 
 -- ---- signs
 

@@ -6,7 +6,7 @@ use Rattle.text_meaning.specs.Grammar.{join, applied, SpellsBinder, named, blank
 use Rattle.text_meaning.specs.Nesting.{Nesting, expr_nesting, arrows_nesting, backs_nesting, tail_nesting, last_nesting, atoms_nesting, atom_nesting, binding_nesting, morph_nesting, assign_nesting, assigns_nesting, decl_nesting, decls_nesting, module_nesting, judgement_nesting}
 use Rattle.text_meaning.specs.Reading.{Target, Tree, ModuleTree, JudgementTree, Spells, spells_module, spells_judgement, nesting}
 use Rattle.text_meaning.specs.Parsing.{Simple, Atoms, NoAtoms, SomeAtoms, Row, Plain, AfterArrow, AfterBack, Brace, Curly, Square, PiOf, LamOf, TypedLamOf, Owner, InStruct, InView, Waiting, Ends, ObjectOf, InParens, InDomain, InBody, InCodomain, State, Whole, MoreWords, AtModule, AtDecl, AtAssign, AtOperand, AtVariable, AfterVariable, Binding, bound, add_atom, last_span, last_tree, row_span, row_tree, at_expr, at_morph, step, level, resume, arrow_move, start}
-use Rattle.text_meaning.proofs.Runs.{Reads, nothing, first, then, IsAfter, right_paren, right_bracket, right_brace, colon, equal, dot, end, IsWhole, ReadsWhole, first_whole, then_whole, whole_then, whole_then_whole}
+use Rattle.text_laws.proofs.Runs.{Reads, nothing, first, then, IsAfter, right_paren, right_bracket, right_brace, colon, equal, dot, end, IsWhole, ReadsWhole, first_whole, then_whole, whole_then, whole_then_whole}
 
 -- an operand with atoms is whole
 operand_whole : (n : ℕ) (row : Row) (s : Span) (h : Expr) (xs : Exprs) (k : Waiting)

@@ -6,9 +6,9 @@ use Rattle.std.proofs.lemmas.Str.{IsUtf8-from_is_utf8, is_utf8-from_IsUtf8}
 use Rattle.text_meaning.specs.Tokens.{Token}
 use Rattle.text_meaning.specs.Cut.{Ending, Finished, Unclosed, Cut, Lexed, Tokens, NotUtf8, OpenComment, IsLexed}
 use Rattle.text_meaning.specs.Cutting.{Between, Cutting, cut_on, lexed_of, lex}
-use Rattle.text_meaning.specs.CutLaws.{HasOneCut, EachTextHasOneCut}
-use Rattle.text_meaning.proofs.CutFollows.{cut_follows}
-use Rattle.text_meaning.proofs.CutExists.{cut_exists}
+use Rattle.token_laws.specs.CutLaws.{HasOneCut, EachTextHasOneCut}
+use Rattle.token_laws.proofs.CutFollows.{cut_follows}
+use Rattle.token_laws.proofs.CutExists.{cut_exists}
 
 -- the machine's answer to a text that is UTF-8, and to any other
 pub lex_utf8 : (text : List ℕ) → is_utf8 text ≡ true → lex text ≡ lexed_of (cut_on Between 0 text)

@@ -3,20 +3,20 @@ use Rattle.std.proofs.Common.{◌≡◌, ℕ, ◌==◌, Bool, true, false, ◌||
 use Rattle.text_meaning.specs.Tokens.{Span, Sign, Mark, Token, sign, EndSign}
 use Rattle.text_meaning.specs.Cut.{Lexed, Tokens, NotUtf8, OpenComment}
 use Rattle.text_meaning.specs.Cutting.{lex}
-use Rattle.text_meaning.specs.CutLaws.{HasOneCut}
+use Rattle.token_laws.specs.CutLaws.{HasOneCut}
 use Rattle.text_meaning.specs.Nesting.{Nesting}
 use Rattle.text_meaning.specs.Reading.{Target, Tree, Spells, nesting, Begins, GoesOn, is_too_deep, any_too_deep, StopsAt, IsLeftOut, IsTooDeepAt, Answer, Read, Syntax, TooDeep, Unsupported, IsAnswer, with_end, IsAnswerTo, Reads}
 use Rattle.text_meaning.specs.Parsing.{State, Whole, AtOperand, AtModule, step, level, run, levels, is_refused, is_left_out, fault, answer_at_end, answer_on, start, parse}
-use Rattle.text_meaning.specs.ReadingLaws.{TreesAreDetermined, HasOneAnswer, TokensHaveOneAnswer, answer_to, read, HasOneReading, EachTextHasOneReading}
-use Rattle.text_meaning.proofs.CutFollows.{or_front, or_back}
-use Rattle.text_meaning.proofs.OneCut.{one_cut}
-use Rattle.text_meaning.proofs.Runs.{run-append, levels-append}
-use Rattle.text_meaning.proofs.Runs as runs
-use Rattle.text_meaning.proofs.Spelled.{spelled_reads}
-use Rattle.text_meaning.proofs.Fits.{Fits}
-use Rattle.text_meaning.proofs.Sound.{step_fits, run_fits, start_fits, read_spelled}
-use Rattle.text_meaning.proofs.Completes.{Alive, Lives, step_lives, start_alive, run_lives, refused_run}
-use Rattle.text_meaning.proofs.Stopping.{end_steps, begins_if, begins_only, run-snoc, goes_if, goes_only, lives_on, alive_at, left_out_if, left_out_only}
+use Rattle.text_laws.specs.ReadingLaws.{TreesAreDetermined, HasOneAnswer, TokensHaveOneAnswer, answer_to, read, HasOneReading, EachTextHasOneReading}
+use Rattle.token_laws.proofs.CutFollows.{or_front, or_back}
+use Rattle.token_laws.proofs.OneCut.{one_cut}
+use Rattle.text_laws.proofs.Runs.{run-append, levels-append}
+use Rattle.text_laws.proofs.Runs as runs
+use Rattle.text_laws.proofs.Spelled.{spelled_reads}
+use Rattle.text_laws.proofs.Fits.{Fits}
+use Rattle.text_laws.proofs.Sound.{step_fits, run_fits, start_fits, read_spelled}
+use Rattle.text_laws.proofs.Completes.{Alive, Lives, step_lives, start_alive, run_lives, refused_run}
+use Rattle.text_laws.proofs.Stopping.{end_steps, begins_if, begins_only, run-snoc, goes_if, goes_only, lives_on, alive_at, left_out_if, left_out_only}
 
 -- ---- nestings
 

@@ -1,7 +1,4 @@
--- Lemmas about what a text spells.
-pub mod CutFollows
-pub mod CutExists
-pub mod OneCut
+-- Lemmas about reading.
 pub mod Runs
 pub mod Spelled
 pub mod Fits

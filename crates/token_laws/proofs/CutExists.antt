@@ -7,7 +7,7 @@ use Rattle.text_meaning.specs.Bytes.{line_feed, quote, percent, dot, colon, equa
 use Rattle.text_meaning.specs.Tokens.{Sign, Mark, Token, dotted, spelled}
 use Rattle.text_meaning.specs.Cut.{Ending, Finished, Unclosed, Closes, NeverCloses, begins_line_comment, ends_line, begins_nothing, is_row, ends_row, bracket_sign, Cut, at_end, at_mark, white_space, line_comment, nested_comment, unclosed_comment, percent_word, stray_percent, stray_quote, assign, lone_colon, bracket, lone_dot, row}
 use Rattle.text_meaning.specs.Cutting.{InComment, Between, Cutting, cut_on, closed_place}
-use Rattle.text_meaning.proofs.CutFollows.{and_front, and_back, or_front, or_back, not_true, not_false, Each, one_of, closing, Closing, closed, open', comment_goes}
+use Rattle.token_laws.proofs.CutFollows.{and_front, and_back, or_front, or_back, not_true, not_false, Each, one_of, closing, Closing, closed, open', comment_goes}
 
 -- a front of identifier bytes, as long as it goes
 record Run (bs : List ℕ) : Type 0 where

@@ -1,0 +1,2 @@
+-- What holds of the answers of a reader.
+pub mod ReadingLaws

@@ -1,0 +1,4 @@
+-- Lemmas about the cut.
+pub mod CutFollows
+pub mod CutExists
+pub mod OneCut

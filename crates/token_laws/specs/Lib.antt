@@ -1,0 +1,2 @@
+-- What holds of the cut of every text.
+pub mod CutLaws
