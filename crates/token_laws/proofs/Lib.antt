@@ -2,3 +2,4 @@
 pub mod CutFollows
 pub mod CutExists
 pub mod OneCut
+pub mod CutExamples

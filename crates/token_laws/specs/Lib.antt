@@ -1,2 +1,3 @@
 -- What holds of the cut of every text.
 pub mod CutLaws
+pub mod CutExamples

@@ -1,9 +1,16 @@
 // Laws about the cut of a text into tokens. Each is the contract of a function that does nothing.
 
+ghost use Rattle.token_laws.specs.CutExamples.{CutExamples};
 ghost use Rattle.token_laws.specs.CutLaws.{EachTextHasOneCut};
 
 /// Each text has tokens or exactly one of the two faults, and `lex` gives it.
 pub fn law_one_cut()
     ensures { EachTextHasOneCut }
+{
+}
+
+/// Small texts are cut as the table of tokens says.
+pub fn law_cut_examples()
+    ensures { CutExamples }
 {
 }
