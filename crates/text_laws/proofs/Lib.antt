@@ -6,3 +6,4 @@ pub mod Sound
 pub mod Completes
 pub mod Stopping
 pub mod OneAnswer
+pub mod ReadingExamples

@@ -1,5 +1,6 @@
 // Laws about what tokens and texts spell. Each is the contract of a function that does nothing.
 
+ghost use Rattle.text_laws.specs.ReadingExamples.{ReadingExamples};
 ghost use Rattle.text_laws.specs.ReadingLaws.{TreesAreDetermined, TokensHaveOneAnswer, EachTextHasOneReading};
 
 /// Tokens spell at most one tree.
@@ -17,5 +18,11 @@ pub fn law_one_answer()
 /// Each text spells a tree or has exactly one fault, and `read` answers it.
 pub fn law_one_reading()
     ensures { EachTextHasOneReading }
+{
+}
+
+/// Small texts are read as the grammar and the rules of stopping say.
+pub fn law_reading_examples()
+    ensures { ReadingExamples }
 {
 }
