@@ -3,3 +3,4 @@ pub mod CutFollows
 pub mod CutExists
 pub mod OneCut
 pub mod CutExamples
+pub mod Spans

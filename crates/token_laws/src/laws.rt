@@ -2,6 +2,7 @@
 
 ghost use Rattle.token_laws.specs.CutExamples.{CutExamples};
 ghost use Rattle.token_laws.specs.CutLaws.{EachTextHasOneCut};
+ghost use Rattle.token_laws.specs.SpanLaws.{TokensStandWell};
 
 /// Each text has tokens or exactly one of the two faults, and `lex` gives it.
 pub fn law_one_cut()
@@ -12,5 +13,11 @@ pub fn law_one_cut()
 /// Small texts are cut as the table of tokens says.
 pub fn law_cut_examples()
     ensures { CutExamples }
+{
+}
+
+/// The tokens of a text stand in order, inside the text and apart, and each holds its bytes.
+pub fn law_spans()
+    ensures { TokensStandWell }
 {
 }
