@@ -4,6 +4,8 @@ ghost use Rattle.std.specs.List.{list_all};
 ghost use Rattle.name_meaning.specs.Characters as characters;
 ghost use Rattle.name_meaning.specs.Identifiers as identifiers;
 
+use name_meaning::is_identifier_byte;
+
 /// Whether a text is an identifier, which no reserved word is.
 pub(crate) fn is_identifier(text: &str) -> bool
     ensures { result ≡ identifiers.is_identifier text.now }
@@ -27,22 +29,4 @@ fn is_reserved(text: &str) -> bool
     ensures { result ≡ identifiers.is_reserved text.now }
 {
     text == "type" || text == "->" || text == "<-" || text == "=" || text == "_"
-}
-
-fn is_identifier_byte(byte: u8) -> bool
-    ensures { result ≡ characters.is_identifier_byte byte }
-{
-    !(is_white_space(byte) || is_special(byte))
-}
-
-fn is_white_space(byte: u8) -> bool
-    ensures { result ≡ characters.is_white_space byte }
-{
-    (byte >= 9 && byte <= 13) || byte == b' '
-}
-
-fn is_special(byte: u8) -> bool
-    ensures { result ≡ characters.is_special byte }
-{
-    b":.()[]{}%\"".contains(&byte)
 }

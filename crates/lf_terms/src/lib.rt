@@ -6,11 +6,18 @@ mod bytes;
 mod identifier;
 mod memory;
 mod name;
+mod names;
+mod path;
 mod span;
 mod texts;
 
 pub use bytes::Bytes;
 pub use memory::Memory;
 pub use name::{Name, NameFault};
+pub use names::Names;
+pub use path::Path;
 pub use span::Span;
 pub use texts::Texts;
+
+#[cfg(test)]
+mod tests;

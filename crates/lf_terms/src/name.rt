@@ -12,6 +12,7 @@ use crate::Memory;
 use crate::identifier::is_identifier;
 use std::alloc::{AllocError, Global};
 use std::cmp::Ordering;
+use std::default::MadeWith;
 use std::hash::{Hash, Hasher};
 use std::marker::Model;
 use std::sync::ArcStr;
@@ -35,19 +36,26 @@ impl From<AllocError> for NameFault {
 /// A name, seen as its bytes, which are an identifier.
 #[derive(Debug, Drop)]
 pub struct Name {
-    text: ArcStr,
+    text: Text,
+}
+
+#[derive(Debug, Drop)]
+enum Text {
+    /// The name `x`, which takes no memory. It fills the places of a `SmallVec` that hold no name yet.
+    Filler,
+    Shared(ArcStr),
 }
 
 impl Model for Name {
     ghost use Rattle.std.specs.Prelude.{List, ℕ, IsTrue};
-    ghost use Rattle.std.specs.Arc.{arc_str_bytes};
     ghost use Rattle.name_meaning.specs.Identifiers.{is_identifier};
+    ghost use Rattle.lf_terms.specs.SharedText.{text_bytes};
 
     ghost Value = { List ℕ };
 
-    ghost view = { λ n. arc_str_bytes n.text };
+    ghost view = { λ n. text_bytes n.text };
 
-    ghost invariant = { λ n. IsTrue (is_identifier (arc_str_bytes n.text)) };
+    ghost invariant = { λ n. IsTrue (is_identifier (text_bytes n.text)) };
 }
 
 impl Name {
@@ -61,7 +69,7 @@ impl Name {
             return Err(NameFault::NotAName);
         }
         Ok(Name {
-            text: ArcStr::from_str(alloc, text)?,
+            text: Text::Shared(ArcStr::from_str(alloc, text)?),
         })
     }
 
@@ -69,16 +77,27 @@ impl Name {
         ensures text { result.now ≡ self.now }
         ensures identifier { IsTrue (is_identifier self.now) }
     {
-        self.text.as_str()
+        match &self.text {
+            Text::Filler => "x",
+            Text::Shared(text) => text.as_str(),
+        }
     }
 
     /// An equal name, over the same bytes.
     pub fn copy(&self, _alloc: Global) -> Result<Name, Memory>
         ensures { IfOk result (λ name. name ≡ self.now) }
     {
-        Ok(Name {
-            text: self.text.clone()?,
-        })
+        let text = match &self.text {
+            Text::Filler => Text::Filler,
+            Text::Shared(text) => Text::Shared(text.clone()?),
+        };
+        Ok(Name { text })
+    }
+}
+
+impl MadeWith<Global> for Name {
+    fn made_with(_alloc: Global) -> Name {
+        Name { text: Text::Filler }
     }
 }
 
@@ -88,7 +107,7 @@ impl PartialEq for Name {
     ghost laws = { partial_equiv_from_equiv nat_list_eq_equiv };
 
     fn eq(&self, other: &Self) -> bool {
-        self.text == other.text
+        self.as_str() == other.as_str()
     }
 }
 
@@ -116,7 +135,7 @@ impl Ord for Name {
     ghost matches_eq = { texts_ties };
 
     fn cmp(&self, other: &Self) -> Ordering {
-        self.text.cmp(&other.text)
+        self.as_str().cmp(other.as_str())
     }
 }
 
@@ -128,6 +147,6 @@ impl Hash for Name {
     ghost respects_eq = { Prim.search (hashing, rules) };
 
     fn hash<H: Hasher>(&self, state: &mut H) {
-        self.text.hash(state);
+        self.as_str().hash(state);
     }
 }

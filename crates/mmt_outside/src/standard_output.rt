@@ -1,0 +1,62 @@
+//! The standard output of the process. It does not tell what bytes went out.
+ghost use Rattle.std.specs.Prelude.{◌≡◌, ◌≤◌, None};
+ghost use Rattle.mmt_outside.specs.Faults.{Rose};
+
+use crate::{Failed, Sink};
+use std::io::Write;
+use std::marker::Model;
+use std::rt::Stdout;
+
+/// The standard output, seen as its count of faults.
+#[derive(Drop)]
+pub struct StdSink {
+    output: Stdout,
+    faults: u64,
+}
+
+impl Model for StdSink {
+    ghost use Rattle.std.specs.Prelude.{ℕ};
+
+    ghost Value = { ℕ };
+
+    ghost view = { λ s. s.faults };
+}
+
+impl StdSink {
+    pub fn new(rt: HostRuntime) -> Self
+        ensures { result ≡ 0 }
+    {
+        StdSink {
+            output: rt.stdout(),
+            faults: 0,
+        }
+    }
+
+    fn fault(&mut self) -> Failed
+        ensures later { self.old ≤ self.new }
+        ensures rose { Rose self.old self.new }
+    {
+        self.faults = self.faults.saturating_add(1);
+        Failed
+    }
+}
+
+impl Sink for StdSink {
+    ghost taken = { λ _. None };
+
+    ghost faults = { λ s. s };
+
+    fn write(&mut self, piece: &[u8]) -> Result<usize, Failed> {
+        match self.output.write(piece) {
+            Ok(count) if count > 0 || piece.is_empty() => Ok(count),
+            _ => Err(self.fault()),
+        }
+    }
+
+    fn flush(&mut self) -> Result<(), Failed> {
+        match self.output.flush() {
+            Ok(()) => Ok(()),
+            Err(_) => Err(self.fault()),
+        }
+    }
+}

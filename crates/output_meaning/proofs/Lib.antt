@@ -1,0 +1,6 @@
+pub mod Examples
+pub mod FirstFaults
+pub mod LineLemmas
+pub mod TextLemmas
+pub mod LongLines
+pub mod Items

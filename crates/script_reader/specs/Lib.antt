@@ -1,0 +1,5 @@
+pub mod Pieces
+pub mod Said
+pub mod Texts
+pub mod Answers
+pub mod Reading
