@@ -94,7 +94,7 @@ unfolding cut_on
 line_ends at [] h = refl
 line_ends at (b ∷ bs) h = subst (λ x. cut_on InLine at (x ∷ bs) ≡ cut_on Between at (x ∷ bs)) (sym (eqb-true b line_feed h)) refl
 
-line_goes : (at : ℕ) (comment rest : List ℕ) → list_all (λ b. not (b == line_feed)) comment ≡ true → ends_line rest ≡ true
+pub line_goes : (at : ℕ) (comment rest : List ℕ) → list_all (λ b. not (b == line_feed)) comment ≡ true → ends_line rest ≡ true
     → cut_on InLine at (comment ++ rest) ≡ cut_on Between (at + length comment) rest
 line_goes at [] rest h e = line_ends at rest e ∙ ap (λ n. cut_on Between n rest) (omega arith)
 line_goes at (b ∷ comment) rest h e =
@@ -103,7 +103,7 @@ line_goes at (b ∷ comment) rest h e =
     ∙ line_goes (at + 1) comment rest (and_back (not (b == line_feed)) _ h) e
     ∙ ap (λ n. cut_on Between n rest) (omega arith)
 
-percent_line : (at : ℕ) (bs : List ℕ) → begins_line_comment bs ≡ true → percent_move at bs ≡ GoOn [] InLine
+pub percent_line : (at : ℕ) (bs : List ℕ) → begins_line_comment bs ≡ true → percent_move at bs ≡ GoOn [] InLine
 percent_line at [] h = refl
 percent_line at (b ∷ bs) h = rw h refl
 
@@ -152,10 +152,10 @@ passes_over n b c cs h (open' g) =
     open' (λ from at. step_is (InComment from n) at b (c ∷ cs) (GoOn [] (InComment from n)) (rw (h1, h2) refl) ∙ g from (at + 1))
 
 -- the mark that stands here, if one does
-mark_front : (b c : ℕ) (t : Bool) → (b == percent && c == left_brace) ≡ true → (b ≡ percent) × (c ≡ left_brace)
+pub mark_front : (b c : ℕ) (t : Bool) → (b == percent && c == left_brace) ≡ true → (b ≡ percent) × (c ≡ left_brace)
 mark_front b c t h = (eqb-true b percent (and_front _ _ h), eqb-true c left_brace (and_back (b == percent) _ h))
 
-mark_back : (b c : ℕ) → (b == right_brace && c == percent) ≡ true → (b ≡ right_brace) × (c ≡ percent)
+pub mark_back : (b c : ℕ) → (b == right_brace && c == percent) ≡ true → (b ≡ right_brace) × (c ≡ percent)
 mark_back b c h = (eqb-true b right_brace (and_front _ _ h), eqb-true c percent (and_back (b == right_brace) _ h))
 
 opens_over : (n : ℕ) (cs : List ℕ) → Closing (suc n) cs → Closing n (percent ∷ left_brace ∷ cs)
@@ -203,7 +203,7 @@ never_closes at bs h = go (closing bs 0)
 
 -- ---- words and rows
 
-word_goes : (from at : ℕ) (w word rest : List ℕ) → list_all is_identifier_byte word ≡ true → begins is_identifier_byte rest ≡ false
+pub word_goes : (from at : ℕ) (w word rest : List ℕ) → list_all is_identifier_byte word ≡ true → begins is_identifier_byte rest ≡ false
     → cut_on (InWord from w) at (word ++ rest) ≡ ahead (token from (at + length word) (Mark (percent_sign (w ++ word))) ∷ []) (cut_on Between (at + length word) rest)
 unfolding cut_on
 word_goes from at w [] [] h e = rw (append-nil w) (ap (λ n. record { tokens = token from n (Mark (percent_sign w)) ∷ []; ending = Finished n }) (omega arith))
@@ -271,7 +271,7 @@ row_goes from at ws w (v ∷ vs) rest h e =
 
 -- ---- the machine follows the relation
 
-percent_nothing : (at : ℕ) (bs : List ℕ) → begins_nothing bs ≡ true → percent_move at bs ≡ GoOn (token at (at + 1) (Mark Stray) ∷ []) Between
+pub percent_nothing : (at : ℕ) (bs : List ℕ) → begins_nothing bs ≡ true → percent_move at bs ≡ GoOn (token at (at + 1) (Mark Stray) ∷ []) Between
 percent_nothing at [] h = absurd (true≢false (sym h))
 percent_nothing at (b ∷ bs) h =
     let no : ((is_white_space b || b == percent) || ((b == left_brace || b == dot) || is_identifier_byte b)) ≡ false = not_true _ h in
@@ -303,11 +303,11 @@ identifier_byte_move at b bs h =
     let no_white = not_white b h in
     rw (h, no_white, no_percent, no_brace, no_dot) refl
 
-percent_word_move : (at : ℕ) (word rest : List ℕ) → is_run word ≡ true → percent_move at (word ++ rest) ≡ GoOn [] (InWord at [])
+pub percent_word_move : (at : ℕ) (word rest : List ℕ) → is_run word ≡ true → percent_move at (word ++ rest) ≡ GoOn [] (InWord at [])
 percent_word_move at [] rest h = absurd (true≢false (sym h))
 percent_word_move at (b ∷ word) rest h = identifier_byte_move at b (word ++ rest) (and_front (is_identifier_byte b) _ (run_front (b ∷ word) h))
 
-row_first : (at : ℕ) (words : List (List ℕ)) (rest : List ℕ) → is_row words ≡ true → ends_row rest ≡ true
+pub row_first : (at : ℕ) (words : List (List ℕ)) (rest : List ℕ) → is_row words ≡ true → ends_row rest ≡ true
     → cut_on Between at (spelled words ++ rest) ≡ ahead (token at (at + length (spelled words)) (row_kind words) ∷ []) (cut_on Between (at + length (spelled words)) rest)
 unfolding cut_on
 row_first at [] rest h e = absurd (true≢false (sym h))

@@ -4,3 +4,4 @@ pub mod CutExists
 pub mod OneCut
 pub mod CutExamples
 pub mod Spans
+pub mod Steps

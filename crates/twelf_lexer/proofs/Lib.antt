@@ -1,0 +1,2 @@
+-- Lemmas of the lexer.
+pub mod Fronts

@@ -1,0 +1,2 @@
+-- How a lexer goes through a text.
+pub mod Scans
