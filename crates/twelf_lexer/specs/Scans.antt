@@ -1,7 +1,7 @@
 -- How far a front of a text goes.
-use Rattle.std.specs.Prelude.{◌≡◌, ℕ, ◌≤◌, ◌<◌, Bool, true, false, List, [], length, drop, Option}
+use Rattle.std.specs.Prelude.{◌≡◌, ℕ, ◌-◌, ◌≤◌, ◌<◌, Bool, true, false, List, [], length, drop, slice_index}
 use Rattle.std.specs.List.{list_all, slice_range}
-use Rattle.text_meaning.specs.Bytes.{begins}
+use Rattle.text_meaning.specs.Bytes.{percent, begins}
 use Rattle.text_meaning.specs.Cutting.{Between, InComment, cut_on}
 use Rattle.text_meaning.specs.Cut.{Unclosed}
 
@@ -16,6 +16,7 @@ pub record IsFront (test : ℕ → Bool) (text : List ℕ) (at to : ℕ) : Type 
 pub record Closes (text : List ℕ) (at to : ℕ) : Type 0 where
   pub forward : at < to
   pub within : to ≤ length text
+  pub ends : slice_index text (to - 1) ≡ percent
   pub closes : (from : ℕ) → cut_on (InComment from 0) at (drop at text) ≡ cut_on Between to (drop to text)
 
 -- it has no end

@@ -1,5 +1,8 @@
 //! Why a text has no tokens.
 
+ghost use Rattle.std.specs.Prelude.{◌≡◌};
+ghost use Rattle.twelf_lexer.specs.declared.fault.LexFault.TheVariants.{Memory as WantOfMemory};
+
 use lf_terms::Memory;
 
 /// A text that has no tokens, or want of memory.
@@ -13,6 +16,8 @@ pub enum LexFault {
 }
 
 impl From<Memory> for LexFault {
+    ghost from_gives = { λ _ e. e ≡ WantOfMemory };
+
     fn from(_: Memory) -> Self {
         LexFault::Memory
     }
