@@ -9,4 +9,5 @@ pub mod Nesting
 pub mod Reading
 pub mod Parsing
 pub mod Splitting
+pub mod Dividing
 pub mod UpToSpans

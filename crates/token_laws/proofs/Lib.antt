@@ -5,3 +5,6 @@ pub mod OneCut
 pub mod CutExamples
 pub mod Spans
 pub mod Steps
+pub mod Divisions
+pub mod OneDivision
+pub mod DivisionExamples

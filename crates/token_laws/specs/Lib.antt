@@ -2,3 +2,5 @@
 pub mod CutLaws
 pub mod CutExamples
 pub mod SpanLaws
+pub mod DivisionLaws
+pub mod DivisionExamples

@@ -14,3 +14,6 @@ pub use fault::LexFault;
 pub use lexer::{Cut, lex, tokens};
 pub use list::TokenList;
 pub use token::{Token, TokenKind};
+
+#[cfg(test)]
+mod tests;
