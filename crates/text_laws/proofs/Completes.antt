@@ -1,12 +1,11 @@
 -- Every state that a reader comes to can be completed.
-use Rattle.std.proofs.Common.{◌≡◌, ℕ, ◌+◌, ◌==◌, Bool, true, false, ◌⊎◌, inl, inr, List, [], ◌∷◌, ◌++◌, Option, Some, None, if◌then◌else◌, refl, sym, ap, subst, ◌∙◌, eqb-true, eq-eqb, true≢false}
-use Rattle.text_meaning.specs.Tokens.{Span, Sign, Kind, Mark, Ident, Token, sign, ident, SigWord, ViewWord, IncludeWord, StructWord, OtherWord, Stray, AssignSign, ColonSign, LeftParen, RightParen, LeftBracket, RightBracket, LeftBrace, RightBrace, DotSign, TypeWord, ArrowSign, BackSign, EqualSign, BlankSign, EndSign}
+use Rattle.std.proofs.Common.{◌≡◌, ℕ, ◌+◌, ◌==◌, Bool, true, false, ◌⊎◌, inl, inr, List, [], ◌∷◌, None, if◌then◌else◌, refl, sym, ap, ◌∙◌, eq-eqb, true≢false}
+use Rattle.text_meaning.specs.Tokens.{Span, Sign, Kind, Mark, Ident, Token, sign, ident, SigWord, ViewWord, IncludeWord, StructWord, AssignSign, ColonSign, LeftParen, RightParen, LeftBracket, RightBracket, LeftBrace, RightBrace, DotSign, TypeWord, ArrowSign, BackSign, EqualSign, BlankSign, EndSign}
 use Rattle.text_meaning.specs.Trees.{Binder, Expr, TypeExpr, ArrowExpr, Exprs, NoArgs, Written, Assign, Decl}
 use Rattle.text_meaning.specs.Grammar.{join, applied}
 use Rattle.text_meaning.specs.Reading.{Target, ModuleText, JudgementText, Tree}
-use Rattle.text_meaning.specs.Parsing.{Simple, Atoms, NoAtoms, SomeAtoms, Row, Plain, AfterArrow, AfterBack, Brace, Curly, Square, Owner, InStruct, InView, Purpose, ClassOf, ValueOf, ValueFor, ObjectOf, FamilyOf, Waiting, Ends, InParens, InDomain, InBody, InCodomain, State, Refused, Whole, Expect, ExpectName, ExpectPath, MoreWords, AtModule, AtDecl, AfterDomain, AtAssign, AtOperand, AtVariable, AfterVariable, Binding, code, expect, add_atom, bound, typed, right_sign, last_span, last_tree, row_span, row_tree, at_expr, at_module, at_decl, after_domain, close_owner, at_morph, at_assign, more_words, class_ends, purpose_ends, resume, operand_ends, arrow_move, back_move, at_operand, at_variable, after_variable, expect_name, expect_path, step, run, is_refused, takes_include, start}
-use Rattle.text_laws.proofs.Runs.{run-append, IsAfter, right_paren, right_bracket, right_brace, colon, equal, dot, end, IsWhole}
-use Rattle.text_laws.proofs.Sound.{code_injective}
+use Rattle.text_meaning.specs.Parsing.{Simple, Atoms, NoAtoms, SomeAtoms, Row, Plain, AfterArrow, AfterBack, Brace, Curly, Square, Owner, InStruct, InView, Purpose, ClassOf, ValueOf, ValueFor, ObjectOf, FamilyOf, Waiting, Ends, InParens, InDomain, InBody, InCodomain, State, Refused, Whole, Expect, ExpectName, ExpectPath, MoreWords, AtModule, AtDecl, AfterDomain, AtAssign, AtOperand, AtVariable, AfterVariable, Binding, code, expect, add_atom, bound, typed, right_sign, last_span, last_tree, row_span, row_tree, at_expr, at_module, at_decl, after_domain, close_owner, at_assign, more_words, class_ends, purpose_ends, resume, operand_ends, arrow_move, back_move, at_operand, at_variable, after_variable, expect_name, expect_path, step, run, is_refused, takes_include, start}
+use Rattle.text_laws.proofs.Runs.{IsAfter, right_paren, right_bracket, right_brace, colon, equal, dot, end, IsWhole}
 
 abbrev pub is_whole : State → Bool
 is_whole (Whole t) = true
@@ -252,7 +251,7 @@ Finishes k = (u : State) (s : Span) (e : Expr) → IsWhole u k s e → Completes
 atoms_finish : (n : ℕ) (row : Row) (xs : Atoms) (k : Waiting) → Finishes k → Completes (AtOperand n row xs k)
 atoms_finish n row NoAtoms k f =
     sign_first (AtOperand n row NoAtoms k) (AtOperand n row (SomeAtoms here (TypeExpr here) NoArgs) k) TypeWord refl
-      (f (AtOperand n row (SomeAtoms here (TypeExpr here) NoArgs) k) (row_span row here) (row_tree row here (TypeExpr here)) (operand_whole n row here (TypeExpr here) NoArgs k))
+    (f (AtOperand n row (SomeAtoms here (TypeExpr here) NoArgs) k) (row_span row here) (row_tree row here (TypeExpr here)) (operand_whole n row here (TypeExpr here) NoArgs k))
 atoms_finish n row (SomeAtoms s h xs) k f = f (AtOperand n row (SomeAtoms s h xs) k) (row_span row s) (row_tree row s (applied s h xs)) (operand_whole n row s h xs k)
 
 body_finishes : (l : Span) (b : Binding) (row : Row) (xs : Atoms) (k : Waiting) → Finishes k → Finishes (InBody l b row xs k)
@@ -278,7 +277,7 @@ waiting_completes (InParens l n row xs k) u s e w =
     sign_first u (AtOperand n row (add_atom xs (join l here) e) k) RightParen (w RightParen here right_paren) (atoms_finish n row (add_atom xs (join l here) e) k (waiting_completes k))
 waiting_completes (InDomain b l x n row xs k) u s e w =
     sign_first u (at_expr (n + 1) (InBody l (typed b x e) row xs k)) (right_sign b) (w (right_sign b) here (right_after b) ∙ domain_goes b l x n row xs k s e)
-      (atoms_finish (n + 1) Plain NoAtoms (InBody l (typed b x e) row xs k) (body_finishes l (typed b x e) row xs k (waiting_completes k)))
+    (atoms_finish (n + 1) Plain NoAtoms (InBody l (typed b x e) row xs k) (body_finishes l (typed b x e) row xs k (waiting_completes k)))
 waiting_completes (InBody l b row xs k) u s e w = body_finishes l b row xs k (waiting_completes k) u s e w
 waiting_completes (InCodomain a d k) u s e w = waiting_completes k u (join a s) (ArrowExpr (join a s) d e) w
 

@@ -1,10 +1,10 @@
 -- What the tokens before a state of the reader spell: derivations in part.
-use Rattle.std.proofs.Common.{◌≡◌, ℕ, Bool, true, false, List, [], ◌∷◌, ◌++◌, Some, None}
-use Rattle.text_meaning.specs.Tokens.{Span, Sign, Token, sign, ident, SigWord, ViewWord, StructWord, AssignSign, ColonSign, LeftParen, LeftBrace, DotSign, ArrowSign, EqualSign}
-use Rattle.text_meaning.specs.Trees.{Binder, Expr, ArrowExpr, Exprs, Written, Assign, Decl}
+use Rattle.std.proofs.Common.{◌≡◌, Bool, true, false, List, [], ◌∷◌, ◌++◌}
+use Rattle.text_meaning.specs.Tokens.{Span, Token, sign, ident, SigWord, ViewWord, StructWord, AssignSign, ColonSign, LeftParen, LeftBrace, DotSign, ArrowSign, EqualSign}
+use Rattle.text_meaning.specs.Trees.{Expr, ArrowExpr, Written, Assign, Decl}
 use Rattle.text_meaning.specs.Grammar.{join, SpellsBinder, SpellsExpr, SpellsArrows, SpellsBacks, SpellsTail, SpellsAtoms, SpellsBinding, SpellsMorph, SpellsAssigns, SpellsDecls}
 use Rattle.text_meaning.specs.Reading.{Target, ModuleText, JudgementText, Spells}
-use Rattle.text_meaning.specs.Parsing.{Simple, Atoms, NoAtoms, SomeAtoms, Row, Plain, AfterArrow, AfterBack, Binding, Owner, InStruct, InView, Purpose, ClassOf, ValueOf, ValueFor, ObjectOf, FamilyOf, Waiting, Ends, InParens, InDomain, InBody, InCodomain, State, Refused, Whole, Expect, ExpectName, ExpectPath, MoreWords, AtModule, AtDecl, AfterDomain, AtAssign, AtOperand, AtVariable, AfterVariable, bound, left_sign}
+use Rattle.text_meaning.specs.Parsing.{Simple, Atoms, NoAtoms, SomeAtoms, Row, Plain, AfterArrow, AfterBack, Owner, InStruct, InView, Purpose, ClassOf, ValueOf, ValueFor, ObjectOf, FamilyOf, Waiting, Ends, InParens, InDomain, InBody, InCodomain, State, Refused, Whole, Expect, ExpectName, ExpectPath, MoreWords, AtModule, AtDecl, AfterDomain, AtAssign, AtOperand, AtVariable, AfterVariable, bound, left_sign}
 
 -- the token of a simple identifier, and of a written path
 abbrev pub name_token : Simple → Token

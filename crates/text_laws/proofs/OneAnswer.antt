@@ -1,21 +1,19 @@
 -- Tokens with the end of the input behind them have one answer, which the machine gives.
-use Rattle.std.proofs.Common.{◌≡◌, ℕ, ◌==◌, Bool, true, false, ◌||◌, ◌⊎◌, inl, inr, List, [], ◌∷◌, ◌++◌, Option, Some, None, refl, sym, ap, subst, ◌∙◌, append_assoc, append-nil, ap₂, eqb-true, true≢false}
-use Rattle.text_meaning.specs.Tokens.{Span, Sign, Mark, Token, sign, EndSign}
+use Rattle.std.proofs.Common.{◌≡◌, Bool, true, false, inl, inr, List, [], ◌∷◌, ◌++◌, Some, None, refl, sym, ap, subst, ◌∙◌, append_assoc, append-nil, eqb-true, true≢false}
+use Rattle.text_meaning.specs.Tokens.{Span, Mark, Token, sign, EndSign}
 use Rattle.text_meaning.specs.Cut.{Lexed, Tokens, NotUtf8, OpenComment}
 use Rattle.text_meaning.specs.Cutting.{lex}
-use Rattle.token_laws.specs.CutLaws.{HasOneCut}
 use Rattle.text_meaning.specs.Nesting.{Nesting}
-use Rattle.text_meaning.specs.Reading.{Target, Tree, Spells, nesting, Begins, GoesOn, is_too_deep, any_too_deep, StopsAt, IsLeftOut, IsTooDeepAt, Answer, Read, Syntax, TooDeep, Unsupported, IsAnswer, with_end, IsAnswerTo, Reads}
-use Rattle.text_meaning.specs.Parsing.{State, Whole, AtOperand, AtModule, step, level, run, levels, is_refused, is_left_out, fault, answer_at_end, answer_on, start, parse}
-use Rattle.text_laws.specs.ReadingLaws.{TreesAreDetermined, HasOneAnswer, TokensHaveOneAnswer, answer_to, read, HasOneReading, EachTextHasOneReading}
+use Rattle.text_meaning.specs.Reading.{Target, Tree, Spells, nesting, Begins, is_too_deep, any_too_deep, StopsAt, IsLeftOut, IsTooDeepAt, Answer, Read, Syntax, TooDeep, Unsupported, IsAnswer, with_end, IsAnswerTo}
+use Rattle.text_meaning.specs.Parsing.{State, Whole, AtOperand, step, level, run, levels, is_refused, is_left_out, fault, answer_at_end, answer_on, start, parse}
+use Rattle.text_laws.specs.ReadingLaws.{TreesAreDetermined, TokensHaveOneAnswer, answer_to, read, EachTextHasOneReading}
 use Rattle.token_laws.proofs.CutFollows.{or_front, or_back}
 use Rattle.token_laws.proofs.OneCut.{one_cut}
-use Rattle.text_laws.proofs.Runs.{run-append, levels-append}
-use Rattle.text_laws.proofs.Runs as runs
+use Rattle.text_laws.proofs.Runs.{levels-append}
 use Rattle.text_laws.proofs.Spelled.{spelled_reads}
 use Rattle.text_laws.proofs.Fits.{Fits}
 use Rattle.text_laws.proofs.Sound.{step_fits, run_fits, start_fits, read_spelled}
-use Rattle.text_laws.proofs.Completes.{Alive, Lives, step_lives, start_alive, run_lives, refused_run}
+use Rattle.text_laws.proofs.Completes.{Alive, step_lives, start_alive, refused_run}
 use Rattle.text_laws.proofs.Stopping.{end_steps, begins_if, begins_only, run-snoc, goes_if, goes_only, lives_on, alive_at, left_out_if, left_out_only}
 
 -- ---- nestings
@@ -86,7 +84,9 @@ comes_on target before u t c h k =
 stops_here : (target : Target) (before rest : List Token) (u : State) (t : Token) → Comes target before u → is_refused (step u t) ≡ true → StopsAt target (before ++ (t ∷ rest)) before t
 stops_here target before rest u t c h =
     record {
-      rest = rest; parts = refl; nestings = levels (start target) before;
+      rest = rest;
+      parts = refl;
+      nestings = levels (start target) before;
       begins = begins_if target before (subst Alive (sym c.at) c.alive);
       shallow = c.shallow;
       stops = λ g. true≢false (sym h ∙ goes_only target before t u c.at g);
@@ -97,6 +97,7 @@ fault_is target before rest u t c h = go (is_left_out u t.kind) refl
   where
     stop : StopsAt target (before ++ (t ∷ rest)) before t
     stop = stops_here target before rest u t c h
+
     go : (b : Bool) → is_left_out u t.kind ≡ b → IsAnswer target (before ++ (t ∷ rest)) (fault u t)
     go true e = rw e (before, t, stop, left_out_if target before t u c.at c.fits e, refl)
     go false e = rw e (before, t, stop, (λ l. true≢false (sym (left_out_only target before t u c.at c.alive l) ∙ e)), refl)
@@ -105,9 +106,11 @@ deep_here : (target : Target) (before rest : List Token) (u : State) (t : Token)
 deep_here target before rest u t c h k =
     let alive : Alive (run (start target) (before ++ (t ∷ []))) = subst Alive (sym (run-snoc (start target) before t ∙ ap (λ x. step x t) c.at)) (lives_on (step u t) (step_lives u t c.alive) h) in
     let lev : levels (start target) (before ++ (t ∷ [])) ≡ levels (start target) before ++ (Some 501 ∷ [])
-          = levels-snoc (start target) before t ∙ ap (λ x. levels (start target) before ++ (level x t.kind ∷ [])) c.at ∙ ap (λ n. levels (start target) before ++ (n ∷ [])) (deep_is (level u t.kind) k) in
+    = levels-snoc (start target) before t ∙ ap (λ x. levels (start target) before ++ (level x t.kind ∷ [])) c.at ∙ ap (λ n. levels (start target) before ++ (n ∷ [])) (deep_is (level u t.kind) k) in
     record {
-      rest = rest; parts = refl; nestings = levels (start target) before;
+      rest = rest;
+      parts = refl;
+      nestings = levels (start target) before;
       begins = subst (Begins target (before ++ (t ∷ []))) lev (begins_if target (before ++ (t ∷ [])) alive);
       shallow = c.shallow;
     }
@@ -128,10 +131,10 @@ end_answer target before u z c = go (is_refused (step u (sign z EndSign))) refl
         let flat : is_too_deep (level u (Mark EndSign)) ≡ false = ap is_too_deep (end_level u z) in
         let next = comes_on target before u (sign z EndSign) c h flat in
         subst (IsAnswer target (before ++ (sign z EndSign ∷ []))) (sym (answer_goes u (sign z EndSign) [] h flat))
-          (elim (end_steps u z c.alive) [
-            | inl r ↦ absurd (true≢false (sym r ∙ h))
-            | inr w ↦ whole_answer target (before ++ (sign z EndSign ∷ [])) (step u (sign z EndSign)) w.0 w.1 next
-          ])
+        (elim (end_steps u z c.alive) [
+          | inl r ↦ absurd (true≢false (sym r ∙ h))
+          | inr w ↦ whole_answer target (before ++ (sign z EndSign ∷ [])) (step u (sign z EndSign)) w.0 w.1 next
+        ])
 
 answer_step : (target : Target) (before rest : List Token) (u : State) (t : Token) → Comes target before u → (b d : Bool) → is_refused (step u t) ≡ b → is_too_deep (level u t.kind) ≡ d
     → (Comes target (before ++ (t ∷ [])) (step u t) → IsAnswer target (before ++ (t ∷ rest)) (answer_on (step u t) rest))
@@ -144,7 +147,7 @@ answers : (target : Target) (before ts : List Token) (u : State) (z : Span) → 
 answers target before [] u z c = end_answer target before u z c
 answers target before (t ∷ ts) u z c =
     answer_step target before (ts ++ (sign z EndSign ∷ [])) u t c (is_refused (step u t)) (is_too_deep (level u t.kind)) refl refl
-      (λ n. subst (λ l. IsAnswer target l (answer_on (step u t) (ts ++ (sign z EndSign ∷ [])))) (append_assoc before (t ∷ []) (ts ++ (sign z EndSign ∷ []))) (answers target (before ++ (t ∷ [])) ts (step u t) z n))
+    (λ n. subst (λ l. IsAnswer target l (answer_on (step u t) (ts ++ (sign z EndSign ∷ [])))) (append_assoc before (t ∷ []) (ts ++ (sign z EndSign ∷ []))) (answers target (before ++ (t ∷ [])) ts (step u t) z n))
 
 start_comes : (target : Target) → Comes target [] (start target)
 unfolding run levels

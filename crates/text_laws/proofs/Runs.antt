@@ -1,5 +1,5 @@
 -- Reading goes by steps.
-use Rattle.std.proofs.Common.{◌≡◌, ℕ, None, List, [], ◌∷◌, ◌++◌, length, take, refl, sym, ap, subst, ◌∙◌}
+use Rattle.std.proofs.Common.{◌≡◌, ℕ, None, List, [], ◌∷◌, ◌++◌, length, refl, sym, ap, subst, ◌∙◌}
 use Rattle.text_meaning.specs.Tokens.{Span, Sign, Mark, Token, sign, RightParen, RightBracket, RightBrace, ColonSign, EqualSign, DotSign, EndSign}
 use Rattle.text_meaning.specs.Trees.{Expr}
 use Rattle.text_meaning.specs.Nesting.{Nesting}

@@ -1,12 +1,12 @@
 -- What is read is spelled: each step keeps a derivation in part.
-use Rattle.std.proofs.Common.{◌≡◌, ℕ, ◌+◌, ◌==◌, Bool, true, false, List, [], ◌∷◌, ◌++◌, Option, Some, None, slice_get, if◌then◌else◌, refl, sym, ap, subst, ◌∙◌, append_assoc, append-nil, eqb-true, true≢false}
+use Rattle.std.proofs.Common.{◌≡◌, ℕ, ◌+◌, ◌==◌, Bool, true, false, List, [], ◌∷◌, ◌++◌, Option, Some, None, slice_get, if◌then◌else◌, refl, sym, ap, subst, ◌∙◌, append_assoc, append-nil, eqb-true}
 use Rattle.text_meaning.specs.Tokens.{Span, Sign, Kind, Mark, Ident, Token, sign, ident, SigWord, ViewWord, IncludeWord, StructWord, OtherWord, Stray, AssignSign, ColonSign, LeftParen, RightParen, LeftBracket, RightBracket, LeftBrace, RightBrace, DotSign, TypeWord, ArrowSign, BackSign, EqualSign, BlankSign, EndSign}
 use Rattle.text_meaning.specs.Trees.{Binder, Expr, NameExpr, TypeExpr, Exprs, ArrowExpr, BackExpr, Written, Assign, IncludeAssign, StructAssign, ConstAssign, Decl, IncludeDecl, StructDecl, ConstDecl, SigModule, ViewModule}
-use Rattle.text_meaning.specs.Grammar.{join, applied, SpellsBinder, named, blank, SpellsExpr, arrows, backs, SpellsArrows, only_last, only_atoms, arrow, SpellsBacks, back, SpellsTail, tail_last, tail_atoms, tail_more, SpellsLast, only_binder, atoms_binder, SpellsAtoms, first_atom, more_atoms, SpellsAtom, name, type_word, parens, SpellsBinding, pi, lam, typed_lam, SpellsMorph, one_word, more_words, SpellsAssign, const_assign, include_assign, struct_assign, SpellsAssigns, no_assigns, more_assigns, SpellsDecl, include_decl, bare_struct, struct, const, defined, SpellsDecls, no_decls, more_decls, SpellsModule, sig, view, SpellsJudgement, judgement}
+use Rattle.text_meaning.specs.Grammar.{join, applied, SpellsBinder, named, blank, SpellsExpr, arrows, backs, SpellsArrows, only_last, only_atoms, arrow, SpellsBacks, back, SpellsTail, tail_last, tail_atoms, tail_more, SpellsLast, only_binder, atoms_binder, SpellsAtoms, first_atom, more_atoms, SpellsAtom, name, type_word, parens, SpellsBinding, pi, lam, typed_lam, SpellsMorph, one_word, more_words, SpellsAssign, const_assign, include_assign, struct_assign, no_assigns, more_assigns, SpellsDecl, include_decl, bare_struct, struct, const, defined, no_decls, more_decls, sig, view, judgement}
 use Rattle.text_meaning.specs.Reading.{Target, ModuleText, JudgementText, Tree, ModuleTree, JudgementTree, Spells, spells_module, spells_judgement}
 use Rattle.text_meaning.specs.Parsing.{Simple, as_written, Atoms, NoAtoms, SomeAtoms, Row, Plain, AfterArrow, AfterBack, Brace, Curly, Square, Binding, PiOf, LamOf, TypedLamOf, Owner, InStruct, InView, Purpose, ClassOf, ValueOf, ValueFor, ObjectOf, FamilyOf, Waiting, Ends, InParens, InDomain, InBody, InCodomain, State, Refused, Whole, Expect, ExpectName, ExpectPath, MoreWords, AtModule, AtDecl, AfterDomain, AtAssign, AtOperand, AtVariable, AfterVariable, code, expect, add_atom, bound, typed, left_sign, right_sign, last_span, last_tree, row_span, row_tree, at_expr, at_module, at_decl, after_domain, close_owner, at_morph, at_assign, class_ends, purpose_ends, resume, operand_ends, arrow_move, back_move, at_operand, at_variable, after_variable, expect_name, expect_path, step, run, start}
 use Rattle.text_meaning.specs.Parsing as machine
-use Rattle.text_laws.proofs.Fits.{name_token, path_token, AtomsFit, RowFits, is_codomain, Fills, Opened, InSig, OwnsStruct, OwnsView, Owns, InAssigns, HasClass, HasValue, HasTarget, HasObject, PurposeFits, Waits, OpenedAt, AfterDomainFits, Fits}
+use Rattle.text_laws.proofs.Fits.{name_token, path_token, AtomsFit, RowFits, is_codomain, Fills, InSig, InAssigns, HasClass, PurposeFits, Waits, OpenedAt, AfterDomainFits, Fits}
 
 -- ---- signs
 
@@ -121,10 +121,10 @@ module _ (target : Target) where
   unfolding Fits Waits
   class_fits x ds c before ts s e z (Mark DotSign) f d =
       add_decl x ds f.front (name_token c ∷ sign f.c ColonSign ∷ (ts ++ (sign z DotSign ∷ []))) _ (ConstDecl (as_written c) e None) f.in_sig (const ts z d)
-        (ap (λ l. l ++ (ts ++ (sign z DotSign ∷ []))) f.parts ∙ append_assoc f.front _ _)
+      (ap (λ l. l ++ (ts ++ (sign z DotSign ∷ []))) f.parts ∙ append_assoc f.front _ _)
   class_fits x ds c before ts s e z (Mark EqualSign) f d =
       at_expr_fits (Ends (ValueOf x ds c e)) 1 _ refl
-        (record { front = f.front; c = f.c; q = z; u = s; ts = ts; parts = ap (λ l. l ++ (ts ++ (sign z EqualSign ∷ []))) f.parts ∙ append_assoc f.front _ _; in_sig = f.in_sig; class = d })
+      (record { front = f.front; c = f.c; q = z; u = s; ts = ts; parts = ap (λ l. l ++ (ts ++ (sign z EqualSign ∷ []))) f.parts ∙ append_assoc f.front _ _; in_sig = f.in_sig; class = d })
   class_fits x ds c before ts s e z _ f d = tt
 
   purpose_fits : (p : Purpose) (before ts : List Token) (s : Span) (e : Expr) (z : Span) (kind : Kind) → PurposeFits target p before → SpellsExpr ts s e
@@ -133,20 +133,20 @@ module _ (target : Target) where
   purpose_fits (ClassOf x ds c) before ts s e z kind f d = moved (class_ends x ds c e kind) _ _ (sym (append_assoc before ts _)) (class_fits x ds c before ts s e z kind f d)
   purpose_fits (ValueOf x ds c a) before ts s e z kind f d =
       expect_fits DotSign z kind _ (before ++ ts)
-        (add_decl x ds f.front (name_token c ∷ sign f.c ColonSign ∷ (f.ts ++ (sign f.q EqualSign ∷ (ts ++ (sign z DotSign ∷ []))))) _ (ConstDecl (as_written c) a (Some e)) f.in_sig (defined f.ts ts f.q z f.class d)
-          (ap (λ l. (l ++ ts) ++ (sign z DotSign ∷ [])) f.parts ∙ simp append_assoc))
+      (add_decl x ds f.front (name_token c ∷ sign f.c ColonSign ∷ (f.ts ++ (sign f.q EqualSign ∷ (ts ++ (sign z DotSign ∷ []))))) _ (ConstDecl (as_written c) a (Some e)) f.in_sig (defined f.ts ts f.q z f.class d)
+      (ap (λ l. (l ++ ts) ++ (sign z DotSign ∷ [])) f.parts ∙ simp append_assoc))
   purpose_fits (ValueFor o xs t) before ts s e z kind f d =
       expect_fits DotSign z kind _ (before ++ ts)
-        (add_assign o xs f.front (path_token t ∷ sign f.a AssignSign ∷ (ts ++ (sign z DotSign ∷ []))) _ (ConstAssign t e) f.in_assigns (const_assign ts z d)
-          (ap (λ l. (l ++ ts) ++ (sign z DotSign ∷ [])) f.parts ∙ simp append_assoc))
+      (add_assign o xs f.front (path_token t ∷ sign f.a AssignSign ∷ (ts ++ (sign z DotSign ∷ []))) _ (ConstAssign t e) f.in_assigns (const_assign ts z d)
+      (ap (λ l. (l ++ ts) ++ (sign z DotSign ∷ [])) f.parts ∙ simp append_assoc))
   purpose_fits ObjectOf before ts s e z kind f d =
       expect_fits ColonSign z kind _ (before ++ ts)
-        (at_expr_fits (Ends (FamilyOf e)) 1 _ refl (record { is_judgement = f.0; ts = ts; u = s; c = z; parts = ap (λ l. (l ++ ts) ++ (sign z ColonSign ∷ [])) f.1; object = d }))
+      (at_expr_fits (Ends (FamilyOf e)) 1 _ refl (record { is_judgement = f.0; ts = ts; u = s; c = z; parts = ap (λ l. (l ++ ts) ++ (sign z ColonSign ∷ [])) f.1; object = d }))
   purpose_fits (FamilyOf o) before ts s e z kind f d =
       expect_fits EndSign z kind _ (before ++ ts)
-        (subst (λ g. Spells g ((before ++ ts) ++ (sign z EndSign ∷ [])) (JudgementTree (record { object = o; family = e }))) (sym f.is_judgement)
-          (subst (λ l. Spells JudgementText l (JudgementTree (record { object = o; family = e }))) (sym (ap (λ l. (l ++ ts) ++ (sign z EndSign ∷ [])) f.parts ∙ simp append_assoc))
-            (spells_judgement (judgement f.ts ts f.c z f.object d))))
+      (subst (λ g. Spells g ((before ++ ts) ++ (sign z EndSign ∷ [])) (JudgementTree (record { object = o; family = e }))) (sym f.is_judgement)
+      (subst (λ l. Spells JudgementText l (JudgementTree (record { object = o; family = e }))) (sym (ap (λ l. (l ++ ts) ++ (sign z EndSign ∷ [])) f.parts ∙ simp append_assoc))
+      (spells_judgement (judgement f.ts ts f.c z f.object d))))
 
   -- an expression that is whole, and the token behind it
   resume_fits : (k : Waiting) (before ts : List Token) (s : Span) (e : Expr) (t : Token) → Waits target k before → Fills (is_codomain k) ts s e
@@ -157,46 +157,54 @@ module _ (target : Target) where
       let o = w.2 in
       let inner = sign l LeftParen ∷ (ts ++ (sign t.span RightParen ∷ [])) in
       expect_fits RightParen t.span t.kind _ (before ++ ts)
-        (record {
-          front = o.front; operands = o.operands; atoms = o.atoms ++ inner;
-          parts = ap (λ x. (x ++ ts) ++ (sign t.span RightParen ∷ [])) (w.1 ∙ ap (λ x. x ++ (sign l LeftParen ∷ [])) o.parts) ∙ simp append_assoc;
-          waiting = o.waiting; row_fits = o.row_fits;
-          atoms_fit = add_atom_fits xs o.atoms inner (join l t.span) e o.atoms_fit (parens ts t.span d);
-        })
+      (record {
+        front = o.front;
+        operands = o.operands;
+        atoms = o.atoms ++ inner;
+        parts = ap (λ x. (x ++ ts) ++ (sign t.span RightParen ∷ [])) (w.1 ∙ ap (λ x. x ++ (sign l LeftParen ∷ [])) o.parts) ∙ simp append_assoc;
+        waiting = o.waiting;
+        row_fits = o.row_fits;
+        atoms_fit = add_atom_fits xs o.atoms inner (join l t.span) e o.atoms_fit (parens ts t.span d);
+      })
   resume_fits (InDomain b l x n row xs k) before ts s e t w d =
       let r = sign t.span (right_sign b) in
       let mid = sign l (left_sign b) ∷ w.1 ∷ sign w.2 ColonSign ∷ (ts ++ (r ∷ [])) in
       expect_fits (right_sign b) t.span t.kind _ (before ++ ts)
-        (at_expr_fits (InBody l (typed b x e) row xs k) (n + 1) ((before ++ ts) ++ (r ∷ [])) refl
-          (w.0, mid, ap (λ x. (x ++ ts) ++ (r ∷ [])) w.3 ∙ simp append_assoc, (λ us u f g. domain_binds b l w.2 t.span u w.1 x ts us s e f w.4 d g), w.5))
+      (at_expr_fits (InBody l (typed b x e) row xs k) (n + 1) ((before ++ ts) ++ (r ∷ [])) refl
+      (w.0, mid, ap (λ x. (x ++ ts) ++ (r ∷ [])) w.3 ∙ simp append_assoc, (λ us u f g. domain_binds b l w.2 t.span u w.1 x ts us s e f w.4 d g), w.5))
   resume_fits (InBody l b row xs k) before ts s e t w d =
       let o = w.4 in
       let binding = w.3 ts s e d in
       let last = last_fits xs o.atoms (w.1 ++ ts) (join l s) (bound (join l s) b e) o.atoms_fit binding in
       let whole = row_fills row (is_codomain k) o.operands (o.atoms ++ (w.1 ++ ts)) _ _ o.row_fits (by_last last) in
       moved (resume k (row_span row (last_span xs (join l s))) (row_tree row (last_span xs (join l s)) (last_tree xs (join l s) (bound (join l s) b e))) t)
-        ((o.front ++ (o.operands ++ (o.atoms ++ (w.1 ++ ts)))) ++ (t ∷ [])) ((before ++ ts) ++ (t ∷ []))
-        (sym (ap (λ x. (x ++ ts) ++ (t ∷ [])) (w.2 ∙ ap (λ x. x ++ w.1) o.parts) ∙ simp append_assoc))
-        (resume_fits k o.front (o.operands ++ (o.atoms ++ (w.1 ++ ts))) _ _ t o.waiting whole)
+      ((o.front ++ (o.operands ++ (o.atoms ++ (w.1 ++ ts)))) ++ (t ∷ [])) ((before ++ ts) ++ (t ∷ []))
+      (sym (ap (λ x. (x ++ ts) ++ (t ∷ [])) (w.2 ∙ ap (λ x. x ++ w.1) o.parts) ∙ simp append_assoc))
+      (resume_fits k o.front (o.operands ++ (o.atoms ++ (w.1 ++ ts))) _ _ t o.waiting whole)
   resume_fits (InCodomain a b k) before ts s e t w d =
       moved (resume k (join a s) (ArrowExpr (join a s) b e) t) ((w.0 ++ (w.1 ++ ts)) ++ (t ∷ [])) ((before ++ ts) ++ (t ∷ []))
-        (sym (ap (λ x. (x ++ ts) ++ (t ∷ [])) w.2 ∙ simp append_assoc))
-        (resume_fits k w.0 (w.1 ++ ts) _ _ t w.4 (arrows_fill (is_codomain k) (w.3 ts s e d)))
+      (sym (ap (λ x. (x ++ ts) ++ (t ∷ [])) w.2 ∙ simp append_assoc))
+      (resume_fits k w.0 (w.1 ++ ts) _ _ t w.4 (arrows_fill (is_codomain k) (w.3 ts s e d)))
 
   operand_fits : (row : Row) (xs : Atoms) (k : Waiting) (before : List Token) (t : Token) → OpenedAt target k row xs before → Fits target (operand_ends row xs k t) (before ++ (t ∷ []))
   unfolding Fits
   operand_fits row NoAtoms k before t o = tt
   operand_fits row (SomeAtoms s h xs) k before t o =
       moved (resume k (row_span row s) (row_tree row s (applied s h xs)) t) ((o.front ++ (o.operands ++ o.atoms)) ++ (t ∷ [])) (before ++ (t ∷ [])) (ap (λ x. x ++ (t ∷ [])) (sym o.parts))
-        (resume_fits k o.front (o.operands ++ o.atoms) _ _ t o.waiting (row_fills row (is_codomain k) o.operands o.atoms _ _ o.row_fits (by_atoms o.atoms_fit)))
+      (resume_fits k o.front (o.operands ++ o.atoms) _ _ t o.waiting (row_fills row (is_codomain k) o.operands o.atoms _ _ o.row_fits (by_atoms o.atoms_fit)))
 
   atom_fits : (n : ℕ) (row : Row) (xs : Atoms) (k : Waiting) (before : List Token) (t : Token) (s : Span) (e : Expr) → OpenedAt target k row xs before → SpellsAtom (t ∷ []) s e
       → Fits target (AtOperand n row (add_atom xs s e) k) (before ++ (t ∷ []))
   unfolding Fits
   atom_fits n row xs k before t s e o d =
       record {
-        front = o.front; operands = o.operands; atoms = o.atoms ++ (t ∷ []); parts = ap (λ x. x ++ (t ∷ [])) o.parts ∙ simp append_assoc;
-        waiting = o.waiting; row_fits = o.row_fits; atoms_fit = add_atom_fits xs o.atoms (t ∷ []) s e o.atoms_fit d;
+        front = o.front;
+        operands = o.operands;
+        atoms = o.atoms ++ (t ∷ []);
+        parts = ap (λ x. x ++ (t ∷ [])) o.parts ∙ simp append_assoc;
+        waiting = o.waiting;
+        row_fits = o.row_fits;
+        atoms_fit = add_atom_fits xs o.atoms (t ∷ []) s e o.atoms_fit d;
       }
 
   -- behind `->`
@@ -206,11 +214,16 @@ module _ (target : Target) where
   codomain_fits n row s h xs k before z o e =
       let mid = o.atoms ++ (sign z ArrowSign ∷ []) in
       let build : (us : List Token) (u : Span) (f : Expr) → SpellsArrows us u f → SpellsArrows (mid ++ us) (join s u) (ArrowExpr (join s u) (applied s h xs) f)
-            = λ us u f g. subst (λ l. SpellsArrows l (join s u) (ArrowExpr (join s u) (applied s h xs) f)) (sym (append_assoc o.atoms (sign z ArrowSign ∷ []) us)) (arrow o.atoms us z o.atoms_fit g) in
+      = λ us u f g. subst (λ l. SpellsArrows l (join s u) (ArrowExpr (join s u) (applied s h xs) f)) (sym (append_assoc o.atoms (sign z ArrowSign ∷ []) us)) (arrow o.atoms us z o.atoms_fit g) in
       let here : before ++ (sign z ArrowSign ∷ []) ≡ o.front ++ mid = ap (λ x. x ++ (sign z ArrowSign ∷ [])) (o.parts ∙ ap (λ x. o.front ++ (x ++ o.atoms)) e) ∙ append_assoc o.front o.atoms _ in
       record {
-        front = before ++ (sign z ArrowSign ∷ []); operands = []; atoms = []; parts = sym (append-nil _);
-        waiting = (o.front, mid, here, build, o.waiting); row_fits = refl; atoms_fit = refl;
+        front = before ++ (sign z ArrowSign ∷ []);
+        operands = [];
+        atoms = [];
+        parts = sym (append-nil _);
+        waiting = (o.front, mid, here, build, o.waiting);
+        row_fits = refl;
+        atoms_fit = refl;
       }
 
   arrow_fits : (n : ℕ) (row : Row) (xs : Atoms) (k : Waiting) (before : List Token) (z : Span) → OpenedAt target k row xs before → Fits target (arrow_move n row xs k) (before ++ (sign z ArrowSign ∷ []))
@@ -239,15 +252,23 @@ module _ (target : Target) where
   back_fits n AfterArrow (SomeAtoms s h xs) k before z o = tt
   back_fits n Plain (SomeAtoms s h xs) k before z o =
       record {
-        front = o.front; operands = o.operands ++ (o.atoms ++ (sign z BackSign ∷ [])); atoms = [];
+        front = o.front;
+        operands = o.operands ++ (o.atoms ++ (sign z BackSign ∷ []));
+        atoms = [];
         parts = ap (λ x. x ++ (sign z BackSign ∷ [])) o.parts ∙ simp (append_assoc, append-nil);
-        waiting = o.waiting; row_fits = (o.row_fits.1, back_row s h xs o.atoms o.operands z o.row_fits.0 o.atoms_fit); atoms_fit = refl;
+        waiting = o.waiting;
+        row_fits = (o.row_fits.1, back_row s h xs o.atoms o.operands z o.row_fits.0 o.atoms_fit);
+        atoms_fit = refl;
       }
   back_fits n (AfterBack r b) (SomeAtoms s h xs) k before z o =
       record {
-        front = o.front; operands = o.operands ++ (o.atoms ++ (sign z BackSign ∷ [])); atoms = [];
+        front = o.front;
+        operands = o.operands ++ (o.atoms ++ (sign z BackSign ∷ []));
+        atoms = [];
         parts = ap (λ x. x ++ (sign z BackSign ∷ [])) o.parts ∙ simp (append_assoc, append-nil);
-        waiting = o.waiting; row_fits = (o.row_fits.0, more_row r b s h xs o.atoms o.operands z o.row_fits.1 o.atoms_fit); atoms_fit = refl;
+        waiting = o.waiting;
+        row_fits = (o.row_fits.0, more_row r b s h xs o.atoms o.operands z o.row_fits.1 o.atoms_fit);
+        atoms_fit = refl;
       }
 
   at_operand_fits : (n : ℕ) (row : Row) (xs : Atoms) (k : Waiting) (before : List Token) (s : Span) (kind : Kind) → OpenedAt target k row xs before
@@ -274,25 +295,36 @@ module _ (target : Target) where
   unfolding Fits Waits
   after_variable_fits b l x n row xs k before s (Mark ColonSign) f =
       at_expr_fits (InDomain b l x n row xs k) (n + 1) (before ++ (sign s ColonSign ∷ [])) refl
-        (f.0, f.1, s, ap (λ y. y ++ (sign s ColonSign ∷ [])) f.2 ∙ append_assoc f.0 _ _, f.3, f.4)
+      (f.0, f.1, s, ap (λ y. y ++ (sign s ColonSign ∷ [])) f.2 ∙ append_assoc f.0 _ _, f.3, f.4)
   after_variable_fits Square l x n row xs k before s (Mark RightBracket) f =
       at_expr_fits (InBody l (LamOf x) row xs k) (n + 1) (before ++ (sign s RightBracket ∷ [])) refl
-        (f.0, sign l LeftBracket ∷ f.1 ∷ sign s RightBracket ∷ [], ap (λ y. y ++ (sign s RightBracket ∷ [])) f.2 ∙ append_assoc f.0 _ _, (λ us u e d. lam us f.3 d), f.4)
+      (f.0, sign l LeftBracket ∷ f.1 ∷ sign s RightBracket ∷ [], ap (λ y. y ++ (sign s RightBracket ∷ [])) f.2 ∙ append_assoc f.0 _ _, (λ us u e d. lam us f.3 d), f.4)
   after_variable_fits b l x n row xs k before s _ f = tt
 
   at_module_fits : (before : List Token) (s : Span) (kind : Kind) → Fits target AtModule before → Fits target (at_module kind) (before ++ (record { span = s; kind = kind } ∷ []))
   unfolding Fits
   at_module_fits before s (Mark SigWord) f =
       λ x q l. record {
-        is_module = f.0; i = s; q = q; l = l; ts = [];
+        is_module = f.0;
+        i = s;
+        q = q;
+        l = l;
+        ts = [];
         parts = ap (λ b. (((b ++ (sign s SigWord ∷ [])) ++ (name_token x ∷ [])) ++ (sign q EqualSign ∷ [])) ++ (sign l LeftBrace ∷ [])) f.1;
         decls = no_decls;
       }
   at_module_fits before s (Mark ViewWord) f =
       λ x c y a z q l. record {
-        front = _; ts = []; parts = sym (append-nil _);
+        front = _;
+        ts = [];
+        parts = sym (append-nil _);
         owner = record {
-          is_module = f.0; i = s; c = c; a = a; q = q; l = l;
+          is_module = f.0;
+          i = s;
+          c = c;
+          a = a;
+          q = q;
+          l = l;
           parts = ap (λ b. (((((((b ++ (sign s ViewWord ∷ [])) ++ (name_token x ∷ [])) ++ (sign c ColonSign ∷ [])) ++ (name_token y ∷ [])) ++ (sign a ArrowSign ∷ [])) ++ (name_token z ∷ [])) ++ (sign q EqualSign ∷ [])) ++ (sign l LeftBrace ∷ [])) f.1;
         };
         assigns = no_assigns;
@@ -304,7 +336,7 @@ module _ (target : Target) where
   close_sig x ds before r d z f =
       let parts = ap (λ b. ((b ++ (sign r RightBrace ∷ [])) ++ (sign d DotSign ∷ [])) ++ (sign z EndSign ∷ [])) f.parts ∙ simp append_assoc in
       subst (λ g. Spells g (((before ++ (sign r RightBrace ∷ [])) ++ (sign d DotSign ∷ [])) ++ (sign z EndSign ∷ [])) (ModuleTree (SigModule (as_written x) ds))) (sym f.is_module)
-        (subst (λ l. Spells ModuleText l (ModuleTree (SigModule (as_written x) ds))) (sym parts) (spells_module (sig f.ts r d z {i = f.i} {q = f.q} {l = f.l} f.decls)))
+      (subst (λ l. Spells ModuleText l (ModuleTree (SigModule (as_written x) ds))) (sym parts) (spells_module (sig f.ts r d z {i = f.i} {q = f.q} {l = f.l} f.decls)))
 
   at_decl_fits : (x : Simple) (ds : List Decl) (before : List Token) (s : Span) (kind : Kind) → InSig target x ds before → Fits target (at_decl x ds s kind) (before ++ (record { span = s; kind = kind } ∷ []))
   unfolding Fits Waits
@@ -321,10 +353,13 @@ module _ (target : Target) where
   unfolding Fits
   after_domain_fits x ds y z before s (Mark DotSign) f =
       add_decl x ds f.front (sign f.i StructWord ∷ name_token y ∷ sign f.c ColonSign ∷ name_token z ∷ sign s DotSign ∷ []) _ (StructDecl (as_written y) (as_written z) []) f.in_sig bare_struct
-        (ap (λ b. b ++ (sign s DotSign ∷ [])) f.parts ∙ append_assoc f.front _ _)
+      (ap (λ b. b ++ (sign s DotSign ∷ [])) f.parts ∙ append_assoc f.front _ _)
   after_domain_fits x ds y z before s (Mark EqualSign) f =
       λ l. record {
-        front = _; ts = []; parts = sym (append-nil _); assigns = no_assigns;
+        front = _;
+        ts = [];
+        parts = sym (append-nil _);
+        assigns = no_assigns;
         owner = record { front = f.front; i = f.i; c = f.c; q = s; l = l; parts = ap (λ b. (b ++ (sign s EqualSign ∷ [])) ++ (sign l LeftBrace ∷ [])) f.parts ∙ simp append_assoc; in_sig = f.in_sig };
       }
   after_domain_fits x ds y z before s _ f = tt
@@ -333,15 +368,15 @@ module _ (target : Target) where
   unfolding Fits
   close_owner_fits (InStruct x ds y z) xs before r f =
       λ d. let w = f.owner in
-        add_decl x ds w.front (sign w.i StructWord ∷ name_token y ∷ sign w.c ColonSign ∷ name_token z ∷ sign w.q EqualSign ∷ sign w.l LeftBrace ∷ (f.ts ++ (sign r RightBrace ∷ sign d DotSign ∷ []))) _
-          (StructDecl (as_written y) (as_written z) xs) w.in_sig (struct f.ts r d f.assigns)
-          (ap (λ b. (b ++ (sign r RightBrace ∷ [])) ++ (sign d DotSign ∷ [])) (f.parts ∙ ap (λ b. b ++ f.ts) w.parts) ∙ simp append_assoc)
+      add_decl x ds w.front (sign w.i StructWord ∷ name_token y ∷ sign w.c ColonSign ∷ name_token z ∷ sign w.q EqualSign ∷ sign w.l LeftBrace ∷ (f.ts ++ (sign r RightBrace ∷ sign d DotSign ∷ []))) _
+      (StructDecl (as_written y) (as_written z) xs) w.in_sig (struct f.ts r d f.assigns)
+      (ap (λ b. (b ++ (sign r RightBrace ∷ [])) ++ (sign d DotSign ∷ [])) (f.parts ∙ ap (λ b. b ++ f.ts) w.parts) ∙ simp append_assoc)
   close_owner_fits (InView x y z) xs before r f =
       λ d e. let w = f.owner in
-        let parts = ap (λ b. ((b ++ (sign r RightBrace ∷ [])) ++ (sign d DotSign ∷ [])) ++ (sign e EndSign ∷ [])) (f.parts ∙ ap (λ b. b ++ f.ts) w.parts) ∙ simp append_assoc in
-        let tree = ModuleTree (ViewModule (as_written x) (as_written y) (as_written z) xs) in
-        subst (λ g. Spells g (((before ++ (sign r RightBrace ∷ [])) ++ (sign d DotSign ∷ [])) ++ (sign e EndSign ∷ [])) tree) (sym w.is_module)
-          (subst (λ l. Spells ModuleText l tree) (sym parts) (spells_module (view f.ts r d e {i = w.i} {c = w.c} {a = w.a} {q = w.q} {l = w.l} f.assigns)))
+      let parts = ap (λ b. ((b ++ (sign r RightBrace ∷ [])) ++ (sign d DotSign ∷ [])) ++ (sign e EndSign ∷ [])) (f.parts ∙ ap (λ b. b ++ f.ts) w.parts) ∙ simp append_assoc in
+      let tree = ModuleTree (ViewModule (as_written x) (as_written y) (as_written z) xs) in
+      subst (λ g. Spells g (((before ++ (sign r RightBrace ∷ [])) ++ (sign d DotSign ∷ [])) ++ (sign e EndSign ∷ [])) tree) (sym w.is_module)
+      (subst (λ l. Spells ModuleText l tree) (sym parts) (spells_module (view f.ts r d e {i = w.i} {c = w.c} {a = w.a} {q = w.q} {l = w.l} f.assigns)))
 
   -- the words of a morphism, up to their dot
   morph_fits : (before : List Token) (done : List Written → State) (w : Written)
@@ -354,10 +389,10 @@ module _ (target : Target) where
   unfolding Fits Waits
   at_assign_fits o xs before s (Mark IncludeWord) f =
       λ w. morph_fits (before ++ (sign s IncludeWord ∷ [])) (λ ws. AtAssign o (xs ++ (IncludeAssign ws ∷ []))) w
-        (λ us vs d m. add_assign o xs before (sign s IncludeWord ∷ (us ++ (sign d DotSign ∷ []))) _ (IncludeAssign vs) f (include_assign us d m) (append_assoc before _ _))
+      (λ us vs d m. add_assign o xs before (sign s IncludeWord ∷ (us ++ (sign d DotSign ∷ []))) _ (IncludeAssign vs) f (include_assign us d m) (append_assoc before _ _))
   at_assign_fits o xs before s (Mark StructWord) f =
       λ t a w. morph_fits (((before ++ (sign s StructWord ∷ [])) ++ (path_token t ∷ [])) ++ (sign a AssignSign ∷ [])) (λ ws. AtAssign o (xs ++ (StructAssign t ws ∷ []))) w
-        (λ us vs d m. add_assign o xs before (sign s StructWord ∷ path_token t ∷ sign a AssignSign ∷ (us ++ (sign d DotSign ∷ []))) _ (StructAssign t vs) f (struct_assign us d m) (simp append_assoc))
+      (λ us vs d m. add_assign o xs before (sign s StructWord ∷ path_token t ∷ sign a AssignSign ∷ (us ++ (sign d DotSign ∷ []))) _ (StructAssign t vs) f (struct_assign us d m) (simp append_assoc))
   at_assign_fits o xs before s (Mark RightBrace) f = close_owner_fits o xs before s f
   at_assign_fits o xs before s (Ident p) f =
       λ a. at_expr_fits (Ends (ValueFor o xs (record { path = p; span = s }))) 1 _ refl (record { front = before; a = a; parts = append_assoc before _ _; in_assigns = f })

@@ -1,17 +1,17 @@
 -- Which tokens stop a reader, by the state in which it comes to them.
-use Rattle.std.proofs.Common.{◌≡◌, ℕ, ◌==◌, Bool, true, false, ◌⊎◌, inl, inr, List, [], ◌∷◌, ◌++◌, Option, Some, None, take, length, if◌then◌else◌, refl, sym, ap, subst, ◌∙◌, append_assoc, append-nil, eqb-true, true≢false, take_all, length-append}
-use Rattle.text_meaning.specs.Tokens.{Span, Sign, Kind, Mark, Ident, Token, sign, SigWord, ViewWord, IncludeWord, OtherWord, RightBrace, LeftBrace, BlankSign, EndSign}
-use Rattle.text_meaning.specs.Trees.{Binder, Expr, Exprs}
+use Rattle.std.proofs.Common.{◌≡◌, ℕ, ◌==◌, Bool, true, false, ◌⊎◌, inl, inr, List, [], ◌∷◌, ◌++◌, None, take, length, if◌then◌else◌, refl, sym, ap, subst, ◌∙◌, eqb-true, true≢false}
+use Rattle.text_meaning.specs.Tokens.{Span, Sign, Kind, Mark, Token, sign, SigWord, ViewWord, IncludeWord, OtherWord, RightBrace, LeftBrace, BlankSign, EndSign}
+use Rattle.text_meaning.specs.Trees.{Binder, Expr}
 use Rattle.text_meaning.specs.Grammar.{SpellsBinder, named, blank}
 use Rattle.text_meaning.specs.Nesting.{Nesting}
 use Rattle.text_meaning.specs.Reading.{Target, Tree, Spells, nesting, Begins, GoesOn, IsLeftOut, other_word, inner_module, bare_binder}
 use Rattle.text_meaning.specs.Reading as reading
-use Rattle.text_meaning.specs.Parsing.{Atoms, NoAtoms, SomeAtoms, Row, Brace, Curly, Square, Purpose, ClassOf, ValueOf, ValueFor, ObjectOf, FamilyOf, Waiting, Ends, InParens, InDomain, InBody, InCodomain, State, Refused, Whole, Expect, ExpectName, ExpectPath, MoreWords, AtModule, AtDecl, AfterDomain, AtAssign, AtOperand, AtVariable, AfterVariable, code, resume, operand_ends, step, run, levels, is_refused, takes_include, is_bare_binder, is_left_out, start}
-use Rattle.text_laws.proofs.Runs.{run-append, levels-append, length-levels, Reads}
+use Rattle.text_meaning.specs.Parsing.{Atoms, NoAtoms, SomeAtoms, Row, Curly, Square, ClassOf, ValueOf, ValueFor, ObjectOf, FamilyOf, Waiting, Ends, InParens, InDomain, InBody, InCodomain, State, Refused, Whole, Expect, ExpectName, ExpectPath, MoreWords, AtModule, AtDecl, AfterDomain, AtAssign, AtOperand, AtVariable, AfterVariable, code, resume, step, run, levels, is_refused, takes_include, is_bare_binder, is_left_out, start}
+use Rattle.text_laws.proofs.Runs.{run-append, levels-append, length-levels}
 use Rattle.text_laws.proofs.Spelled.{spelled_reads}
-use Rattle.text_laws.proofs.Fits.{Fits, Waits, OpenedAt}
+use Rattle.text_laws.proofs.Fits.{Fits}
 use Rattle.text_laws.proofs.Sound.{code_injective, run_fits, read_spelled}
-use Rattle.text_laws.proofs.Completes.{is_whole, expect_ok, Alive, Lives, step_lives, start_alive, run_lives, refused_run, completes}
+use Rattle.text_laws.proofs.Completes.{is_whole, expect_ok, Alive, Lives, start_alive, run_lives, refused_run, completes}
 
 -- ---- the end of the input
 

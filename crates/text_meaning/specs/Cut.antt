@@ -5,7 +5,7 @@ use Rattle.std.specs.List.{list_all}
 use Rattle.name_meaning.specs.Characters.{is_white_space, is_identifier_byte}
 use Rattle.name_meaning.specs.Identifiers.{is_run}
 use Rattle.text_meaning.specs.Bytes.{line_feed, quote, percent, dot, colon, equal, left_brace, right_brace, begins}
-use Rattle.text_meaning.specs.Tokens.{Sign, Kind, Mark, Token, token, percent_sign, row_kind, spelled, Stray, AssignSign, ColonSign, DotSign, LeftParen, RightParen, LeftBracket, RightBracket, LeftBrace, RightBrace}
+use Rattle.text_meaning.specs.Tokens.{Sign, Mark, Token, token, percent_sign, row_kind, spelled, Stray, AssignSign, ColonSign, DotSign, LeftParen, RightParen, LeftBracket, RightBracket, LeftBrace, RightBrace}
 
 -- how a cut ends: at the end of the input, or where an outermost comment begins that has no end
 pub data Ending : Type 0 where

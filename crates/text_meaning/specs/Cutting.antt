@@ -3,7 +3,7 @@ use Rattle.std.specs.Prelude.{ℕ, zero, suc, ◌+◌, ◌&&◌, ◌||◌, ◌==
 use Rattle.std.specs.Str.{is_utf8}
 use Rattle.std.specs.Str.Lossy.{utf8_valid_len}
 use Rattle.name_meaning.specs.Characters.{is_white_space, is_identifier_byte}
-use Rattle.text_meaning.specs.Bytes.{line_feed, quote, percent, dot, colon, equal, left_brace, right_brace, begins}
+use Rattle.text_meaning.specs.Bytes.{line_feed, percent, dot, colon, equal, left_brace, right_brace, begins}
 use Rattle.text_meaning.specs.Tokens.{Sign, Mark, Token, token, percent_sign, row_kind, Stray, AssignSign, ColonSign, DotSign}
 use Rattle.text_meaning.specs.Cut.{Ending, Finished, Unclosed, bracket_sign, Lexed, Tokens, NotUtf8, OpenComment}
 

@@ -5,7 +5,7 @@ use Rattle.text_meaning.specs.Cut.{Lexed, Tokens, NotUtf8, OpenComment}
 use Rattle.text_meaning.specs.Trees.{Written}
 use Rattle.text_meaning.specs.Grammar.{simple, join}
 use Rattle.text_meaning.specs.Reading.{with_end}
-use Rattle.text_meaning.specs.Splitting.{Piece, Division, Pieces, SyntaxFault, UnsupportedFault, before_division, is_left_brace, is_right_brace}
+use Rattle.text_meaning.specs.Splitting.{Division, Pieces, SyntaxFault, UnsupportedFault, before_division, is_left_brace, is_right_brace}
 
 -- where the machine stands: between modules; behind a module's word; before its body, or in it with so many further braces open,
 -- with the place of the last token; behind its body

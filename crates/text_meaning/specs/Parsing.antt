@@ -1,7 +1,7 @@
 -- The reader of tokens xs a function: a machine with a stack, one token a step.
-use Rattle.std.specs.Prelude.{ℕ, ◌+◌, Bool, true, false, ◌==◌, List, [], ◌∷◌, ◌++◌, Option, Some, None, if◌then◌else◌}
-use Rattle.text_meaning.specs.Tokens.{Span, Name, Path, Sign, Kind, Mark, Ident, Token, SigWord, ViewWord, IncludeWord, StructWord, OtherWord, Stray, AssignSign, ColonSign, LeftParen, RightParen, LeftBracket, RightBracket, LeftBrace, RightBrace, DotSign, TypeWord, ArrowSign, BackSign, EqualSign, BlankSign, EndSign}
-use Rattle.text_meaning.specs.Trees.{Binder, Expr, TypeExpr, NameExpr, AppExpr, PiExpr, LamExpr, TypedLamExpr, ArrowExpr, BackExpr, Exprs, NoArgs, ThenArg, Written, Assign, IncludeAssign, StructAssign, ConstAssign, Decl, IncludeDecl, StructDecl, ConstDecl, Module, SigModule, ViewModule, Judgement}
+use Rattle.std.specs.Prelude.{ℕ, ◌+◌, Bool, true, false, ◌==◌, List, [], ◌∷◌, ◌++◌, Some, None, if◌then◌else◌}
+use Rattle.text_meaning.specs.Tokens.{Span, Name, Sign, Kind, Mark, Ident, Token, SigWord, ViewWord, IncludeWord, StructWord, OtherWord, Stray, AssignSign, ColonSign, LeftParen, RightParen, LeftBracket, RightBracket, LeftBrace, RightBrace, DotSign, TypeWord, ArrowSign, BackSign, EqualSign, BlankSign, EndSign}
+use Rattle.text_meaning.specs.Trees.{Binder, Expr, TypeExpr, NameExpr, AppExpr, PiExpr, LamExpr, TypedLamExpr, ArrowExpr, BackExpr, Exprs, NoArgs, ThenArg, Written, Assign, IncludeAssign, StructAssign, ConstAssign, Decl, IncludeDecl, StructDecl, ConstDecl, SigModule, ViewModule}
 use Rattle.text_meaning.specs.Grammar.{join, applied, simple, written}
 use Rattle.text_meaning.specs.Nesting.{Nesting}
 use Rattle.text_meaning.specs.Reading.{Target, ModuleText, JudgementText, Tree, ModuleTree, JudgementTree, is_too_deep, Answer, Read, Syntax, TooDeep, Unsupported}
@@ -336,12 +336,12 @@ answer_at_end _ = Syntax 0
 unfoldable pub answer_on : State → List Token → Answer
 answer_on s [] = answer_at_end s
 answer_on s (t ∷ ts) = elim (is_refused (step s t)) [
-    | true ↦ fault s t
-    | false ↦ elim (is_too_deep (level s t.kind)) [
-      | true ↦ TooDeep t.span.from
-      | false ↦ answer_on (step s t) ts
-    ]
+  | true ↦ fault s t
+  | false ↦ elim (is_too_deep (level s t.kind)) [
+    | true ↦ TooDeep t.span.from
+    | false ↦ answer_on (step s t) ts
   ]
+]
 
 abbrev pub start : Target → State
 start ModuleText = AtModule

@@ -1,8 +1,8 @@
 -- What a reader answers to the tokens of a text, the end of the input behind them: the one tree that they spell,
 -- or the place where reading stops (this profile).
-use Rattle.std.specs.Prelude.{◌≡◌, ℕ, ◌==◌, Bool, true, false, List, [], ◌∷◌, ◌++◌, length, take, Option, Some, None, ◌⊎◌}
+use Rattle.std.specs.Prelude.{◌≡◌, ℕ, ◌==◌, Bool, false, List, [], ◌∷◌, ◌++◌, length, take, Some, None, ◌⊎◌}
 use Rattle.std.specs.List.{list_any}
-use Rattle.text_meaning.specs.Tokens.{Span, Kind, Mark, Sign, Token, sign, SigWord, ViewWord, IncludeWord, OtherWord, LeftBrace, RightBrace, BlankSign, EndSign}
+use Rattle.text_meaning.specs.Tokens.{Span, Mark, Token, sign, SigWord, ViewWord, IncludeWord, OtherWord, LeftBrace, RightBrace, BlankSign, EndSign}
 use Rattle.text_meaning.specs.Cut.{Lexed, Tokens, NotUtf8, OpenComment, IsLexed}
 use Rattle.text_meaning.specs.Trees.{Binder, Expr, Module, Judgement}
 use Rattle.text_meaning.specs.Grammar.{SpellsBinder, SpellsExpr, SpellsModule, SpellsJudgement}

@@ -1,5 +1,5 @@
 -- The trees that texts spell: expressions, and the modules around them (this profile, in Twelf's module syntax).
-use Rattle.std.specs.Prelude.{ℕ, List, Option}
+use Rattle.std.specs.Prelude.{List, Option}
 use Rattle.text_meaning.specs.Tokens.{Span, Name, Path}
 
 -- the variable of a binder: its name, or none where `_` is written

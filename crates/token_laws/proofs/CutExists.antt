@@ -1,13 +1,13 @@
 -- Each text has a cut.
-use Rattle.std.proofs.Common.{◌≡◌, ℕ, zero, suc, ◌+◌, ◌<◌, ◌≤◌, Bool, true, false, not, ◌&&◌, ◌||◌, ◌==◌, List, [], ◌∷◌, ◌++◌, length, Option, Some, None, refl, sym, ap, subst, ◌∙◌, ◌⊎◌, inl, inr, arith, append_assoc, length-append, eqb-true, true≢false, codes, ne_eqb}
+use Rattle.std.proofs.Common.{◌≡◌, ℕ, zero, suc, ◌+◌, ◌<◌, ◌≤◌, Bool, true, false, not, ◌&&◌, ◌||◌, ◌==◌, List, [], ◌∷◌, ◌++◌, length, Some, refl, sym, ap, subst, ◌∙◌, arith, append_assoc, length-append, eqb-true, true≢false, codes, ne_eqb}
 use Rattle.std.specs.List.{list_all}
-use Rattle.name_meaning.specs.Characters.{is_white_space, is_identifier_byte, is_special, is_one_of}
+use Rattle.name_meaning.specs.Characters.{is_white_space, is_identifier_byte, is_special}
 use Rattle.name_meaning.specs.Identifiers.{is_run}
-use Rattle.text_meaning.specs.Bytes.{line_feed, quote, percent, dot, colon, equal, left_brace, right_brace, begins}
-use Rattle.text_meaning.specs.Tokens.{Sign, Mark, Token, dotted, spelled}
-use Rattle.text_meaning.specs.Cut.{Ending, Finished, Unclosed, Closes, NeverCloses, begins_line_comment, ends_line, begins_nothing, is_row, ends_row, bracket_sign, Cut, at_end, at_mark, white_space, line_comment, nested_comment, unclosed_comment, percent_word, stray_percent, stray_quote, assign, lone_colon, bracket, lone_dot, row}
-use Rattle.text_meaning.specs.Cutting.{InComment, Between, Cutting, cut_on, closed_place}
-use Rattle.token_laws.proofs.CutFollows.{and_front, and_back, or_front, or_back, not_true, not_false, Each, one_of, closing, Closing, closed, open', comment_goes}
+use Rattle.text_meaning.specs.Bytes.{line_feed, percent, dot, colon, equal, left_brace, begins}
+use Rattle.text_meaning.specs.Tokens.{Sign, Token, dotted, spelled}
+use Rattle.text_meaning.specs.Cut.{Ending, Finished, Unclosed, NeverCloses, begins_line_comment, ends_line, begins_nothing, is_row, ends_row, bracket_sign, Cut, at_end, at_mark, white_space, line_comment, nested_comment, unclosed_comment, percent_word, stray_percent, stray_quote, assign, lone_colon, bracket, lone_dot, row}
+use Rattle.text_meaning.specs.Cutting.{InComment, Between, Cutting, cut_on}
+use Rattle.token_laws.proofs.CutFollows.{and_front, and_back, not_false, one_of, closing, Closing, closed, open', comment_goes}
 
 -- a front of identifier bytes, as long as it goes
 record Run (bs : List ℕ) : Type 0 where
@@ -113,7 +113,8 @@ after_percent at bs ih = line (begins_line_comment bs) refl
         let l = line_of bs in
         let r = ih l.rest (omega (arith, ap length l.parts, length-append l.comment l.rest)) (at + (1 + length l.comment)) in
         moved at (percent ∷ bs) (percent ∷ (l.comment ++ l.rest)) (ap (λ x. percent ∷ x) l.parts)
-          (with' r.tokens r.ending (line_comment l.comment l.rest (ap begins_line_comment (sym l.parts) ∙ e) l.inside l.ends r.is_cut))
+        (with' r.tokens r.ending (line_comment l.comment l.rest (ap begins_line_comment (sym l.parts) ∙ e) l.inside l.ends r.is_cut))
+
     comment_case : (cs : List ℕ) → bs ≡ left_brace ∷ cs → Closing 0 cs → HasCut at (percent ∷ bs)
     comment_case cs e (closed front back p d) =
         let short : length back ≤ length bs = omega (arith, ap length e, ap length p, length-append front back) in
@@ -121,6 +122,7 @@ after_percent at bs ih = line (begins_line_comment bs) refl
         moved at (percent ∷ bs) (percent ∷ left_brace ∷ (front ++ back)) (ap (λ x. percent ∷ x) (e ∙ ap (λ x. left_brace ∷ x) p)) (with' r.tokens r.ending (nested_comment front back d r.is_cut))
     comment_case cs e (open' g) =
         moved at (percent ∷ bs) (percent ∷ left_brace ∷ cs) (ap (λ x. percent ∷ x) e) (with' [] (Unclosed at) (unclosed_comment (unclosed cs g)))
+
     word_case : begins is_identifier_byte bs ≡ true → HasCut at (percent ∷ bs)
     word_case e =
         let r = run_of bs in
@@ -131,6 +133,7 @@ after_percent at bs ih = line (begins_line_comment bs) refl
         not_empty : (w rest : List ℕ) → bs ≡ w ++ rest → begins is_identifier_byte bs ≡ true → list_all is_identifier_byte w ≡ true → begins is_identifier_byte rest ≡ false → is_run w ≡ true
         not_empty [] rest p b i n = absurd (true≢false (sym b ∙ ap (begins is_identifier_byte) p ∙ n))
         not_empty (c ∷ w) rest p b i n = rw (ne_eqb (suc (length w)) 0 (λ e. absurd cc)) i
+
     other : (cs : List ℕ) (b : ℕ) → bs ≡ b ∷ cs → begins_line_comment bs ≡ false → (t u v : Bool) → (b == left_brace) ≡ t → (b == dot) ≡ u → is_identifier_byte b ≡ v → HasCut at (percent ∷ bs)
     other cs b e n true u v h k i = comment_case cs (e ∙ ap (λ x. x ∷ cs) (eqb-true b left_brace h)) (closing cs 0)
     other cs b e n false true v h k i = moved at (percent ∷ bs) (percent ∷ dot ∷ cs) (ap (λ x. percent ∷ x) (e ∙ ap (λ x. x ∷ cs) (eqb-true b dot k))) (with' _ _ at_mark)
@@ -140,6 +143,7 @@ after_percent at bs ih = line (begins_line_comment bs) refl
         let nothing : begins_nothing bs ≡ true = ap begins_nothing e ∙ rw (i, not_line, h, k) refl in
         let r = ih bs (omega arith) (at + 1) in
         with' _ r.ending (stray_percent nothing r.is_cut)
+
     line : (t : Bool) → begins_line_comment bs ≡ t → HasCut at (percent ∷ bs)
     line true e = line_case e
     line false e = begin bs refl e
@@ -153,6 +157,7 @@ after_colon at bs ih = go bs refl (begins (λ b. b == equal) bs) refl
   where
     lone : begins (λ b. b == equal) bs ≡ false → HasCut at (colon ∷ bs)
     lone e = let r = ih bs (omega arith) (at + 1) in with' _ r.ending (lone_colon e r.is_cut)
+
     go : (cs : List ℕ) → bs ≡ cs → (t : Bool) → begins (λ b. b == equal) bs ≡ t → HasCut at (colon ∷ bs)
     go cs p false e = lone e
     go [] p true e = absurd (true≢false (sym e ∙ ap (begins (λ b. b == equal)) p))
@@ -166,9 +171,31 @@ special_cut : (at : ℕ) (bs : List ℕ) → ((cs : List ℕ) → length cs ≤ 
 special_cut at bs ih b h =
     let r = ih bs (omega arith) (at + 1) in
     let brace : (c : ℕ) (m : Sign) → bracket_sign c ≡ Some m → HasCut at (c ∷ bs) = λ c m e. with' _ r.ending (bracket e r.is_cut) in
-    one_of (λ c. HasCut at (c ∷ bs)) (codes ":.()[]{}%\"") b
-      (after_colon at bs ih, (with' _ r.ending (lone_dot r.is_cut), (brace 40 _ refl, (brace 41 _ refl, (brace 91 _ refl, (brace 93 _ refl, (brace 123 _ refl, (brace 125 _ refl,
-        (after_percent at bs ih, (with' _ r.ending (stray_quote r.is_cut), tt)))))))))) h
+    one_of (λ c. HasCut at (c ∷ bs)) (codes ":.()[]{}%\"") b (
+      after_colon at bs ih,
+      (
+        with' _ r.ending (lone_dot r.is_cut),
+        (
+          brace 40 _ refl,
+          (
+            brace 41 _ refl,
+            (
+              brace 91 _ refl,
+              (
+                brace 93 _ refl,
+                (
+                  brace 123 _ refl,
+                  (
+                    brace 125 _ refl,
+                    (after_percent at bs ih, (with' _ r.ending (stray_quote r.is_cut), tt)),
+                  ),
+                ),
+              ),
+            ),
+          ),
+        ),
+      ),
+    ) h
 
 row_cut : (at b : ℕ) (bs : List ℕ) → ((cs : List ℕ) → length cs ≤ length bs → (at : ℕ) → HasCut at cs) → is_identifier_byte b ≡ true → HasCut at (b ∷ bs)
 row_cut at b bs ih h =

@@ -1,13 +1,13 @@
 -- The machine of the cut gives what a cut of the text has.
-use Rattle.std.proofs.Common.{◌≡◌, ℕ, zero, suc, ◌+◌, ◌<◌, ◌≤◌, Bool, true, false, not, ◌&&◌, ◌||◌, ◌==◌, List, [], ◌∷◌, ◌++◌, length, Option, Some, None, refl, sym, ap, subst, ◌∙◌, ◌⊎◌, inl, inr, arith, append_assoc, length-append, eqb-true, true≢false, if◌then◌else◌, codes}
-use Rattle.std.specs.List.{list_all, list_any}
+use Rattle.std.proofs.Common.{◌≡◌, ℕ, zero, suc, ◌+◌, Bool, true, false, not, ◌&&◌, ◌||◌, ◌==◌, List, [], ◌∷◌, ◌++◌, length, Option, Some, refl, sym, ap, subst, ◌∙◌, arith, append_assoc, length-append, eqb-true, true≢false, if◌then◌else◌, codes}
+use Rattle.std.specs.List.{list_all}
 use Rattle.std.proofs.lemmas.List.{append-nil}
 use Rattle.name_meaning.specs.Characters.{is_white_space, is_identifier_byte, is_special, is_one_of}
 use Rattle.name_meaning.specs.Identifiers.{is_run}
-use Rattle.text_meaning.specs.Bytes.{line_feed, quote, percent, dot, colon, equal, left_brace, right_brace, begins}
+use Rattle.text_meaning.specs.Bytes.{line_feed, percent, dot, colon, left_brace, right_brace, begins}
 use Rattle.text_meaning.specs.Tokens.{Sign, Mark, Token, token, percent_sign, row_kind, dotted, spelled, Stray, AssignSign, ColonSign, DotSign}
 use Rattle.text_meaning.specs.Cut.{Ending, Finished, Unclosed, is_comment_mark, Closes, all_closed, opens, closes, passes, NeverCloses, begins_line_comment, ends_line, begins_nothing, is_row, ends_row, sign_in, brackets, bracket_sign, Cut, at_end, at_mark, white_space, line_comment, nested_comment, unclosed_comment, percent_word, stray_percent, stray_quote, assign, lone_colon, bracket, lone_dot, row}
-use Rattle.text_meaning.specs.Cutting.{Place, Between, Second, InLine, InComment, InWord, InRow, Move, GoOn, Stop, Cutting, ahead, token_first, percent_move, special_move, between_move, closed_place, move, last_move, follow, cut_on}
+use Rattle.text_meaning.specs.Cutting.{Place, Between, Second, InLine, InComment, InWord, InRow, Move, GoOn, Stop, Cutting, ahead, token_first, percent_move, between_move, closed_place, move, follow, cut_on}
 
 -- ---- tests
 
@@ -252,7 +252,7 @@ run_begins (b ∷ w) rest h = and_front (is_identifier_byte b) _ (run_front (b �
 
 row_goes : (from at : ℕ) (ws : List (List ℕ)) (w : List ℕ) (vs : List (List ℕ)) (rest : List ℕ) → list_all is_run vs ≡ true → ends_row rest ≡ true
     → cut_on (InRow from ws w) at (dotted vs ++ rest)
-      ≡ ahead (token from (at + length (dotted vs)) (row_kind (ws ++ (w ∷ vs))) ∷ []) (cut_on Between (at + length (dotted vs)) rest)
+    ≡ ahead (token from (at + length (dotted vs)) (row_kind (ws ++ (w ∷ vs))) ∷ []) (cut_on Between (at + length (dotted vs)) rest)
 unfolding cut_on
 row_goes from at ws w [] rest h e =
     let now : at ≡ at + 0 = omega arith in

@@ -9,6 +9,20 @@ use Rattle.token_laws.specs.DivisionExamples.{DivisionExamples}
 pub division_examples : DivisionExamples
 unfolding divide divide_on lex cut_on is_utf8 chars encode_utf8
 division_examples = record {
-  empty = refl; two_modules = refl; no_module = refl; dot_at_top = refl; include_at_top = refl; mode_at_top = refl; no_name = refl; name_missing = refl;
-  not_closed = refl; no_body = refl; no_dot = refl; dot_missing = refl; ended_within = refl; ended_behind = refl; odd_head = refl; open_comment = refl;
+  empty = refl;
+  two_modules = refl;
+  no_module = refl;
+  dot_at_top = refl;
+  include_at_top = refl;
+  mode_at_top = refl;
+  no_name = refl;
+  name_missing = refl;
+  not_closed = refl;
+  no_body = refl;
+  no_dot = refl;
+  dot_missing = refl;
+  ended_within = refl;
+  ended_behind = refl;
+  odd_head = refl;
+  open_comment = refl;
 }

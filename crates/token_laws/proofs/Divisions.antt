@@ -1,18 +1,11 @@
 -- Tokens divide into modules in one way, which the machine gives.
-use Rattle.std.proofs.Common.{◌≡◌, ℕ, zero, suc, ◌+◌, ◌≤◌, ◌<◌, Bool, true, false, not, cond, ◌||◌, List, [], ◌∷◌, ◌++◌, length, Some, codes, bytes_eq, refl, sym, ap, subst, ◌∙◌, arith, length-append, if◌then◌else◌, true≢false}
-use Rattle.std.specs.List.{list_any}
-use Rattle.name_meaning.specs.Identifiers.{is_reserved}
-use Rattle.text_meaning.specs.Tokens.{Span, Sign, Kind, Mark, Ident, Token, sign, ident, SigWord, ViewWord, IncludeWord, StructWord, OtherWord, Stray, AssignSign, ColonSign, LeftParen, RightParen, LeftBracket, RightBracket, LeftBrace, RightBrace, DotSign, TypeWord, ArrowSign, BackSign, EqualSign, BlankSign, EndSign, percent_sign, run_kind, row_kind}
-use Rattle.text_meaning.specs.Cut.{Ending, brackets, bracket_sign, Cut, at_end, at_mark, white_space, line_comment, nested_comment, unclosed_comment, percent_word, stray_percent, stray_quote, assign, lone_colon, bracket, lone_dot, row, Lexed, Tokens, NotUtf8, OpenComment, IsLexed}
-use Rattle.text_meaning.specs.Cutting.{lex}
+use Rattle.std.proofs.Common.{◌≡◌, ℕ, zero, suc, false, ◌||◌, List, [], ◌∷◌, ◌++◌, refl, sym, ap, subst, ◌∙◌, true≢false}
+use Rattle.text_meaning.specs.Tokens.{Span, Sign, Kind, Mark, Ident, Token, sign, ident, SigWord, ViewWord, IncludeWord, StructWord, OtherWord, LeftBrace, RightBrace, DotSign, EndSign}
 use Rattle.text_meaning.specs.Trees.{Written}
 use Rattle.text_meaning.specs.Grammar.{simple, join}
-use Rattle.text_meaning.specs.Reading.{with_end}
-use Rattle.text_meaning.specs.Splitting.{Piece, Division, Pieces, SyntaxFault, UnsupportedFault, before_division, is_left_brace, is_right_brace, IsModuleWord, sig_word, view_word, IsOtherPercent, include_word, struct_word, other_word, IsSimple, one_name, ClosesBraces, all_closed, opens, closes, passes, IsEnclosed, enclosed, not_yet, IsNeverEnclosed, Divides, no_more, other_percent, no_module, no_name, never_closed, no_dot, piece, IsDivision, FileDivides}
-use Rattle.text_meaning.specs.Dividing.{Stand, AtTop, AtName, BeforeBody, InBody, AtDot, at_top, at_name, closed_stand, before_next, body_next, at_dot, divide_on, divide}
-use Rattle.token_laws.specs.DivisionLaws.{HasOneDivision, EachFileHasOneDivision}
-use Rattle.token_laws.proofs.CutFollows.{or_front, or_back, of_sign_in}
-use Rattle.token_laws.proofs.OneCut.{one_cut}
+use Rattle.text_meaning.specs.Splitting.{Division, SyntaxFault, UnsupportedFault, before_division, is_left_brace, is_right_brace, IsModuleWord, sig_word, view_word, IsOtherPercent, include_word, struct_word, other_word, IsSimple, one_name, ClosesBraces, all_closed, opens, closes, passes, IsEnclosed, enclosed, not_yet, IsNeverEnclosed, Divides, no_more, other_percent, no_module, no_name, never_closed, no_dot, piece}
+use Rattle.text_meaning.specs.Dividing.{AtTop, BeforeBody, InBody, AtDot, at_top, at_name, closed_stand, before_next, body_next, at_dot, divide_on}
+use Rattle.token_laws.proofs.CutFollows.{or_front, or_back}
 
 -- ---- what encloses a body
 
@@ -122,6 +115,7 @@ over_right (suc n) t ts h g = go (g n refl)
     no f front back e (by_left k c) = left_is_not (mark_is LeftBrace RightBrace (sym k ∙ h))
     no f front back e (by_right k c) = f front back e c
     no f front back e (by_other k c) = true≢false (sym (ap (λ x. is_left_brace x || is_right_brace x) h) ∙ k)
+
     go : BraceEnd n ts → BraceEnd (suc n) (t ∷ ts)
     go (ends front back e c) = ends (t ∷ front) back (ap (λ l. t ∷ l) e) (subst (λ u. ClosesBraces (suc (suc n)) (u ∷ front)) (sym (token_is t RightBrace h)) (closes c))
     go (never f m) = never (never_more (suc n) t ts (no f)) (λ w x last z. ap (λ u. divide_on (InBody w x (suc n) last) (u ∷ (ts ++ (sign z EndSign ∷ [])))) (token_is t RightBrace h) ∙ m w x t.span.from z)
@@ -136,6 +130,7 @@ over_other n t ts h (never g m) =
   where
     stays : (w : Span) (x : Written) → is_left_brace t.kind ≡ false → is_right_brace t.kind ≡ false → body_next w x n t ≡ InBody w x n t.span.from
     stays w x a b = rw (a, b) refl
+
     no : (front back : List Token) → ts ≡ front ++ back → Begun n t front → ⊥
     no front back e (by_left k c) = true≢false (sym (ap (λ x. is_left_brace x || is_right_brace x) k) ∙ h)
     no front back e (by_right k c) = true≢false (sym (ap (λ x. is_left_brace x || is_right_brace x) k) ∙ h)
@@ -198,6 +193,7 @@ body_at_other t ts h (never_body g m) =
   where
     stays : (w : Span) (x : Written) → before_next w x t ≡ BeforeBody w x t.span.from
     stays w x = rw h refl
+
     no : (front back : List Token) → ts ≡ front ++ back → BodyBegun t front → ⊥
     no front back e (by_brace k c) = true≢false (sym (ap is_left_brace k) ∙ h)
     no front back e (by_none k c) = g front back e c

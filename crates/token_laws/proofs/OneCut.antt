@@ -5,8 +5,8 @@ use Rattle.std.specs.Str.Lossy.{utf8_valid_len}
 use Rattle.std.proofs.lemmas.Str.{IsUtf8-from_is_utf8, is_utf8-from_IsUtf8}
 use Rattle.text_meaning.specs.Tokens.{Token}
 use Rattle.text_meaning.specs.Cut.{Ending, Finished, Unclosed, Cut, Lexed, Tokens, NotUtf8, OpenComment, IsLexed}
-use Rattle.text_meaning.specs.Cutting.{Between, Cutting, cut_on, lexed_of, lex}
-use Rattle.token_laws.specs.CutLaws.{HasOneCut, EachTextHasOneCut}
+use Rattle.text_meaning.specs.Cutting.{Between, cut_on, lexed_of, lex}
+use Rattle.token_laws.specs.CutLaws.{EachTextHasOneCut}
 use Rattle.token_laws.proofs.CutFollows.{cut_follows}
 use Rattle.token_laws.proofs.CutExists.{cut_exists}
 

@@ -1,14 +1,14 @@
 -- Each file divides, in one way.
-use Rattle.std.proofs.Common.{◌≡◌, ℕ, zero, suc, ◌+◌, ◌≤◌, ◌<◌, Bool, true, false, cond, List, [], ◌∷◌, ◌++◌, length, Some, codes, bytes_eq, refl, sym, ap, subst, ◌∙◌, arith, append_assoc, append-nil, length-append, true≢false}
+use Rattle.std.proofs.Common.{◌≡◌, ℕ, zero, suc, ◌≤◌, ◌<◌, Bool, true, false, cond, List, [], ◌∷◌, ◌++◌, length, codes, bytes_eq, refl, sym, ap, subst, ◌∙◌, arith, append_assoc, length-append, true≢false}
 use Rattle.std.specs.List.{list_any}
 use Rattle.name_meaning.specs.Identifiers.{is_reserved}
 use Rattle.text_meaning.specs.Tokens.{Span, Sign, Kind, Mark, Ident, Token, sign, ident, SigWord, ViewWord, IncludeWord, StructWord, OtherWord, DotSign, EndSign, percent_sign, run_kind, row_kind}
-use Rattle.text_meaning.specs.Cut.{Ending, brackets, bracket_sign, Cut, at_end, at_mark, white_space, line_comment, nested_comment, unclosed_comment, percent_word, stray_percent, stray_quote, assign, lone_colon, bracket, lone_dot, row, Lexed, Tokens, NotUtf8, OpenComment, IsLexed}
+use Rattle.text_meaning.specs.Cut.{Ending, brackets, Cut, at_end, at_mark, white_space, line_comment, nested_comment, unclosed_comment, percent_word, stray_percent, stray_quote, assign, lone_colon, bracket, lone_dot, row, Lexed, Tokens, NotUtf8, OpenComment, IsLexed}
 use Rattle.text_meaning.specs.Cutting.{lex}
 use Rattle.text_meaning.specs.Reading.{with_end}
-use Rattle.text_meaning.specs.Splitting.{Division, SyntaxFault, IsEnclosed, IsModuleWord, sig_word, view_word, IsOtherPercent, include_word, struct_word, other_word, IsSimple, one_name, Divides, no_more, other_percent, no_module, no_name, never_closed, no_dot, piece, IsDivision, FileDivides}
-use Rattle.text_meaning.specs.Dividing.{AtTop, divide_on, divide}
-use Rattle.token_laws.specs.DivisionLaws.{HasOneDivision, EachFileHasOneDivision}
+use Rattle.text_meaning.specs.Splitting.{Division, IsEnclosed, IsModuleWord, sig_word, view_word, IsOtherPercent, include_word, struct_word, other_word, IsSimple, one_name, Divides, no_more, other_percent, no_module, no_name, never_closed, no_dot, piece, IsDivision}
+use Rattle.text_meaning.specs.Dividing.{divide}
+use Rattle.token_laws.specs.DivisionLaws.{EachFileHasOneDivision}
 use Rattle.token_laws.proofs.CutFollows.{of_sign_in}
 use Rattle.token_laws.proofs.OneCut.{one_cut}
 use Rattle.token_laws.proofs.Divisions.{BodyEnd, ends_body, never_body, body_end, divides_so}
@@ -34,12 +34,12 @@ either_sign false x y h k = k
 percent_no_end : (w : List ℕ) → is_end (Mark (percent_sign w)) ≡ false
 percent_no_end w =
     either_sign (bytes_eq w (codes "sig")) SigWord _ refl (either_sign (bytes_eq w (codes "view")) ViewWord _ refl
-      (either_sign (bytes_eq w (codes "include")) IncludeWord _ refl (either_sign (bytes_eq w (codes "struct")) StructWord OtherWord refl refl)))
+    (either_sign (bytes_eq w (codes "include")) IncludeWord _ refl (either_sign (bytes_eq w (codes "struct")) StructWord OtherWord refl refl)))
 
 run_no_end : (w : List ℕ) → is_end (run_kind w) ≡ false
 run_no_end w =
     either_end (bytes_eq w (codes "type")) _ _ refl (either_end (bytes_eq w (codes "->")) _ _ refl (either_end (bytes_eq w (codes "<-")) _ _ refl
-      (either_end (bytes_eq w (codes "=")) _ _ refl (either_end (bytes_eq w (codes "_")) _ _ refl refl))))
+    (either_end (bytes_eq w (codes "=")) _ _ refl (either_end (bytes_eq w (codes "_")) _ _ refl refl))))
 
 row_no_end : (ws : List (List ℕ)) → is_end (row_kind ws) ≡ false
 row_no_end [] = refl
@@ -181,7 +181,7 @@ in_body : (w : Token) (s : Span) (n : List ℕ) (us : List Token) (z : Span) →
 in_body w s n us z m ih (never_body g h) = found _ (never_closed us z m g)
 in_body w s n us z m ih (ends_body front back e c) =
     moved _ _ (ap (λ l. w ∷ ident s (n ∷ []) ∷ (l ++ (sign z EndSign ∷ []))) e ∙ ap (λ l. w ∷ ident s (n ∷ []) ∷ l) (append_assoc front back (sign z EndSign ∷ [])))
-      (after_body w s n front back z m c (λ v vs f. ih vs (shorter v vs f) front v (e ∙ ap (λ b. front ++ b) f)))
+    (after_body w s n front back z m c (λ v vs f. ih vs (shorter v vs f) front v (e ∙ ap (λ b. front ++ b) f)))
   where
     shorter : (v : Token) (vs : List Token) → back ≡ v ∷ vs → length vs < suc (length us)
     shorter v vs f = omega (arith, ap length e, length-append front back, ap length f)
@@ -207,7 +207,7 @@ unfolding Tails
 name_step w u us z m ih (not_named h) = found _ (no_name m h)
 name_step w u us z m ih (is_named n e) =
     moved _ _ (ap (λ t. w ∷ t ∷ (us ++ (sign z EndSign ∷ []))) (kind_token u (Ident (n ∷ [])) e))
-      (in_body w u.span n us z m (λ vs l front v f. ih vs (omega (arith, l)) (w ∷ u ∷ front) v (ap (λ x. w ∷ u ∷ x) f)) (body_end us))
+    (in_body w u.span n us z m (λ vs l front v f. ih vs (omega (arith, l)) (w ∷ u ∷ front) v (ap (λ x. w ∷ u ∷ x) f)) (body_end us))
 
 top_step : (t : Token) (ts : List Token) (z : Span) → is_end t.kind ≡ false → Tails (t ∷ ts) z → AtTheTop t.kind → HasDivision (t ∷ (ts ++ (sign z EndSign ∷ [])))
 top_step t ts z e ih (is_percent p) = found _ (other_percent p)

@@ -1,12 +1,11 @@
 -- The tokens of a cut stand in order, inside the text, and hold their bytes.
-use Rattle.std.proofs.Common.{◌≡◌, ℕ, zero, suc, ◌+◌, ◌-◌, ◌<◌, ◌≤◌, Bool, true, false, not, ◌&&◌, List, [], ◌∷◌, ◌++◌, length, take, drop, Some, refl, sym, ap, subst, ◌∙◌, arith, append_assoc, length-append, true≢false}
-use Rattle.name_meaning.specs.Characters.{is_identifier_byte}
+use Rattle.std.proofs.Common.{◌≡◌, ℕ, ◌+◌, ◌-◌, ◌<◌, ◌≤◌, true, List, [], ◌∷◌, ◌++◌, length, take, drop, refl, sym, ap, subst, ◌∙◌, arith, append_assoc, length-append, true≢false}
 use Rattle.name_meaning.specs.Identifiers.{is_run}
-use Rattle.text_meaning.specs.Bytes.{percent, left_brace, colon, equal, quote, dot, begins}
-use Rattle.text_meaning.specs.Tokens.{Span, Kind, Mark, Token, token, Stray, AssignSign, ColonSign, DotSign, percent_sign, row_kind, dotted, spelled}
-use Rattle.text_meaning.specs.Cut.{Ending, Finished, Unclosed, is_row, Cut, at_end, at_mark, white_space, line_comment, nested_comment, unclosed_comment, percent_word, stray_percent, stray_quote, assign, lone_colon, bracket, lone_dot, row, Tokens, IsLexed}
-use Rattle.token_laws.specs.SpanLaws.{slice, InOrder, IsTokenText, percent_text, stray_percent_text, quote_text, assign_text, colon_text, dot_text, bracket_text, row_text, HoldBytes, StandWell, TokensStandWell}
-use Rattle.token_laws.proofs.CutFollows.{and_front, and_back}
+use Rattle.text_meaning.specs.Bytes.{percent, left_brace, colon, equal, quote, dot}
+use Rattle.text_meaning.specs.Tokens.{Kind, Mark, Token, token, Stray, AssignSign, ColonSign, DotSign, percent_sign, row_kind, dotted, spelled}
+use Rattle.text_meaning.specs.Cut.{Ending, Finished, Unclosed, is_row, Cut, at_end, at_mark, white_space, line_comment, nested_comment, unclosed_comment, percent_word, stray_percent, stray_quote, assign, lone_colon, bracket, lone_dot, row}
+use Rattle.token_laws.specs.SpanLaws.{slice, InOrder, IsTokenText, percent_text, stray_percent_text, quote_text, assign_text, colon_text, dot_text, bracket_text, row_text, HoldBytes, TokensStandWell}
+use Rattle.token_laws.proofs.CutFollows.{and_front}
 
 place_of : Ending → ℕ
 place_of (Finished at) = at
@@ -80,7 +79,7 @@ cut_stands (percent_word {at = at} word rest {ts = ts} {e = e} k l d) front h =
     let n : length (percent ∷ word) ≡ 1 + length word = omega arith in
     let f : From (front ++ ((percent ∷ word) ++ rest)) (at + (1 + length word)) ts e = further front (percent ∷ word) rest at (1 + length word) ts e h (omega arith) (cut_stands d) in
     subst (λ m. From (front ++ ((percent ∷ word) ++ rest)) at (token at (at + m) (Mark (percent_sign word)) ∷ ts) e) n
-      (with_token front (percent ∷ word) rest at (Mark (percent_sign word)) ts e h (omega arith) (percent_text k) (subst (λ m. From (front ++ ((percent ∷ word) ++ rest)) (at + m) ts e) (sym n) f))
+    (with_token front (percent ∷ word) rest at (Mark (percent_sign word)) ts e h (omega arith) (percent_text k) (subst (λ m. From (front ++ ((percent ∷ word) ++ rest)) (at + m) ts e) (sym n) f))
 cut_stands (stray_percent {at = at} {rest = rest} {ts = ts} {e = e} k d) front h =
     with_token front (percent ∷ []) rest at (Mark Stray) ts e h (omega arith) stray_percent_text (further front (percent ∷ []) rest at 1 ts e h refl (cut_stands d))
 cut_stands (stray_quote {at = at} {rest = rest} {ts = ts} {e = e} d) front h =

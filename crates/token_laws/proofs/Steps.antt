@@ -1,12 +1,12 @@
 -- What the machine of the cut does at each form of bytes, for those who build a lexer on it.
-use Rattle.std.proofs.Common.{◌≡◌, ℕ, zero, suc, ◌+◌, Bool, true, false, not, ◌&&◌, ◌||◌, ◌==◌, List, [], ◌∷◌, ◌++◌, length, Some, refl, sym, ap, subst, ◌∙◌, arith, if◌then◌else◌}
+use Rattle.std.proofs.Common.{◌≡◌, ℕ, suc, ◌+◌, Bool, true, false, not, ◌&&◌, ◌==◌, List, [], ◌∷◌, ◌++◌, length, Some, refl, ap, ◌∙◌, arith, if◌then◌else◌}
 use Rattle.std.specs.List.{list_all}
 use Rattle.name_meaning.specs.Characters.{is_white_space, is_identifier_byte}
 use Rattle.name_meaning.specs.Identifiers.{is_run}
 use Rattle.text_meaning.specs.Bytes.{line_feed, quote, percent, dot, colon, equal, left_brace, right_brace, begins}
 use Rattle.text_meaning.specs.Tokens.{Sign, Mark, token, percent_sign, Stray, AssignSign, ColonSign, DotSign}
 use Rattle.text_meaning.specs.Cut.{Unclosed, Finished, begins_line_comment, ends_line, begins_nothing, bracket_sign}
-use Rattle.text_meaning.specs.Cutting.{Between, Second, InLine, InComment, InWord, GoOn, Move, ahead, closed_place, move, follow, cut_on}
+use Rattle.text_meaning.specs.Cutting.{Between, Second, InLine, InComment, InWord, GoOn, Move, ahead, closed_place, cut_on}
 use Rattle.token_laws.proofs.CutFollows.{mark_front, mark_back, step_is, line_goes, percent_line, word_goes, percent_word_move, percent_nothing, bracket_move, white_space_move, run_front}
 
 -- ---- within a comment

@@ -1,6 +1,6 @@
 -- Small texts and their tokens, or their fault.
 use Rattle.std.specs.Prelude.{◌≡◌, ℕ, List, [], ◌∷◌, ◌++◌, codes}
-use Rattle.text_meaning.specs.Tokens.{Kind, Mark, Ident, Token, token, SigWord, ViewWord, IncludeWord, StructWord, OtherWord, Stray, AssignSign, ColonSign, LeftParen, RightParen, LeftBracket, RightBracket, LeftBrace, RightBrace, DotSign, TypeWord, ArrowSign, BackSign, EqualSign, BlankSign}
+use Rattle.text_meaning.specs.Tokens.{Kind, Mark, Ident, token, SigWord, ViewWord, IncludeWord, StructWord, OtherWord, Stray, AssignSign, ColonSign, LeftParen, RightParen, LeftBracket, RightBracket, LeftBrace, RightBrace, DotSign, TypeWord, ArrowSign, BackSign, EqualSign, BlankSign}
 use Rattle.text_meaning.specs.Cut.{Tokens, NotUtf8, OpenComment}
 use Rattle.text_meaning.specs.Cutting.{lex}
 

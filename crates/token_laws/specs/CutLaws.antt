@@ -1,9 +1,6 @@
 -- What holds of the cut of every text.
-use Rattle.std.specs.Prelude.{◌≡◌, ℕ, ◌-◌, ◌<◌, ◌≤◌, ◌⊎◌, List, [], ◌∷◌, Some, take, drop, length}
-use Rattle.name_meaning.specs.Identifiers.{is_run}
-use Rattle.text_meaning.specs.Bytes.{quote, percent, dot, colon, equal}
-use Rattle.text_meaning.specs.Tokens.{Span, Kind, Mark, Sign, Token, Stray, AssignSign, ColonSign, DotSign, percent_sign, row_kind, spelled}
-use Rattle.text_meaning.specs.Cut.{Lexed, Tokens, IsLexed, bracket_sign, is_row}
+use Rattle.std.specs.Prelude.{◌≡◌, ℕ, List}
+use Rattle.text_meaning.specs.Cut.{Lexed, IsLexed}
 use Rattle.text_meaning.specs.Cutting.{lex}
 
 -- Each text has tokens or a fault, it has no others, and the function gives it.

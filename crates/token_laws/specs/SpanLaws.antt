@@ -1,5 +1,5 @@
 -- Where the tokens of a text stand, and which bytes they hold.
-use Rattle.std.specs.Prelude.{◌≡◌, ℕ, ◌-◌, ◌<◌, ◌≤◌, ◌⊎◌, true, List, [], ◌∷◌, Some, take, drop, length}
+use Rattle.std.specs.Prelude.{◌≡◌, ℕ, ◌-◌, ◌<◌, ◌≤◌, true, List, [], ◌∷◌, Some, take, drop, length}
 use Rattle.name_meaning.specs.Identifiers.{is_run}
 use Rattle.text_meaning.specs.Bytes.{quote, percent, dot, colon, equal}
 use Rattle.text_meaning.specs.Tokens.{Span, Kind, Mark, Sign, Token, Stray, AssignSign, ColonSign, DotSign, percent_sign, row_kind, spelled}

@@ -1,10 +1,9 @@
 -- The loop of the lexer.
-use Rattle.std.proofs.Common.{◌≡◌, ℕ, ◌+◌, ◌≤◌, ◌<◌, List, [], ◌∷◌, ◌++◌, length, map, drop, refl, sym, ap, subst, ◌∙◌, arith, append_assoc, append-nil, IsUtf8, IsCharBoundary}
+use Rattle.std.proofs.Common.{◌≡◌, ℕ, ◌≤◌, List, [], ◌∷◌, ◌++◌, length, drop, refl, sym, ap, subst, ◌∙◌, arith, append_assoc, append-nil, IsUtf8, IsCharBoundary}
 use Rattle.std.proofs.lemmas.List.{map_push}
 use Rattle.std.proofs.lemmas.Str.{IsCharBoundary-start, is_utf8-from_IsUtf8}
-use Rattle.text_meaning.specs.Tokens as tokens
-use Rattle.text_meaning.specs.Cut.{Finished, Unclosed, Lexed, Tokens, OpenComment, IsLexed}
-use Rattle.text_meaning.specs.Cutting.{Between, Cutting, ahead, cut_on, lexed_of, lex}
+use Rattle.text_meaning.specs.Cut.{Finished, Unclosed, Tokens, OpenComment, IsLexed}
+use Rattle.text_meaning.specs.Cutting.{Between, Cutting, ahead, cut_on, lexed_of}
 use Rattle.token_laws.proofs.OneCut.{one_cut, lex_utf8}
 use Rattle.token_laws.proofs.Steps.{at_end_of_text}
 use Rattle.twelf_lexer.specs.declared.token.Token.{Token}
@@ -28,7 +27,7 @@ over_token text at to ts t l a =
     let c = cut_on Between to (drop to text) in
     let pushed : tokens_of text (ts ++ (t ∷ [])) ≡ tokens_of text ts ++ (token_of text t ∷ []) = map_push (token_of text) ts t in
     let first : ahead (tokens_of text (ts ++ (t ∷ []))) c ≡ ahead (tokens_of text ts) (ahead (token_of text t ∷ []) c)
-          = ap (λ x. ahead x c) pushed ∙ ap (λ x. record { tokens = x; ending = c.ending }) (append_assoc (tokens_of text ts) (token_of text t ∷ []) c.tokens) in
+    = ap (λ x. ahead x c) pushed ∙ ap (λ x. record { tokens = x; ending = c.ending }) (append_assoc (tokens_of text ts) (token_of text t ∷ []) c.tokens) in
     record { within = a.within; boundary = a.boundary; so_far = first ∙ sym (ap (ahead (tokens_of text ts)) a.cut) ∙ l.so_far }
 
 -- the whole text, by the machine

@@ -1,15 +1,14 @@
 -- What stands at a place of a text, and where it may be cut.
-use Rattle.std.proofs.Common.{◌≡◌, ℕ, suc, ◌+◌, ◌-◌, ◌≤◌, ◌<◌, Bool, true, false, not, ◌&&◌, ◌||◌, ◌==◌, List, [], ◌∷◌, ◌++◌, length, take, drop, get_or, codes, refl, sym, ap, subst, ◌∙◌, arith, ⊎_elim, inl, inr, ◌⊎◌, IsUtf8, IsCharBoundary, true≢false, length-take-le, length-drop}
-use Rattle.std.specs.List.{list_all, slice_range}
+use Rattle.std.proofs.Common.{◌≡◌, ℕ, ◌+◌, ◌-◌, ◌≤◌, ◌<◌, Bool, true, false, ◌||◌, List, [], ◌∷◌, ◌++◌, length, drop, get_or, codes, refl, sym, ap, subst, ◌∙◌, arith, inl, inr, IsUtf8, IsCharBoundary, true≢false, length-take-le, length-drop}
+use Rattle.std.specs.List.{slice_range}
 use Rattle.std.proofs.lemmas.Bool.{cases_lt}
 use Rattle.std.proofs.lemmas.Bool.Decides.{nat_tests}
 use Rattle.std.proofs.lemmas.List.Folds.{drop_split}
 use Rattle.std.proofs.lemmas.Str.{IsCharBoundary-end, IsCharBoundary-before_ascii, IsCharBoundary-after_ascii}
-use Rattle.name_meaning.specs.Characters.{is_white_space, is_identifier_byte, is_special, is_one_of}
+use Rattle.name_meaning.specs.Characters.{is_white_space, is_identifier_byte, is_special}
 use Rattle.text_meaning.specs.Bytes.{begins}
 use Rattle.text_meaning.specs.Cut.{ends_row}
-use Rattle.token_laws.proofs.CutFollows.{Each, one_of, or_front, or_back, not_true, not_false}
-use Rattle.twelf_lexer.specs.Scans.{IsFront}
+use Rattle.token_laws.proofs.CutFollows.{one_of, or_front, not_true, not_false}
 use Rattle.twelf_lexer.proofs.Fronts.{here_and_on, none_left}
 
 pub begins_in : (test : ℕ → Bool) (text : List ℕ) (at : ℕ) → at < length text → begins test (drop at text) ≡ test (get_or text at 0)

@@ -1,19 +1,18 @@
 -- The loops over the runs of a row.
-use Rattle.std.proofs.Common.{◌≡◌, ℕ, suc, ◌+◌, ◌-◌, ◌≤◌, ◌<◌, Bool, true, false, not, ◌&&◌, ◌||◌, ◌==◌, List, [], ◌∷◌, ◌++◌, length, drop, get_or, nat_lt, refl, sym, ap, subst, ◌∙◌, arith, append_assoc, append-nil, length-append, IsUtf8, IsCharBoundary, eqb-true, eq-eqb, true≢false}
+use Rattle.std.proofs.Common.{◌≡◌, ℕ, suc, ◌+◌, ◌≤◌, ◌<◌, Bool, true, false, not, ◌||◌, ◌==◌, List, [], ◌∷◌, ◌++◌, length, drop, get_or, nat_lt, refl, sym, ap, subst, ◌∙◌, arith, append_assoc, length-append, eq-eqb, true≢false}
 use Rattle.std.specs.List.{list_all, list_any, slice_range}
 use Rattle.std.proofs.lemmas.Bool.Decides.{nat_tests}
 use Rattle.name_meaning.specs.Characters.{is_identifier_byte}
 use Rattle.name_meaning.specs.Identifiers.{is_run, is_reserved, is_identifier}
 use Rattle.text_meaning.specs.Bytes.{dot, begins}
-use Rattle.text_meaning.specs.Tokens.{dotted, spelled}
+use Rattle.text_meaning.specs.Tokens.{dotted}
 use Rattle.text_meaning.specs.Cut.{is_row, ends_row}
 use Rattle.token_laws.proofs.CutFollows.{and_front, and_back, or_front, or_back}
 use Rattle.twelf_lexer.specs.Scans.{IsFront}
 use Rattle.twelf_lexer.specs.Rows.{IsRow, IsLongestRow, row_goes_on}
-use Rattle.twelf_lexer.specs.declared.row.RowEnd.{RowEnd}
-use Rattle.twelf_lexer.proofs.Fronts.{here_and_on, none_left}
-use Rattle.twelf_lexer.proofs.Places.{Stands, begins_at, begins_in, front_length, front_parts, boundary_before, boundary_after, ends_row_begins}
-use Rattle.twelf_lexer.proofs.RowSteps.{row_is_over, front_runs, one_run, row_begins, row_grows}
+use Rattle.twelf_lexer.proofs.Fronts.{here_and_on}
+use Rattle.twelf_lexer.proofs.Places.{Stands, begins_at, begins_in, front_length, front_parts, ends_row_begins}
+use Rattle.twelf_lexer.proofs.RowSteps.{row_is_over, one_run, row_begins, row_grows}
 
 -- ---- to the end of the row
 
@@ -35,7 +34,10 @@ pub row_so_far : (text : List ℕ) (at to : ℕ) (reserved : Bool) → at < leng
     → reserved ≡ is_reserved (slice_range text at to) → RowSoFar text at to false reserved
 row_so_far text at to reserved h e f r =
     record {
-      words = slice_range text at to ∷ []; is_row = row_begins text at to f (run_stands text at h e); ends = f.ends; several_is = refl;
+      words = slice_range text at to ∷ [];
+      is_row = row_begins text at to f (run_stands text at h e);
+      ends = f.ends;
+      several_is = refl;
       reserved_is = r ∙ sym (or_none (is_reserved (slice_range text at to)));
     }
 
@@ -52,6 +54,7 @@ goes_on_is text to h =
     first : (bs : List ℕ) → row_goes_on bs ≡ true → begins (λ b. b == 46) bs ≡ true
     first [] h = absurd (true≢false (sym h))
     first (b ∷ bs) h = and_front (b == dot) _ h
+
     second : (bs : List ℕ) (b : ℕ) (cs : List ℕ) → bs ≡ b ∷ cs → row_goes_on bs ≡ true → begins is_identifier_byte cs ≡ true
     second bs b cs e h = and_back (b == dot) _ (sym (ap row_goes_on e) ∙ h)
 
@@ -129,9 +132,15 @@ path_begins text at to end (w ∷ ws) r h e f =
     record {
       identifier = ap is_identifier found.0 ∙ an_identifier w run free_w;
       so_far = record {
-        rest = ws; is_row = row_begins text at end f begun; free = ap (λ x. list_any is_reserved (x ∷ [])) found.0 ∙ or_none (is_reserved w) ∙ free_w; left = found.1;
+        rest = ws;
+        is_row = row_begins text at end f begun;
+        free = ap (λ x. list_any is_reserved (x ∷ [])) found.0 ∙ or_none (is_reserved w) ∙ free_w;
+        left = found.1;
         length_is = omega (arith, r.length_is, len, length-append w (dotted ws), front_length text at end f.forward f.within, f.forward);
-        within = r.within; runs = and_back (is_run w) (list_all is_run ws) r.runs; rest_free = or_back (is_reserved w) (list_any is_reserved ws) h; over = over;
+        within = r.within;
+        runs = and_back (is_run w) (list_all is_run ws) r.runs;
+        rest_free = or_back (is_reserved w) (list_any is_reserved ws) h;
+        over = over;
       };
     }
   where
@@ -167,16 +176,21 @@ path_goes text at to end next path p h f = go p.rest p.left p.length_is p.runs p
           stands = stands;
           identifier = ap is_identifier found.0 ∙ an_identifier w run free_w;
           so_far = record {
-            rest = ws; is_row = row_grows text at end next path p.is_row stands f begun;
+            rest = ws;
+            is_row = row_grows text at end next path p.is_row stands f begun;
             free = any-snoc path (slice_range text (end + 1) next) ∙ both_free p.free (ap is_reserved found.0 ∙ free_w);
             left = found.1;
             length_is = omega (arith, n, len, length-append w (dotted ws), front_length text (end + 1) next f.forward f.within, f.forward);
-            within = p.within; runs = and_back (is_run w) (list_all is_run ws) r; rest_free = or_back (is_reserved w) (list_any is_reserved ws) g; over = p.over;
+            within = p.within;
+            runs = and_back (is_run w) (list_all is_run ws) r;
+            rest_free = or_back (is_reserved w) (list_any is_reserved ws) g;
+            over = p.over;
           };
         }
       where
         both_free : {a b : Bool} → a ≡ false → b ≡ false → (a || b) ≡ false
         both_free e f = rw (e, f) refl
+
         starts : (w rest : List ℕ) → is_run w ≡ true → list_all is_identifier_byte w ≡ true → begins is_identifier_byte (w ++ rest) ≡ true
         starts [] rest h i = absurd (true≢false (sym h))
         starts (b ∷ w) rest h i = and_front (is_identifier_byte b) _ i

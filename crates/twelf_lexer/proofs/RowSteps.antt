@@ -1,11 +1,11 @@
 -- Rows, run by run.
-use Rattle.std.proofs.Common.{◌≡◌, ℕ, suc, ◌+◌, ◌-◌, ◌≤◌, ◌<◌, Bool, true, false, not, cond, ◌&&◌, ◌||◌, ◌==◌, List, [], ◌∷◌, ◌++◌, length, drop, get_or, nat_lt, codes, refl, sym, ap, subst, ◌∙◌, arith, append_assoc, append-nil, length-append, IsUtf8, IsCharBoundary, eqb-true, ne_eqb, true≢false}
+use Rattle.std.proofs.Common.{◌≡◌, ℕ, suc, ◌+◌, ◌≤◌, ◌<◌, Bool, true, false, not, cond, ◌==◌, List, [], ◌∷◌, ◌++◌, length, drop, get_or, nat_lt, codes, refl, sym, ap, ◌∙◌, arith, append_assoc, append-nil, length-append, eqb-true, ne_eqb, true≢false}
 use Rattle.std.specs.List.{list_all, list_any, slice_range}
 use Rattle.std.proofs.lemmas.List.Folds.{list_all-append}
 use Rattle.std.proofs.lemmas.Bool.Decides.{nat_tests}
 use Rattle.std.specs.Prelude.{bytes_eq}
 use Rattle.name_meaning.specs.Characters.{is_identifier_byte}
-use Rattle.name_meaning.specs.Identifiers.{is_run, is_reserved, is_identifier}
+use Rattle.name_meaning.specs.Identifiers.{is_run, is_reserved}
 use Rattle.text_meaning.specs.Bytes.{dot, begins}
 use Rattle.text_meaning.specs.Tokens.{Kind, Mark, Ident, token, Stray, run_kind, row_kind, dotted, spelled}
 use Rattle.text_meaning.specs.Cut.{is_row, ends_row}
@@ -14,8 +14,8 @@ use Rattle.token_laws.proofs.CutFollows.{and_front, and_back, or_front, or_back,
 use Rattle.twelf_lexer.specs.Scans.{IsFront}
 use Rattle.twelf_lexer.specs.Rows.{IsRow, row_goes_on}
 use Rattle.twelf_lexer.specs.Steps.{Advances}
-use Rattle.twelf_lexer.proofs.Fronts.{here_and_on, none_left}
-use Rattle.twelf_lexer.proofs.Places.{Stands, begins_at, begins_in, front_length, front_parts, boundary_before, boundary_after, ends_row_begins}
+use Rattle.twelf_lexer.proofs.Fronts.{here_and_on}
+use Rattle.twelf_lexer.proofs.Places.{Stands, begins_at, front_length, front_parts, boundary_before, ends_row_begins}
 
 -- ---- whether a row goes on
 

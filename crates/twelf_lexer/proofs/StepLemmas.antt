@@ -1,17 +1,17 @@
 -- One step at each form of bytes.
-use Rattle.std.proofs.Common.{◌≡◌, ℕ, suc, ◌+◌, ◌-◌, ◌≤◌, ◌<◌, Bool, true, false, not, ◌&&◌, ◌||◌, ◌==◌, List, [], ◌∷◌, ◌++◌, length, drop, get_or, codes, Some, None, refl, sym, ap, subst, ◌∙◌, arith, IsUtf8, IsCharBoundary, eqb-true, true≢false, ◌≢◌, ne_eqb}
-use Rattle.std.specs.List.{list_all, slice_range}
+use Rattle.std.proofs.Common.{◌≡◌, ℕ, ◌+◌, ◌-◌, ◌<◌, Bool, true, false, not, ◌||◌, ◌==◌, List, [], ◌∷◌, length, drop, get_or, codes, Some, None, refl, sym, ap, subst, ◌∙◌, arith, IsUtf8, IsCharBoundary, eqb-true, true≢false, ◌≢◌}
+use Rattle.std.specs.List.{slice_range}
 use Rattle.name_meaning.specs.Characters.{is_white_space, is_identifier_byte, is_special}
-use Rattle.text_meaning.specs.Bytes.{line_feed, percent, left_brace, dot, begins}
-use Rattle.text_meaning.specs.Tokens.{Kind, Mark, Sign, Token, token, percent_sign, Stray, AssignSign, ColonSign, DotSign}
+use Rattle.text_meaning.specs.Bytes.{line_feed, begins}
+use Rattle.text_meaning.specs.Tokens.{Mark, Sign, Token, token, percent_sign, Stray, AssignSign, ColonSign, DotSign}
 use Rattle.text_meaning.specs.Cut.{Finished, Unclosed, begins_line_comment, ends_line, begins_nothing, brackets, bracket_sign}
-use Rattle.text_meaning.specs.Cutting.{Between, InComment, ahead, cut_on}
+use Rattle.text_meaning.specs.Cutting.{Between, ahead, cut_on}
 use Rattle.token_laws.proofs.CutFollows.{one_of, of_sign_in}
 use Rattle.token_laws.proofs.Steps.{comment_goes_in, line_comment_goes, mark_ends, percent_word_goes, stray_percent_goes, quote_goes, dot_goes, assign_goes, colon_goes, bracket_goes, white_space_goes}
 use Rattle.twelf_lexer.specs.Scans.{IsFront, Closes, StaysOpen}
 use Rattle.twelf_lexer.specs.Steps.{Advances}
-use Rattle.twelf_lexer.proofs.Fronts.{here_and_on, none_left}
-use Rattle.twelf_lexer.proofs.Places.{Stands, begins_at, front_length, front_parts, boundary_before, boundary_after, low_byte}
+use Rattle.twelf_lexer.proofs.Fronts.{here_and_on}
+use Rattle.twelf_lexer.proofs.Places.{begins_at, front_length, front_parts, boundary_before, boundary_after, low_byte}
 use Rattle.twelf_lexer.proofs.RowSteps.{front_runs}
 
 -- the byte at a place, and what follows
@@ -44,7 +44,8 @@ assign_step text at u h e k =
     let s = begins_at (λ x. x == 61) text (at + 1) k in
     let n : at + 2 ≡ at + 1 + 1 = omega arith in
     record {
-      forward = omega arith; within = omega (arith, s.within);
+      forward = omega arith;
+      within = omega (arith, s.within);
       boundary = boundary_after text (at + 1) 61 u s.within (eqb-true (get_or text (at + 1) 0) 61 s.passes) (omega arith);
       cut = ap (cut_on Between at) (then_is text at 58 61 h e k) ∙ assign_goes at (drop (at + 2) text) ∙ ap (λ j. ahead (token at j (Mark AssignSign) ∷ []) (cut_on Between j (drop j text))) n;
     }
@@ -73,8 +74,10 @@ quote_step text at u h s n1 n2 n3 n4 =
   where
     no : (c : ℕ) → get_or text at 0 ≢ c → get_or text at 0 ≡ c → get_or text at 0 ≡ 34
     no c n e = absurd (n e)
+
     apart : (m : Sign) → None ≡ Some m → ⊥
     apart m e = absurd cc
+
     other : (c : ℕ) (m : Sign) → bracket_sign c ≡ Some m → get_or text at 0 ≡ c → get_or text at 0 ≡ 34
     other c m f e = absurd (apart m (sym n4 ∙ ap bracket_sign e ∙ f))
 
@@ -95,16 +98,19 @@ line_step text at to h e k f =
     let parts = front_parts text (at + 1) to f.forward in
     let n : at + 1 + length comment ≡ to = omega (arith, front_length text (at + 1) to f.forward f.within, f.forward) in
     record {
-      forward = omega (arith, f.forward); within = f.within; boundary = boundary_before text to f.within over.1;
+      forward = omega (arith, f.forward);
+      within = f.within;
+      boundary = boundary_before text to f.within over.1;
       cut = ap (cut_on Between at) (here_is text at 37 h e ∙ ap (λ l. 37 ∷ l) parts)
-        ∙ line_comment_goes at comment (drop to text) (ap begins_line_comment (sym parts) ∙ k) f.passes over.0 ∙ ap (λ j. cut_on Between j (drop to text)) n;
+          ∙ line_comment_goes at comment (drop to text) (ap begins_line_comment (sym parts) ∙ k) f.passes over.0 ∙ ap (λ j. cut_on Between j (drop to text)) n;
     }
 
 pub comment_step : (text : List ℕ) (at to : ℕ) → IsUtf8 text → at < length text → get_or text at 0 ≡ 37 → begins (λ b. b == 123) (drop (at + 1) text) ≡ true → Closes text (at + 2) to → Advances text at to []
 comment_step text at to u h e k f =
     let n : to - 1 + 1 ≡ to = omega (arith, f.forward) in
     record {
-      forward = omega (arith, f.forward); within = f.within;
+      forward = omega (arith, f.forward);
+      within = f.within;
       boundary = subst (IsCharBoundary text) n (boundary_after text (to - 1) 37 u (omega (arith, f.forward, f.within)) f.ends (omega arith));
       cut = ap (cut_on Between at) (then_is text at 37 123 h e k) ∙ comment_goes_in at (drop (at + 2) text) ∙ f.closes at;
     }
@@ -123,9 +129,11 @@ word_step text at to h e k f =
     let word = slice_range text (at + 1) to in
     let n : at + 1 + length word ≡ to = omega (arith, front_length text (at + 1) to f.forward f.within, f.forward) in
     record {
-      forward = omega (arith, f.forward); within = f.within; boundary = boundary_before text to f.within f.ends;
+      forward = omega (arith, f.forward);
+      within = f.within;
+      boundary = boundary_before text to f.within f.ends;
       cut = ap (cut_on Between at) (here_is text at 37 h e ∙ ap (λ l. 37 ∷ l) (front_parts text (at + 1) to f.forward))
-        ∙ percent_word_goes at word (drop to text) (front_runs text (at + 1) to f k) f.ends ∙ ap (λ j. ahead (token at j (Mark (percent_sign word)) ∷ []) (cut_on Between j (drop to text))) n;
+          ∙ percent_word_goes at word (drop to text) (front_runs text (at + 1) to f k) f.ends ∙ ap (λ j. ahead (token at j (Mark (percent_sign word)) ∷ []) (cut_on Between j (drop to text))) n;
     }
 
 nothing_begins : (bs : List ℕ) → begins_line_comment bs ≡ false → begins (λ b. b == 123) bs ≡ false → begins (λ b. b == 46) bs ≡ false → begins is_identifier_byte bs ≡ false → begins_nothing bs ≡ true

@@ -1,10 +1,10 @@
 -- Rows of runs.
-use Rattle.std.specs.Prelude.{◌≡◌, ℕ, ◌+◌, ◌≤◌, ◌<◌, Bool, true, false, List, [], ◌∷◌, ◌++◌, length, drop, nat_lt, ◌==◌, ◌&&◌}
+use Rattle.std.specs.Prelude.{◌≡◌, ℕ, ◌+◌, ◌≤◌, Bool, true, false, List, [], ◌∷◌, ◌++◌, length, drop, nat_lt, ◌==◌, ◌&&◌}
 use Rattle.std.specs.List.{list_any}
 use Rattle.name_meaning.specs.Identifiers.{is_reserved}
 use Rattle.name_meaning.specs.Characters.{is_identifier_byte}
 use Rattle.text_meaning.specs.Bytes.{dot, begins}
-use Rattle.text_meaning.specs.Tokens.{Kind, run_kind, spelled}
+use Rattle.text_meaning.specs.Tokens.{run_kind, spelled}
 use Rattle.text_meaning.specs.Cut.{is_row, ends_row}
 use Rattle.twelf_lexer.specs.declared.row.RowEnd.{RowEnd}
 use Rattle.twelf_lexer.specs.declared.token.TokenKind.{TokenKind}

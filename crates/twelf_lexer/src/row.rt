@@ -83,7 +83,11 @@ fn goes_on(text: &[u8], at: usize) -> bool
 fn is_reserved(run: &[u8]) -> bool
     ensures { result ≡ identifiers.is_reserved run.now }
 {
-    run == b"type".as_slice() || run == b"->".as_slice() || run == b"<-".as_slice() || run == b"=".as_slice() || run == b"_".as_slice()
+    run == b"type".as_slice()
+        || run == b"->".as_slice()
+        || run == b"<-".as_slice()
+        || run == b"=".as_slice()
+        || run == b"_".as_slice()
 }
 
 /// The kind of a reserved word. None for every other run.

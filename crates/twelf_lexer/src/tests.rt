@@ -14,7 +14,10 @@ fn shown(alloc: Global, text: &[u8]) -> Result<String, AllocError> {
             let mut line = String::new(alloc);
             for token in cut.tokens.as_slice() {
                 push_kind(&mut line, &token.kind)?;
-                line.push_str(format!(in alloc; " {}-{} ", token.span.from, token.span.to)?.as_str())?;
+                line.push_str(format!(in alloc;
+                    " {}-{} ",
+                    token.span.from, token.span.to
+                )?.as_str())?;
             }
             line.push_str(format!(in alloc; "end {}", cut.end)?.as_str())?;
             Ok(line)
@@ -86,9 +89,15 @@ fn the_table_of_tokens(rt: HostRuntime) -> Result<(), Fail> {
         ("a %. b", "ident/a 0-1 end 2"),
         ("\"", "stray 0-1 end 1"),
         ("()[]{}", "( 0-1 ) 1-2 [ 2-3 ] 3-4 { 4-5 } 5-6 end 6"),
-        ("type -> <- = _", "type 0-4 arrow 5-7 back 8-10 equal 11-12 blank 13-14 end 14"),
+        (
+            "type -> <- = _",
+            "type 0-4 arrow 5-7 back 8-10 equal 11-12 blank 13-14 end 14",
+        ),
         ("\u{e9}\u{3bb}.x", "ident/\u{e9}\u{3bb}/x 0-6 end 6"),
-        ("\t\u{0}\u{1}\r\u{7f}", "ident/\u{0}\u{1} 1-3 ident/\u{7f} 4-5 end 5"),
+        (
+            "\t\u{0}\u{1}\r\u{7f}",
+            "ident/\u{0}\u{1} 1-3 ident/\u{7f} 4-5 end 5",
+        ),
     ] {
         let line = shown(alloc, text.as_bytes())?;
         assert_eq!(rt; line.as_str(), want, "{text}");

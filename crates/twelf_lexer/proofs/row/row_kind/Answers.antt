@@ -1,9 +1,8 @@
-use Rattle.std.proofs.Common.{◌≡◌, false, ◌∷◌, [], sym, subst, ap, ◌∙◌, length, nat_lt}
-use Rattle.std.specs.List.{list_any, slice_range}
-use Rattle.name_meaning.specs.Identifiers.{is_reserved}
+use Rattle.std.proofs.Common.{◌∷◌, [], sym, subst, ap, ◌∙◌}
+use Rattle.std.specs.List.{slice_range}
 use Rattle.text_meaning.specs.Tokens.{token, row_kind, run_kind}
-use Rattle.twelf_lexer.specs.Rows.{IsRow, IsLongestRow}
-use Rattle.twelf_lexer.specs.Steps.{Advances, kind_of}
+use Rattle.twelf_lexer.specs.Rows.{IsLongestRow}
+use Rattle.twelf_lexer.specs.Steps.{Advances}
 use Rattle.twelf_lexer.proofs.RowSteps.{row_advances, stray_row, free_row, single_row}
 use Rattle.twelf_lexer.proofs.row.row_kind.Goals as goal
 use Rattle.twelf_lexer.proofs.row.row_kind.Goals.{then-row+else-row-2, else-row+in_default}

@@ -1,6 +1,5 @@
-use Rattle.std.proofs.Common.{length, ◌-◌, not, ◌==◌}
+use Rattle.std.proofs.Common.{length, ◌-◌}
 use Rattle.name_meaning.specs.Characters as characters
-use Rattle.text_meaning.specs.Bytes.{line_feed}
 use Rattle.twelf_lexer.proofs.Fronts.{PassesTo}
 use Rattle.twelf_lexer.proofs.scan.run_end.Given as goal
 

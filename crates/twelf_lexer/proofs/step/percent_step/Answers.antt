@@ -17,5 +17,5 @@ returns-then-starts_run c =
 pub returns : goal.returns
 returns c =
     subst (IsStep c.args.text.now c.args.at) (sym c.token-2.ensures)
-      (steps.stray_step c.args.text.now c.args.at c.requires.utf8 c.requires.at c.requires.percent (sym c.begins_line_comment.ensures ∙ c.if-begins_line_comment.false)
-        (sym c.starts_with.ensures ∙ c.if-starts_with.false) (sym c.starts_with-2.ensures ∙ c.if-starts_with-2.false) (sym c.starts_run.ensures ∙ c.if-starts_run.false))
+    (steps.stray_step c.args.text.now c.args.at c.requires.utf8 c.requires.at c.requires.percent (sym c.begins_line_comment.ensures ∙ c.if-begins_line_comment.false)
+    (sym c.starts_with.ensures ∙ c.if-starts_with.false) (sym c.starts_with-2.ensures ∙ c.if-starts_with-2.false) (sym c.starts_run.ensures ∙ c.if-starts_run.false))

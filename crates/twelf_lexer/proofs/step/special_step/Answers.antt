@@ -1,4 +1,4 @@
-use Rattle.std.proofs.Common.{◌+◌, ◌<◌, ◌∷◌, [], sym, subst, ap, ◌∙◌}
+use Rattle.std.proofs.Common.{◌+◌, ◌∷◌, [], sym, subst}
 use Rattle.text_meaning.specs.Tokens.{token}
 use Rattle.twelf_lexer.specs.Steps.{IsStep, Advances}
 use Rattle.twelf_lexer.proofs.StepLemmas as steps
@@ -18,4 +18,4 @@ returns-in-Some c =
 pub returns-in-None : goal.returns-in-None
 returns-in-None c =
     subst (IsStep c.args.text.now c.args.at) (sym c.token-in-None.ensures)
-      (steps.quote_step c.args.text.now c.args.at c.requires.utf8 c.requires.at c.requires.special c.if-byte-eq37.false c.if-byte-eq58.false c.if-byte-eq46.false c.in-None.ensures)
+    (steps.quote_step c.args.text.now c.args.at c.requires.utf8 c.requires.at c.requires.special c.if-byte-eq37.false c.if-byte-eq58.false c.if-byte-eq46.false c.in-None.ensures)
