@@ -3,7 +3,6 @@
 #![tactic(auto)]
 
 mod bytes;
-mod identifier;
 mod memory;
 mod name;
 mod names;

@@ -9,7 +9,7 @@ ghost use Rattle.name_meaning.specs.Identifiers.{is_identifier};
 ghost use Rattle.lf_terms.specs.declared.name.NameFault.TheVariants.{NotAName, Memory as WantOfMemory};
 
 use crate::Memory;
-use crate::identifier::is_identifier;
+use name_meaning::is_identifier;
 use std::alloc::{AllocError, Global};
 use std::cmp::Ordering;
 use std::default::MadeWith;
@@ -65,7 +65,7 @@ impl Name {
         ensures identifier { OnOk result (IsTrue (is_identifier text.now)) }
         ensures not_a_name { IsErrOf result NotAName ↔ IsTrue (not (is_identifier text.now)) }
     {
-        if !is_identifier(text) {
+        if !is_identifier(text.as_bytes()) {
             return Err(NameFault::NotAName);
         }
         Ok(Name {

@@ -5,6 +5,8 @@ use std::cmp::Ordering;
 use std::collections::{BTreeSet, HashSet};
 use std::test::Fail;
 
+fn crosses_threads<T: Send + Sync>(_value: &T) {}
+
 #[test]
 fn identifiers_are_names(rt: HostRuntime) -> Result<(), Fail> {
     let alloc = rt.alloc();
@@ -73,6 +75,7 @@ fn bytes_grow_at_their_end(rt: HostRuntime) -> Result<(), Fail> {
     assert_eq!(rt; bytes.len(), 0);
     bytes.push(7)?;
     bytes.extend(&[8, 9])?;
+    crosses_threads(&bytes);
     assert_eq!(rt; bytes.len(), 3);
     assert_eq!(rt; bytes.get(2), Some(&9));
     assert_eq!(rt; bytes.get(3), None);
@@ -88,6 +91,7 @@ fn texts_grow_at_their_end(rt: HostRuntime) -> Result<(), Fail> {
     let mut texts = Texts::new(alloc);
     texts.push(String::from_str(alloc, "one")?)?;
     texts.push(String::from_str(alloc, "")?)?;
+    crosses_threads(&texts);
     assert_eq!(rt; texts.len(), 2);
     let first = texts.get(0).ok_or("the first text")?;
     assert_eq!(rt; first.as_str(), "one");
@@ -105,6 +109,7 @@ fn a_path_has_its_names(rt: HostRuntime) -> Result<(), Fail> {
     }
     assert_eq!(rt; path.len(), 4);
     let copy = path.copy(alloc)?;
+    crosses_threads(&copy);
     assert_eq!(rt; copy, path);
     assert_ne!(rt; Path::new(alloc, Name::new(alloc, "m")?)?, path);
     let mut written = String::new(alloc);
@@ -126,6 +131,7 @@ fn name_lists_grow_at_their_end(rt: HostRuntime) -> Result<(), Fail> {
     let mut names = Names::new(alloc);
     names.push(Name::new(alloc, "a")?)?;
     names.push(Name::new(alloc, "b")?)?;
+    crosses_threads(&names);
     assert_eq!(rt; names.len(), 2);
     let last = names.get(1).ok_or("the last name")?;
     assert_eq!(rt; last.as_str(), "b");

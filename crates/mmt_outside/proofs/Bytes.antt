@@ -1,10 +1,10 @@
 -- Laws of what sources and sinks tell.
-use Rattle.std.proofs.Common.{◌≡◌, ℕ, ◌+◌, ◌≤◌, List, [], ◌++◌, length, take, drop, refl, ap, sym, append_assoc, arith}
+use Rattle.std.proofs.Common.{◌≡◌, ℕ, ◌+◌, List, [], ◌++◌, length, take, drop, refl, sym, append_assoc, arith, length-append}
 use Rattle.std.specs.Prelude.{None, Some}
 use Rattle.std.specs.declared.option.Option.{Option}
-use Rattle.std.proofs.lemmas.List.{append-nil, take-append-drop}
-use Rattle.std.proofs.Math.Seq.{take-add}
-use Rattle.mmt_outside.specs.Bytes.{Taken, appended, flushed, preceded}
+use Rattle.std.proofs.lemmas.List.{append-nil, take-append-drop, take-append-le}
+use Rattle.std.proofs.Math.Seq.{take-add, take-append-add, take-length}
+use Rattle.mmt_outside.specs.Bytes.{Taken, TookPrefix, appended, preceded}
 
 -- bytes taken one piece after the other are the pieces taken at once
 pub appended-appended : (taken : Option Taken) (first second : List ℕ) → appended (appended taken first) second ≡ appended taken (first ++ second)
@@ -37,3 +37,35 @@ preceded-drop count bytes read same = rw (same, take-append-drop) refl
 pub rest_of-preceded : (bytes read : List ℕ) (left : Option (List ℕ)) → Some bytes ≡ preceded read left → (rest : List ℕ) × (left ≡ Some rest) × (bytes ≡ read ++ rest)
 rest_of-preceded bytes read None told = absurd (cc)
 rest_of-preceded bytes read (Some rest) told = (rest, refl, cc)
+
+-- a piece that was taken as a whole was taken as a first part of it
+pub TookPrefix-whole : (before : Option Taken) (piece : List ℕ) → TookPrefix before (appended before piece) piece
+TookPrefix-whole before piece = record {
+  count = length piece;
+  within = omega arith;
+  took = rw (take-length piece) refl;
+}
+
+-- of nothing taken too
+pub TookPrefix-none : (before : Option Taken) (piece : List ℕ) → TookPrefix before before piece
+TookPrefix-none before piece = record {
+  count = 0;
+  within = omega arith;
+  took = sym (appended-nil before);
+}
+
+-- a first part of a piece is one of a longer piece
+pub TookPrefix-append : (before now : Option Taken) (piece more : List ℕ) → TookPrefix before now piece → TookPrefix before now (piece ++ more)
+TookPrefix-append before now piece more part = record {
+  count = part.count;
+  within = omega (arith, part.within, length-append piece more);
+  took = rw (take-append-le part.count piece more part.within) part.took;
+}
+
+-- after a piece was taken as a whole, a first part of the next makes a first part of both
+pub TookPrefix-after : (before now : Option Taken) (first second : List ℕ) → TookPrefix (appended before first) now second → TookPrefix before now (first ++ second)
+TookPrefix-after before now first second part = record {
+  count = length first + part.count;
+  within = omega (arith, part.within, length-append first second);
+  took = rw (take-append-add first second part.count, ← appended-appended before first (take part.count second)) part.took;
+}

@@ -1,5 +1,5 @@
 -- The bytes that a source has left and those that a sink has taken (this profile). An object need not tell them: `None`.
-use Rattle.std.specs.Prelude.{◌≡◌, ◌↔◌, ◌<◌, ◌≤◌, ℕ, List, [], ◌++◌, length, take, IfSome, None, Some}
+use Rattle.std.specs.Prelude.{◌≡◌, ◌↔◌, ◌≤◌, ℕ, List, [], ◌++◌, length, take, IfSome, None, Some}
 use Rattle.std.specs.declared.option.Option.{Option}
 
 -- What is told of the bytes left before some bytes were read, where this is told after it: those bytes, and then the rest.

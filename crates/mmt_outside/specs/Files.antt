@@ -1,5 +1,5 @@
 -- Folders of files (this profile). Names and contents are lists of bytes.
-use Rattle.std.specs.Prelude.{◌≡◌, ◌≢◌, ◌↔◌, ◌<◌, ◌≤◌, ◌^◌, ℕ, List, length, IsSome, IfSome, Contains, AllPairs}
+use Rattle.std.specs.Prelude.{◌≡◌, ◌≢◌, ◌↔◌, ◌<◌, ◌≤◌, ◌^◌, ℕ, List, length, IsSome, Contains, AllPairs}
 use Rattle.std.specs.declared.option.Option.{Option}
 use Rattle.mmt_outside.specs.declared.folder.FileBytes.{FileBytes}
 use Rattle.mmt_outside.specs.declared.folder.FileBytes.TheVariants.{Whole, TooBig}

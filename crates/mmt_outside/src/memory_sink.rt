@@ -67,6 +67,7 @@ impl Sink for MemSink {
         // It fails exactly where the list says so or no byte of the piece has room, and else takes what has room.
         ensures fails { IsErr result ↔ IsTrue (write_fails self.old (length piece.now)) }
         ensures calls { self.new.calls ≡ after_write self.old (length piece.now) }
+        ensures steady { self.old.calls.fails ≡ [] → length piece.now ≤ room_left self.old → self.new.calls.faults ≡ self.old.calls.faults }
         ensures count { IfOk result (λ count. count ≡ min (length piece.now) (room_left self.old)) }
 
         // What the trait says.
@@ -91,6 +92,7 @@ impl Sink for MemSink {
         // It fails exactly where the list says so.
         ensures fails { IsErr result ↔ IsTrue (next_fails self.old.calls) }
         ensures calls { self.new.calls ≡ after_call self.old.calls }
+        ensures steady { self.old.calls.fails ≡ [] → self.new.calls.faults ≡ self.old.calls.faults }
 
         // What the trait says.
         ensures covers { OnOk result (Some self.new.taken ≡ flushed (Some self.old.taken)) }

@@ -1,5 +1,5 @@
 //! A source over bytes in memory.
-ghost use Rattle.std.specs.Prelude.{◌≡◌, ◌↔◌, ◌<◌, ◌≤◌, ◌+◌, Some, length, take, drop, min, IfOk, OnOk, OnErr, IsErr, IsTrue};
+ghost use Rattle.std.specs.Prelude.{◌≡◌, ◌↔◌, ◌<◌, ◌≤◌, ◌+◌, [], Some, length, take, drop, min, IfOk, OnOk, OnErr, IsErr, IsTrue};
 ghost use Rattle.mmt_outside.specs.Bytes.{preceded, IsEndOfInput};
 ghost use Rattle.mmt_outside.specs.Faults.{HasCause};
 ghost use Rattle.mmt_outside.specs.Memory.{no_calls, next_fails, after_call};
@@ -52,6 +52,7 @@ impl Source for MemSource {
         // It fails exactly where the list says so, and else reads as much as there is and fits.
         ensures fails { IsErr result ↔ IsTrue (next_fails self.old.calls) }
         ensures calls { self.new.calls ≡ after_call self.old.calls }
+        ensures steady { self.old.calls.fails ≡ [] → self.new.calls.faults ≡ self.old.calls.faults }
         ensures count { IfOk result (λ count. count ≡ min (length self.old.left) (length into.new)) }
         ensures after { IfOk result (λ count. self.new.left ≡ drop count self.old.left) }
         ensures front { IfOk result (λ count. take count into.new ≡ take count self.old.left) }

@@ -127,6 +127,8 @@ fn objects_pass_through_the_traits(rt: HostRuntime) -> Result<(), Fail> {
     Ok(())
 }
 
+fn crosses_threads<T: Send>(_value: &T) {}
+
 // A test is started without input, and its output is not looked at.
 #[test]
 fn the_standard_streams_are_reached(rt: HostRuntime) -> Result<(), Fail> {
@@ -136,5 +138,7 @@ fn the_standard_streams_are_reached(rt: HostRuntime) -> Result<(), Fail> {
     let mut source = StdSource::new(rt);
     let mut piece = [0u8; 4];
     assert_eq!(rt; source.read(&mut piece[..0]), Ok(0));
+    crosses_threads(&source);
+    crosses_threads(&sink);
     Ok(())
 }

@@ -4,6 +4,10 @@
 ghost use Rattle.std.specs.Prelude.{◌≡◌};
 ghost use Rattle.name_meaning.specs.Characters as characters;
 
+mod identifier;
+
+pub use identifier::is_identifier;
+
 /// Whether the byte is white space: a tab, a line feed, a vertical tab, a form feed, a carriage return or a space.
 pub fn is_white_space(byte: u8) -> bool
     ensures { result ≡ characters.is_white_space byte }

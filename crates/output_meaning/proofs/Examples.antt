@@ -9,27 +9,26 @@ use Rattle.output_meaning.specs.Pieces.{pieces_from, stand_alone}
 use Rattle.output_meaning.specs.FirstForm.{names_of, sentences_of, body_of}
 use Rattle.output_meaning.specs.Declared.{declared, are_distinct, row_fault, first_fault}
 use Rattle.output_meaning.specs.Verdicts.{verdict_of}
-use Rattle.output_meaning.specs.Printed.{verdict_line}
 use Rattle.output_meaning.specs.Script.{items_within, output_from, output_of}
 
 natural_numbers : output_of (codes "put Nat\n%sig Nat = {\nnat : type.\nz : nat.\ns : nat -> nat.\n}.\n%%end\nreport Nat\n")
     ≡ codes "@1 put Nat\nNat @1 accepted theory 3\n"
-unfolding is_utf8 chars encode digits lines_of text_before behind_end pieces_from stand_alone names_of sentences_of body_of declared are_distinct row_fault first_fault verdict_of verdict_line items_within output_from
+unfolding is_utf8 chars encode digits lines_of text_before behind_end pieces_from stand_alone names_of sentences_of body_of declared are_distinct row_fault first_fault verdict_of items_within output_from
 natural_numbers = refl
 
 misspelled_name : output_of (codes "put Nat\n%sig Nat = {\nnat : type.\nz : nat.\ns : nat -> nta.\n}.\n%%end\nreport Nat\n")
     ≡ codes "@1 put Nat\nNat @1 refused 4:12 unknown-name s\n"
-unfolding is_utf8 chars encode digits lines_of text_before behind_end pieces_from stand_alone names_of sentences_of body_of declared are_distinct row_fault first_fault verdict_of verdict_line items_within output_from
+unfolding is_utf8 chars encode digits lines_of text_before behind_end pieces_from stand_alone names_of sentences_of body_of declared are_distinct row_fault first_fault verdict_of items_within output_from
 misspelled_name = refl
 
 object_in_a_row : output_of (codes "put T\n%sig T = {\na : type.\nc : a -> a.\nd : a -> c.\n}.\n%%end\nreport T\n")
     ≡ codes "@1 put T\nT @1 refused 4:10 level d\n"
-unfolding is_utf8 chars encode digits lines_of text_before behind_end pieces_from stand_alone names_of sentences_of body_of declared are_distinct row_fault first_fault verdict_of verdict_line items_within output_from
+unfolding is_utf8 chars encode digits lines_of text_before behind_end pieces_from stand_alone names_of sentences_of body_of declared are_distinct row_fault first_fault verdict_of items_within output_from
 object_in_a_row = refl
 
 other_form_and_absent_name : output_of (codes "put T\n%sig T = { a : {x:b} type. }.\n%%end\nreport T\nreport U\n")
     ≡ codes "@1 put T\nT @1 refused 1:1 unsupported T\nU @1 absent\n"
-unfolding is_utf8 chars encode digits lines_of text_before behind_end pieces_from stand_alone names_of sentences_of body_of declared are_distinct row_fault first_fault verdict_of verdict_line items_within output_from
+unfolding is_utf8 chars encode digits lines_of text_before behind_end pieces_from stand_alone names_of sentences_of body_of declared are_distinct row_fault first_fault verdict_of items_within output_from
 other_form_and_absent_name = refl
 
 no_input : output_of [] ≡ []

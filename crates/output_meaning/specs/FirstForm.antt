@@ -1,9 +1,8 @@
 -- The first form of a text: `%sig N = {`, declarations `id : type.` and `id : id -> .. -> id.`, and `}.` (this profile).
-use Rattle.std.specs.Prelude.{ℕ, Bool, true, false, List, [], ◌∷◌, Option, Some, None, ◌&&◌, length, take, drop, map, nat_eq, nat_le, if◌then◌else◌, codes}
-use Rattle.std.specs.Cmp.Lexicographic.{pointwise}
+use Rattle.std.specs.Prelude.{◌≡◌, ℕ, Bool, true, false, List, [], ◌∷◌, Option, Some, None, ◌&&◌, length, nat_eq, nat_le, if◌then◌else◌, codes}
 use Rattle.std.specs.List.{starts_with}
 use Rattle.std.specs.Option.{option_and_then, option_map}
-use Rattle.std.specs.Str.{is_utf8, bytes_eq}
+use Rattle.std.specs.Str.{is_utf8}
 use Rattle.name_meaning.specs.Identifiers.{is_identifier}
 use Rattle.output_meaning.specs.Pieces.{Piece, is_text, pieces_from, stand_alone}
 
@@ -49,6 +48,11 @@ declaration_of (name ∷ colon ∷ pieces) =
     then option_map (λ row. record { name = name; row = row }) (row_of pieces)
     else None
 
+-- Read: no piece is a dot.
+abbrev pub NoDot : List Piece → Type 0
+NoDot [] = Unit {0}
+NoDot (piece ∷ pieces) = (is_text (codes ".") piece ≡ false) × NoDot pieces
+
 -- Read: the piece goes to the front of the first of the lists.
 abbrev pub onto_sentence : Piece → Option (List (List Piece)) → Option (List (List Piece))
 onto_sentence piece None = None
@@ -75,16 +79,18 @@ body_of (sentence ∷ []) = if is_close sentence then Some [] else None
 body_of (sentence ∷ second ∷ sentences) =
     option_and_then (λ first. option_map (λ others. first ∷ others) (body_of (second ∷ sentences))) (declaration_of sentence)
 
--- Read: the first five pieces open a theory of this name.
-abbrev pub opens : List ℕ → List Piece → Bool
-opens name pieces =
-    pointwise bytes_eq (map (λ piece. piece.bytes) (take 5 pieces)) (codes "%" ∷ codes "sig" ∷ name ∷ codes "=" ∷ codes "{" ∷ [])
+-- Read: what follows `%sig N = {`, where the pieces begin so.
+abbrev pub behind_opening : List ℕ → List Piece → Option (List Piece)
+behind_opening name (percent ∷ sig ∷ own ∷ equal ∷ brace ∷ pieces) =
+    if is_text (codes "%") percent && is_text (codes "sig") sig && is_text name own && is_text (codes "=") equal && is_text (codes "{") brace
+    then Some pieces else None
+behind_opening name _ = None
 
--- Read: the declarations of the pieces of a theory of this name, behind its opening.
+-- Read: the declarations of the pieces of a theory of this name.
 abbrev pub theory_of : List ℕ → List Piece → Option (List Declaration)
 theory_of name pieces =
-    if stand_alone pieces && opens name pieces && is_identifier name
-    then option_and_then body_of (sentences_of (drop 5 pieces))
+    if stand_alone pieces && is_identifier name
+    then option_and_then (λ body. option_and_then body_of (sentences_of body)) (behind_opening name pieces)
     else None
 
 -- Read: the declarations of the text, where it is a theory of this name but for two declarations of one name.

@@ -1,5 +1,5 @@
 -- The pieces of a text: its longest runs of identifier bytes, and its special characters one by one (this profile).
-use Rattle.std.specs.Prelude.{ℕ, Bool, true, false, List, [], ◌∷◌, ◌+◌, ◌==◌, ◌&&◌, not, length, slice_index, if◌then◌else◌, codes}
+use Rattle.std.specs.Prelude.{ℕ, Bool, true, false, List, [], ◌∷◌, ◌+◌, ◌==◌, ◌&&◌, ◌||◌, not, length, slice_index, if◌then◌else◌, codes}
 use Rattle.std.specs.Str.{bytes_eq}
 use Rattle.name_meaning.specs.Characters.{is_white_space, is_special, is_identifier_byte}
 
@@ -44,10 +44,13 @@ abbrev pub joins : Piece → Piece → Piece → Bool
 joins first dot second =
     is_text (codes ".") dot && is_run_piece first && touches first dot && is_run_piece second && touches dot second
 
+-- Read: the piece makes one token with the pieces that follow it.
+abbrev pub is_joined : Piece → List Piece → Bool
+is_joined first [] = false
+is_joined first (second ∷ []) = assigns first second
+is_joined first (second ∷ third ∷ pieces) = assigns first second || joins first second third
+
 -- Read: no pieces in the list make one token together, the `%` in front of a word excepted.
 unfoldable pub stand_alone : List Piece → Bool
 stand_alone [] = true
-stand_alone (first ∷ []) = true
-stand_alone (first ∷ second ∷ []) = not (assigns first second)
-stand_alone (first ∷ second ∷ third ∷ pieces) =
-    not (assigns first second) && not (joins first second third) && stand_alone (second ∷ third ∷ pieces)
+stand_alone (first ∷ pieces) = not (is_joined first pieces) && stand_alone pieces

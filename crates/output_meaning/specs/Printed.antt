@@ -33,13 +33,20 @@ put_line name version = codes "@" ++ decimal version ++ codes " put " ++ name ++
 abbrev pub absent_line : List ℕ → ℕ → List ℕ
 absent_line name version = named_at name version ++ codes " absent" ++ end_of_line
 
--- Read: `N @V accepted theory K`, or `N @V refused L:C RULE LABEL` with line and column counted in the text from 1.
-unfoldable pub verdict_line : List ℕ → ℕ → List ℕ → Verdict → List ℕ
-verdict_line name version text (accepted size) =
-    named_at name version ++ codes " accepted theory " ++ decimal size ++ end_of_line
-verdict_line name version text (refused refusal) =
+-- Read: `N @V accepted theory K`.
+abbrev pub accepted_line : List ℕ → ℕ → ℕ → List ℕ
+accepted_line name version size = named_at name version ++ codes " accepted theory " ++ decimal size ++ end_of_line
+
+-- Read: `N @V refused L:C RULE LABEL`, with line and column counted in the text from 1.
+abbrev pub refused_line : List ℕ → ℕ → List ℕ → Refusal → List ℕ
+refused_line name version text refusal =
     named_at name version ++ codes " refused " ++ decimal (line_at text refusal.at) ++ codes ":"
     ++ decimal (column_at text refusal.at) ++ codes " " ++ rule_word refusal.rule ++ codes " " ++ refusal.label ++ end_of_line
+
+-- Read: the line of a verdict.
+abbrev pub verdict_line : List ℕ → ℕ → List ℕ → Verdict → List ℕ
+verdict_line name version text (accepted size) = accepted_line name version size
+verdict_line name version text (refused refusal) = refused_line name version text refusal
 
 -- Read: `line L: bad command`.
 abbrev pub bad_line : ℕ → List ℕ

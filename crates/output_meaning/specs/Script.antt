@@ -46,11 +46,15 @@ pub record Put : Type 0 where
   pub name : List ℕ
   pub text : List ℕ
 
+-- Read: the line of a report of this name, where this text was put.
+abbrev pub report_of : Put → List ℕ → List ℕ
+report_of theory name =
+    if bytes_eq theory.name name then verdict_line name 1 theory.text (verdict_of name theory.text) else absent_line name 1
+
 -- Read: the line of a report of this name.
 abbrev pub report_line : Option Put → List ℕ → List ℕ
 report_line None name = absent_line name 0
-report_line (Some theory) name =
-    if bytes_eq theory.name name then verdict_line name 1 theory.text (verdict_of name theory.text) else absent_line name 1
+report_line (Some theory) name = report_of theory name
 
 -- Read: what has been put after the command.
 abbrev pub put_after : Option Put → Command → Option Put

@@ -70,3 +70,15 @@ HasCause before now (Unended line) = Unit {0}
 HasCause before now Failed = Rose before now
 HasCause before now Spent = ⊥
 HasCause before now Memory = Unit {0}
+
+-- Read: the command is one of those that a script gives so far.
+abbrev pub IsGiven : Command → Type 0
+IsGiven (commands.Put name text) = Unit {0}
+IsGiven (commands.Drop name) = ⊥
+IsGiven (commands.Report name) = Unit {0}
+IsGiven commands.Check = ⊥
+IsGiven (commands.Flat name) = ⊥
+IsGiven (commands.Carry view text) = ⊥
+IsGiven commands.Log = ⊥
+IsGiven commands.Blank = Unit {0}
+IsGiven commands.End = Unit {0}

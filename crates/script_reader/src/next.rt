@@ -4,7 +4,7 @@ ghost use Rattle.mmt_outside.specs.Bytes.{preceded};
 ghost use Rattle.output_meaning.specs.Lines.{lines_of};
 ghost use Rattle.output_meaning.specs.Commands.{line_limit, put_of, next_of};
 ghost use Rattle.script_reader.specs.Pieces.{IsCaused};
-ghost use Rattle.script_reader.specs.Answers.{IsFirstLine, IsAnswer, IsShort, HasCause};
+ghost use Rattle.script_reader.specs.Answers.{IsFirstLine, IsAnswer, IsShort, IsGiven, HasCause};
 ghost use Rattle.script_reader.specs.Texts.{StaysTold};
 
 use crate::buffer::Buffer;
@@ -58,6 +58,7 @@ fn put<S: Source>(
         (λ bytes. IsAnswer result (put_of name (lines_of bytes)) (lines_of bytes) (preceded buffer.new (S.left source.new)) first line.old line.new) }
     ensures told { OnOk result (StaysTold (preceded buffer.old (S.left source.old)) (preceded buffer.new (S.left source.new))) }
     ensures within { IfOk result IsShort }
+    ensures given { IfOk result IsGiven }
     ensures later { S.faults source.old ≤ S.faults source.new }
     ensures cause { IfErr result (λ fault. HasCause (S.faults source.old) (S.faults source.new) fault) }
 {
@@ -83,6 +84,7 @@ pub(crate) fn next<S: Source>(
         (λ bytes. IsAnswer result (next_of may_put (lines_of bytes)) (lines_of bytes) (preceded buffer.new (S.left source.new)) line.old line.old line.new) }
     ensures told { OnOk result (StaysTold (preceded buffer.old (S.left source.old)) (preceded buffer.new (S.left source.new))) }
     ensures within { IfOk result IsShort }
+    ensures given { IfOk result IsGiven }
     ensures later { S.faults source.old ≤ S.faults source.new }
     ensures cause { IfErr result (λ fault. HasCause (S.faults source.old) (S.faults source.new) fault) }
 {

@@ -4,7 +4,7 @@ ghost use Rattle.output_meaning.specs.Lines.{lines_of};
 ghost use Rattle.output_meaning.specs.Commands.{next_of};
 ghost use Rattle.mmt_outside.specs.Faults.{Rose};
 ghost use Rattle.script_reader.specs.Reading.{to_come, may_put_next};
-ghost use Rattle.script_reader.specs.Answers.{IsAnswer, IsShort};
+ghost use Rattle.script_reader.specs.Answers.{IsAnswer, IsShort, IsGiven};
 ghost use Rattle.script_reader.specs.Texts.{StaysTold};
 
 use crate::buffer::Buffer;
@@ -68,6 +68,7 @@ impl Script {
 
         // Told or not.
         ensures short { IfOk result IsShort }
+        ensures given { IfOk result IsGiven }
         ensures later { S.faults source.old ≤ S.faults source.new }
         ensures failed { IsErrOf result ScriptFault.Failed → Rose (S.faults source.old) (S.faults source.new) }
     {

@@ -1,0 +1,15 @@
+pub mod Terms
+pub mod Raising
+pub mod Erasure
+pub mod Replacement
+pub mod Substitution
+pub mod Signatures
+pub mod Judgements
+pub mod Sorts
+pub mod Misfits
+pub mod Equality
+pub mod Faults
+pub mod Examples
+pub mod Application
+pub mod EqualityLaws
+pub mod SpineSynthesis

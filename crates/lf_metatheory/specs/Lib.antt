@@ -1,0 +1,2 @@
+pub mod TypingLaws
+pub mod FaultLaws

@@ -1,0 +1,13 @@
+pub mod Indices
+pub mod Raising
+pub mod Replacing
+pub mod Substituting
+pub mod Families
+pub mod Domains
+pub mod Sorting
+pub mod Misfitting
+pub mod Commuting
+pub mod Commutation
+pub mod SortedFamilies
+pub mod Constants
+pub mod Past

@@ -1,0 +1,4 @@
+pub mod RaisingLaws
+pub mod SortLaws
+pub mod CommutationLaws
+pub mod Uniform
