@@ -1,11 +1,12 @@
 -- Every state that a reader comes to can be completed.
 use Rattle.std.proofs.Common.{◌≡◌, ℕ, ◌+◌, ◌==◌, Bool, true, false, ◌⊎◌, inl, inr, List, [], ◌∷◌, None, if◌then◌else◌, refl, sym, ap, ◌∙◌, eq-eqb, true≢false}
 use Rattle.text_meaning.specs.Tokens.{Span, Sign, Kind, Mark, Ident, Token, sign, ident, SigWord, ViewWord, IncludeWord, StructWord, AssignSign, ColonSign, LeftParen, RightParen, LeftBracket, RightBracket, LeftBrace, RightBrace, DotSign, TypeWord, ArrowSign, BackSign, EqualSign, BlankSign, EndSign}
-use Rattle.text_meaning.specs.Trees.{Binder, Expr, TypeExpr, ArrowExpr, Exprs, NoArgs, Written, Assign, Decl}
+use Rattle.text_meaning.specs.Trees.{Binder, Expr, TypeExpr, ArrowExpr, NoArgs, Written, Assign, Decl}
 use Rattle.text_meaning.specs.Grammar.{join, applied}
 use Rattle.text_meaning.specs.Reading.{Target, ModuleText, JudgementText, Tree}
 use Rattle.text_meaning.specs.Parsing.{Simple, Atoms, NoAtoms, SomeAtoms, Row, Plain, AfterArrow, AfterBack, Brace, Curly, Square, Owner, InStruct, InView, Purpose, ClassOf, ValueOf, ValueFor, ObjectOf, FamilyOf, Waiting, Ends, InParens, InDomain, InBody, InCodomain, State, Refused, Whole, Expect, ExpectName, ExpectPath, MoreWords, AtModule, AtDecl, AfterDomain, AtAssign, AtOperand, AtVariable, AfterVariable, Binding, code, expect, add_atom, bound, typed, right_sign, last_span, last_tree, row_span, row_tree, at_expr, at_module, at_decl, after_domain, close_owner, at_assign, more_words, class_ends, purpose_ends, resume, operand_ends, arrow_move, back_move, at_operand, at_variable, after_variable, expect_name, expect_path, step, run, is_refused, takes_include, start}
-use Rattle.text_laws.proofs.Runs.{IsAfter, right_paren, right_bracket, right_brace, colon, equal, dot, end, IsWhole}
+use Rattle.text_laws.proofs.Runs.{IsAfter, right_paren, right_bracket, right_brace, colon, dot, end, IsWhole}
+use Rattle.text_laws.proofs.Spelled.{operand_whole}
 
 abbrev pub is_whole : State → Bool
 is_whole (Whole t) = true
@@ -233,16 +234,6 @@ purpose_completes (ValueFor o xs t) u s e w = sign_first u _ DotSign (w DotSign 
 purpose_completes ObjectOf u s e w =
     sign_first u (at_expr 1 (Ends (FamilyOf e))) ColonSign (w ColonSign here colon) (record { rest = sign here TypeWord ∷ sign here EndSign ∷ []; tree = _; whole = refl })
 purpose_completes (FamilyOf o) u s e w = record { rest = sign here EndSign ∷ []; tree = _; whole = w EndSign here end }
-
-operand_whole : (n : ℕ) (row : Row) (s : Span) (h : Expr) (xs : Exprs) (k : Waiting)
-    → IsWhole (AtOperand n row (SomeAtoms s h xs) k) k (row_span row s) (row_tree row s (applied s h xs))
-operand_whole n row s h xs k m z right_paren = refl
-operand_whole n row s h xs k m z right_bracket = refl
-operand_whole n row s h xs k m z right_brace = refl
-operand_whole n row s h xs k m z colon = refl
-operand_whole n row s h xs k m z equal = refl
-operand_whole n row s h xs k m z dot = refl
-operand_whole n row s h xs k m z end = refl
 
 -- whatever waits so can be completed, once an expression is whole
 abbrev Finishes : Waiting → Type 0

@@ -9,7 +9,7 @@ use Rattle.text_meaning.specs.Parsing.{Simple, Atoms, NoAtoms, SomeAtoms, Row, P
 use Rattle.text_laws.proofs.Runs.{Reads, nothing, first, then, right_paren, right_bracket, right_brace, colon, equal, dot, end, IsWhole, ReadsWhole, first_whole, then_whole, whole_then, whole_then_whole}
 
 -- an operand with atoms is whole
-operand_whole : (n : ℕ) (row : Row) (s : Span) (h : Expr) (xs : Exprs) (k : Waiting)
+pub operand_whole : (n : ℕ) (row : Row) (s : Span) (h : Expr) (xs : Exprs) (k : Waiting)
     → IsWhole (AtOperand n row (SomeAtoms s h xs) k) k (row_span row s) (row_tree row s (applied s h xs))
 operand_whole n row s h xs k m z right_paren = refl
 operand_whole n row s h xs k m z right_bracket = refl

@@ -1,5 +1,6 @@
 -- Where the tokens of a text stand, and which bytes they hold.
-use Rattle.std.specs.Prelude.{◌≡◌, ℕ, ◌-◌, ◌<◌, ◌≤◌, true, List, [], ◌∷◌, Some, take, drop, length}
+use Rattle.std.specs.Prelude.{◌≡◌, ℕ, ◌<◌, ◌≤◌, true, List, [], ◌∷◌, Some, length}
+use Rattle.std.specs.List.{slice_range}
 use Rattle.name_meaning.specs.Identifiers.{is_run}
 use Rattle.text_meaning.specs.Bytes.{quote, percent, dot, colon, equal}
 use Rattle.text_meaning.specs.Tokens.{Span, Kind, Mark, Sign, Token, Stray, AssignSign, ColonSign, DotSign, percent_sign, row_kind, spelled}
@@ -7,7 +8,7 @@ use Rattle.text_meaning.specs.Cut.{Tokens, IsLexed, bracket_sign, is_row}
 
 -- the bytes of a text at a span
 abbrev pub slice : List ℕ → Span → List ℕ
-slice text s = take (s.to - s.from) (drop s.from text)
+slice text s = slice_range text s.from s.to
 
 -- From a place on, the tokens stand in order, none empty and none over another, up to a place.
 abbrev pub InOrder : ℕ → List Token → ℕ → Type 0

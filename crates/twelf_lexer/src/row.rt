@@ -83,33 +83,21 @@ fn goes_on(text: &[u8], at: usize) -> bool
 fn is_reserved(run: &[u8]) -> bool
     ensures { result ≡ identifiers.is_reserved run.now }
 {
-    run == b"type".as_slice()
-        || run == b"->".as_slice()
-        || run == b"<-".as_slice()
-        || run == b"=".as_slice()
-        || run == b"_".as_slice()
+    matches!(run, b"type" | b"->" | b"<-" | b"=" | b"_")
 }
 
 /// The kind of a reserved word. None for every other run.
 fn reserved_kind(run: &[u8]) -> Option<TokenKind>
     ensures { MatchOption result (identifiers.is_reserved run.now ≡ false) (λ kind. IsReservedKind run.now kind) }
 {
-    if run == b"type".as_slice() {
-        return Some(TokenKind::TypeWord);
+    match run {
+        b"type" => Some(TokenKind::TypeWord),
+        b"->" => Some(TokenKind::Arrow),
+        b"<-" => Some(TokenKind::BackArrow),
+        b"=" => Some(TokenKind::Equal),
+        b"_" => Some(TokenKind::Blank),
+        _ => None,
     }
-    if run == b"->".as_slice() {
-        return Some(TokenKind::Arrow);
-    }
-    if run == b"<-".as_slice() {
-        return Some(TokenKind::BackArrow);
-    }
-    if run == b"=".as_slice() {
-        return Some(TokenKind::Equal);
-    }
-    if run == b"_".as_slice() {
-        return Some(TokenKind::Blank);
-    }
-    None
 }
 
 /// The path of a row without reserved words.
