@@ -5,6 +5,4 @@ pub mod OneCut
 pub mod CutExamples
 pub mod Spans
 pub mod Steps
-pub mod Divisions
-pub mod OneDivision
-pub mod DivisionExamples
+pub mod PrintedTokens

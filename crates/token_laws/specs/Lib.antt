@@ -2,5 +2,4 @@
 pub mod CutLaws
 pub mod CutExamples
 pub mod SpanLaws
-pub mod DivisionLaws
-pub mod DivisionExamples
+pub mod PrintedLaws

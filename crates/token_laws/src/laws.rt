@@ -2,8 +2,7 @@
 
 ghost use Rattle.token_laws.specs.CutExamples.{CutExamples};
 ghost use Rattle.token_laws.specs.CutLaws.{EachTextHasOneCut};
-ghost use Rattle.token_laws.specs.DivisionExamples.{DivisionExamples};
-ghost use Rattle.token_laws.specs.DivisionLaws.{EachFileHasOneDivision};
+ghost use Rattle.token_laws.specs.PrintedLaws.{PrintedTokensAreCut};
 ghost use Rattle.token_laws.specs.SpanLaws.{TokensStandWell};
 
 /// Each text has tokens or exactly one of the two faults, and `lex` gives it.
@@ -21,12 +20,7 @@ pub fn law_spans()
     ensures { TokensStandWell }
 {}
 
-/// Each file divides into modules in one way, or has one fault, and `divide` gives it.
-pub fn law_one_division()
-    ensures { EachFileHasOneDivision }
-{}
-
-/// Small files divide as the rules of files say.
-pub fn law_division_examples()
-    ensures { DivisionExamples }
+/// A text of tokens with white space behind each is cut into these tokens.
+pub fn law_printed_tokens()
+    ensures { PrintedTokensAreCut }
 {}

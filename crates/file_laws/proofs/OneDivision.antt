@@ -8,10 +8,10 @@ use Rattle.text_meaning.specs.Cutting.{lex}
 use Rattle.text_meaning.specs.Reading.{with_end}
 use Rattle.text_meaning.specs.Splitting.{Division, IsEnclosed, IsModuleWord, sig_word, view_word, IsOtherPercent, include_word, struct_word, other_word, IsSimple, one_name, Divides, no_more, other_percent, no_module, no_name, never_closed, no_dot, piece, IsDivision}
 use Rattle.text_meaning.specs.Dividing.{divide}
-use Rattle.token_laws.specs.DivisionLaws.{EachFileHasOneDivision}
+use Rattle.file_laws.specs.DivisionLaws.{EachFileHasOneDivision}
 use Rattle.token_laws.proofs.CutFollows.{of_sign_in}
 use Rattle.token_laws.proofs.OneCut.{one_cut}
-use Rattle.token_laws.proofs.Divisions.{BodyEnd, ends_body, never_body, body_end, divides_so}
+use Rattle.file_laws.proofs.Divisions.{BodyEnd, ends_body, never_body, body_end, divides_so}
 
 -- ---- no token of a text is the end of the input
 

@@ -4,7 +4,7 @@ use Rattle.std.specs.Str.{is_utf8, chars}
 use Rattle.std.proofs.Common.{refl}
 use Rattle.text_meaning.specs.Cutting.{cut_on, lex}
 use Rattle.text_meaning.specs.Dividing.{divide_on, divide}
-use Rattle.token_laws.specs.DivisionExamples.{DivisionExamples}
+use Rattle.file_laws.specs.DivisionExamples.{DivisionExamples}
 
 pub division_examples : DivisionExamples
 unfolding divide divide_on lex cut_on is_utf8 chars encode_utf8

@@ -1,5 +1,0 @@
-use Rattle.token_laws.proofs.DivisionExamples.{division_examples}
-use Rattle.token_laws.proofs.laws.law_division_examples.Goals as goal
-
-pub returns : goal.returns
-returns c = division_examples
