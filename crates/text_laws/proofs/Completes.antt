@@ -1,5 +1,5 @@
 -- Every state that a reader comes to can be completed.
-use Rattle.std.proofs.Common.{◌≡◌, ℕ, ◌+◌, ◌==◌, Bool, true, false, ◌⊎◌, inl, inr, List, [], ◌∷◌, None, if◌then◌else◌, refl, sym, ap, ◌∙◌, eq-eqb, true≢false}
+use Rattle.std.proofs.Common.{ne_eqb, ◌≢◌, ◌≡◌, ℕ, ◌+◌, ◌==◌, Bool, true, false, ◌⊎◌, inl, inr, List, [], ◌∷◌, None, if◌then◌else◌, refl, sym, ap, ◌∙◌, eq-eqb, true≢false}
 use Rattle.text_meaning.specs.Tokens.{Span, Sign, Kind, Mark, Ident, Token, sign, ident, SigWord, ViewWord, IncludeWord, StructWord, AssignSign, ColonSign, LeftParen, RightParen, LeftBracket, RightBracket, LeftBrace, RightBrace, DotSign, TypeWord, ArrowSign, BackSign, EqualSign, BlankSign, EndSign}
 use Rattle.text_meaning.specs.Trees.{Binder, Expr, TypeExpr, ArrowExpr, NoArgs, Written, Assign, Decl}
 use Rattle.text_meaning.specs.Grammar.{join, applied}
@@ -7,6 +7,7 @@ use Rattle.text_meaning.specs.Reading.{Target, ModuleText, JudgementText, Tree}
 use Rattle.text_meaning.specs.Parsing.{Simple, Atoms, NoAtoms, SomeAtoms, Row, Plain, AfterArrow, AfterBack, Brace, Curly, Square, Owner, InStruct, InView, Purpose, ClassOf, ValueOf, ValueFor, ObjectOf, FamilyOf, Waiting, Ends, InParens, InDomain, InBody, InCodomain, State, Refused, Whole, Expect, ExpectName, ExpectPath, MoreWords, AtModule, AtDecl, AfterDomain, AtAssign, AtOperand, AtVariable, AfterVariable, Binding, code, expect, add_atom, bound, typed, right_sign, last_span, last_tree, row_span, row_tree, at_expr, at_module, at_decl, after_domain, close_owner, at_assign, more_words, class_ends, purpose_ends, resume, operand_ends, arrow_move, back_move, at_operand, at_variable, after_variable, expect_name, expect_path, step, run, is_refused, takes_include, start}
 use Rattle.text_laws.proofs.Runs.{IsAfter, right_paren, right_bracket, right_brace, colon, dot, end, IsWhole}
 use Rattle.text_laws.proofs.Spelled.{operand_whole}
+use Rattle.text_laws.proofs.Sound.{code_injective}
 
 abbrev pub is_whole : State → Bool
 is_whole (Whole t) = true
@@ -278,11 +279,15 @@ operand_completes n row xs k = atoms_finish n row xs k (waiting_completes k)
 after_variable_completes : (b : Brace) (l : Span) (x : Binder) (n : ℕ) (row : Row) (xs : Atoms) (k : Waiting) → Completes (AfterVariable b l x n row xs k)
 after_variable_completes b l x n row xs k = sign_first _ _ ColonSign refl (operand_completes (n + 1) Plain NoAtoms (InDomain b l x n row xs k))
 
-expect_here : (m : Sign) (next : State) → expect m (Mark m) next ≡ next
+-- the sign that must come, and any other
+pub expect_here : (m : Sign) (next : State) → expect m (Mark m) next ≡ next
 expect_here m next = rw (same (code m)) refl
   where
     same : (n : ℕ) → (n == n) ≡ true
     same n = eq-eqb n n refl
+
+pub expect_refuses : (m k : Sign) (next : State) → m ≢ k → expect m (Mark k) next ≡ Refused
+expect_refuses m k next h = rw (ne_eqb (code m) (code k) (λ e. h (code_injective m k e))) refl
 
 pub completes : (u : State) → Alive u → Completes u
 unfolding Alive run

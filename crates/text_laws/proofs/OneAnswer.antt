@@ -36,19 +36,19 @@ levels-snoc u before t = levels-append u before (t ∷ [])
 
 -- ---- the machine's answer, step by step
 
-answer_refused : (u : State) (t : Token) (ts : List Token) → is_refused (step u t) ≡ true → answer_on u (t ∷ ts) ≡ fault u t
+pub answer_refused : (u : State) (t : Token) (ts : List Token) → is_refused (step u t) ≡ true → answer_on u (t ∷ ts) ≡ fault u t
 unfolding answer_on
 answer_refused u t ts h = rw (h, answer_on) refl
 
-answer_deep : (u : State) (t : Token) (ts : List Token) → is_refused (step u t) ≡ false → is_too_deep (level u t.kind) ≡ true → answer_on u (t ∷ ts) ≡ TooDeep t.span.from
+pub answer_deep : (u : State) (t : Token) (ts : List Token) → is_refused (step u t) ≡ false → is_too_deep (level u t.kind) ≡ true → answer_on u (t ∷ ts) ≡ TooDeep t.span.from
 unfolding answer_on
 answer_deep u t ts h k = rw (h, k, answer_on) refl
 
-answer_goes : (u : State) (t : Token) (ts : List Token) → is_refused (step u t) ≡ false → is_too_deep (level u t.kind) ≡ false → answer_on u (t ∷ ts) ≡ answer_on (step u t) ts
+pub answer_goes : (u : State) (t : Token) (ts : List Token) → is_refused (step u t) ≡ false → is_too_deep (level u t.kind) ≡ false → answer_on u (t ∷ ts) ≡ answer_on (step u t) ts
 unfolding answer_on
 answer_goes u t ts h k = rw (h, k, answer_on) refl
 
-answer_over : (u : State) (ts us : List Token) → is_refused (run u ts) ≡ false → any_too_deep (levels u ts) ≡ false → answer_on u (ts ++ us) ≡ answer_on (run u ts) us
+pub answer_over : (u : State) (ts us : List Token) → is_refused (run u ts) ≡ false → any_too_deep (levels u ts) ≡ false → answer_on u (ts ++ us) ≡ answer_on (run u ts) us
 unfolding run levels
 answer_over u [] us h k = refl
 answer_over u (t ∷ ts) us h k =
