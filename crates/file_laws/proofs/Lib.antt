@@ -1,0 +1,4 @@
+-- Lemmas about files.
+pub mod Divisions
+pub mod OneDivision
+pub mod DivisionExamples

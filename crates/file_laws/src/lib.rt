@@ -1,0 +1,4 @@
+//! Laws about the division of a file into modules.
+#![tactic(auto)]
+
+pub mod laws;

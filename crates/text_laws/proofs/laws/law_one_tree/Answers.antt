@@ -1,0 +1,5 @@
+use Rattle.text_laws.proofs.OneAnswer.{trees_are_determined}
+use Rattle.text_laws.proofs.laws.law_one_tree.Goals as goal
+
+pub returns : goal.returns
+returns c = trees_are_determined

@@ -1,0 +1,4 @@
+//! Laws about what tokens and texts spell.
+#![tactic(auto)]
+
+pub mod laws;

@@ -1,0 +1,8 @@
+-- Lemmas about the cut.
+pub mod CutFollows
+pub mod CutExists
+pub mod OneCut
+pub mod CutExamples
+pub mod Spans
+pub mod Steps
+pub mod PrintedTokens

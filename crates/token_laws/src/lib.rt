@@ -1,0 +1,4 @@
+//! Laws about the cut of a text into tokens.
+#![tactic(auto)]
+
+pub mod laws;

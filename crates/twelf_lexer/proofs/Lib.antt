@@ -1,0 +1,8 @@
+-- Lemmas of the lexer.
+pub mod Fronts
+pub mod Places
+pub mod RowSteps
+pub mod RowLoops
+pub mod CommentSteps
+pub mod StepLemmas
+pub mod LexLoop
