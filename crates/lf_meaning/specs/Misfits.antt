@@ -1,8 +1,8 @@
 -- Substitutions that meet no misfit: wherever a value that was put in place of a variable takes an
 -- argument, it is a λ at an arrow (Harper and Licata 2007, section 2: there a misfit has no
 -- result).
-use Rattle.std.specs.Prelude.{◌≡◌, ℕ, suc}
-use Rattle.lf_meaning.specs.Terms.{Constant, Object, Lam, At, Atomic, Var, Con, App, Family, Pi, AtFamily, AtomicFamily, FamilyCon, FamilyApp, Simple, Arrow}
+use Rattle.std.specs.Prelude.{◌≡◌, ℕ, suc, [], ◌∷◌, length}
+use Rattle.lf_meaning.specs.Terms.{Constant, Object, Lam, At, Atomic, Var, Con, App, Family, Pi, AtFamily, AtomicFamily, FamilyCon, FamilyApp, Context, Simple, Arrow}
 use Rattle.lf_meaning.specs.Replacement.{Kept, Replaced, replace_head}
 use Rattle.lf_meaning.specs.Substitution.{substitution, action, substitute}
 
@@ -28,3 +28,9 @@ NoMisfitInAtomicFamily v t n (FamilyApp p m) = NoMisfitInAtomicFamily v t n p ×
 abbrev pub NoMisfitInFamily : Object → Simple → ℕ → Family → Type 0
 NoMisfitInFamily v t n (Pi a b) = NoMisfitInFamily v t n a × NoMisfitInFamily v t (suc n) b
 NoMisfitInFamily v t n (AtFamily p) = NoMisfitInAtomicFamily v t n p
+
+-- The same for the families of a context that stands inside of the variable: behind each stand as many
+-- as come after it in the list.
+abbrev pub NoMisfitInContext : Object → Simple → Context → Type 0
+NoMisfitInContext v t [] = Unit {0}
+NoMisfitInContext v t (a ∷ context) = NoMisfitInFamily v t (length context) a × NoMisfitInContext v t context

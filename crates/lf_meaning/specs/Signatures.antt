@@ -9,7 +9,7 @@ pub data Class : Type 0 where
   FamilyClass : (family : Family) → Class
   KindClass : (kind : Kind) → Class
 
--- The value of a defined constant: the same as another constant, an object, or a family with so
+-- The value of a defined constant: the same as a constant, an object, or a family with so
 -- many binders.
 pub data Value : Type 0 where
   SameAs : (constant : Constant) → Value

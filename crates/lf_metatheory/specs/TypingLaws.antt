@@ -7,7 +7,7 @@ use Rattle.lf_meaning.specs.Substitution.{substitute, substitute_family, substit
 use Rattle.lf_meaning.specs.Signatures.{Class, FamilyClass, KindClass, Declaration, Signature, class_of}
 use Rattle.lf_meaning.specs.Judgements.{Checks, Synthesises, SynthesisesKind, IsFamily, IsKind, IsContext, IsTyping, IsClass, IsDeclaration, IsSignature}
 use Rattle.lf_meaning.specs.Sorts.{HasSort, IsSortedFamily, IsSortedKind, sorts_of}
-use Rattle.lf_meaning.specs.Misfits.{NoMisfit, NoMisfitInFamily}
+use Rattle.lf_meaning.specs.Misfits.{NoMisfit, NoMisfitInFamily, NoMisfitInContext}
 
 -- Over a well-typed signature let after, x : A, before be a well-formed context and let the value
 -- check against A in `before`. A typing judgement there is carried by the substitution for x to one
@@ -15,9 +15,9 @@ use Rattle.lf_meaning.specs.Misfits.{NoMisfit, NoMisfitInFamily}
 abbrev pub SubstitutionKeepsTyping : Type 0
 SubstitutionKeepsTyping = (sig : Signature) → IsSignature sig → (after before : Context) (v : Object) (a : Family) → Checks sig before v a → (m : Object) (b : Family) → IsTyping sig (after ++ (a ∷ before)) m b → IsTyping sig (substitute_context v (erase a) after ++ before) (substitute v (erase a) (length after) m) (substitute_family v (erase a) (length after) b)
 
--- No step of this substitution meets a misfit.
+-- No step of this substitution meets a misfit, in the object, in the family and in the context.
 abbrev pub TypedSubstitutionMeetsNoMisfit : Type 0
-TypedSubstitutionMeetsNoMisfit = (sig : Signature) → IsSignature sig → (after before : Context) (v : Object) (a : Family) → Checks sig before v a → (m : Object) (b : Family) → IsTyping sig (after ++ (a ∷ before)) m b → NoMisfit v (erase a) (length after) m × NoMisfitInFamily v (erase a) (length after) b
+TypedSubstitutionMeetsNoMisfit = (sig : Signature) → IsSignature sig → (after before : Context) (v : Object) (a : Family) → Checks sig before v a → (m : Object) (b : Family) → IsTyping sig (after ++ (a ∷ before)) m b → NoMisfit v (erase a) (length after) m × NoMisfitInFamily v (erase a) (length after) b × NoMisfitInContext v (erase a) after
 
 abbrev pub SubstitutionKeepsContexts : Type 0
 SubstitutionKeepsContexts = (sig : Signature) → IsSignature sig → (after before : Context) (v : Object) (a : Family) → Checks sig before v a → IsContext sig (after ++ (a ∷ before)) → IsContext sig (substitute_context v (erase a) after ++ before)

@@ -19,7 +19,8 @@ use Rattle.mmt_top.specs.declared.status.Status.TheVariants.{Done, Refused, Usag
 abbrev pub put_in : Option Theory → Option meant.Put
 put_in theory = option_map (λ t. record { name = t.name; text = t.text }) theory
 
--- Read: the command that the reader gave, as the definitions have it.
+-- Read: the command that the reader gave, as the definitions have it. The reader does not give the commands that stand
+-- for a blank line here, but for a blank line itself and the end, which has no line.
 abbrev pub command_in : Command → commands.Command
 command_in (spoken.Put name text) = commands.put name text
 command_in (spoken.Drop name) = commands.blank

@@ -102,8 +102,8 @@ first_fault above [] = None
 first_fault above (declaration ∷ declarations) =
     or_else (row_fault above declaration.name.bytes (names_in declaration.row)) (first_fault (declaration ∷ above) declarations)
 
--- Read: there is exactly one of these: what is accepted holds, and nothing is a fault; or this is the one fault, and what
--- is accepted does not hold.
+-- Read: there is exactly one of these: the declarations are accepted, and nothing is a fault; or this is the one fault,
+-- and the declarations are not accepted.
 abbrev pub HasOne : Type 0 → (Refusal → Type 0) → Option Refusal → Type 0
 HasOne Accepted IsFault None = Accepted × ((refusal : Refusal) → IsFault refusal → ⊥)
 HasOne Accepted IsFault (Some fault) =

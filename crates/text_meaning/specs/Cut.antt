@@ -1,4 +1,4 @@
--- How a text is cut into tokens: one row of the table for each case, each run the longest (this profile).
+-- How a text is cut into tokens: case by case, each run the longest (this profile).
 use Rattle.std.specs.Prelude.{◌≡◌, ℕ, suc, ◌+◌, Bool, true, false, not, ◌&&◌, ◌||◌, ◌==◌, List, [], ◌∷◌, ◌++◌, length, Option, Some, None, IsUtf8, if◌then◌else◌}
 use Rattle.std.specs.Str.Lossy.{utf8_valid_len}
 use Rattle.std.specs.List.{list_all}
@@ -38,7 +38,7 @@ abbrev pub ends_line : List ℕ → Bool
 ends_line [] = true
 ends_line (b ∷ bs) = b == line_feed
 
--- behind a `%` these bytes begin nothing that the table has
+-- behind a `%` these bytes begin none of the other cases
 abbrev pub begins_nothing : List ℕ → Bool
 begins_nothing [] = false
 begins_nothing (b ∷ bs) = not ((is_white_space b || b == percent) || ((b == left_brace || b == dot) || is_identifier_byte b))

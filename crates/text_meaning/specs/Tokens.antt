@@ -17,8 +17,8 @@ abbrev pub Path : Type 0
 Path = List Name
 
 -- the tokens that say no more than which they are:
--- the percent words %sig %view %include %struct and any other, what no token begins with, the punctuation,
--- the reserved words, and the end of the input, which stands behind the last token
+-- the percent words %sig %view %include %struct and any other, a byte that begins no token or a row of several runs
+-- with a reserved word among them, the punctuation, the reserved words, and the end of the input, which stands behind the last token
 pub data Sign : Type 0 where
   SigWord : Sign
   ViewWord : Sign
