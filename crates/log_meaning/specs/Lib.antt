@@ -1,0 +1,6 @@
+pub mod Names
+pub mod Log
+pub mod Append
+pub mod Walks
+pub mod Reach
+pub mod Subject
