@@ -1,0 +1,7 @@
+pub mod Members
+pub mod Order
+pub mod Libraries
+pub mod Limits
+pub mod Walking
+pub mod Reaching
+pub mod Agreement

@@ -4,3 +4,5 @@ pub mod Append
 pub mod Walks
 pub mod Reach
 pub mod Subject
+pub mod LogLaws
+pub mod WalkLaws
