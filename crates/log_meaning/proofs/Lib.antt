@@ -5,3 +5,4 @@ pub mod Limits
 pub mod Walking
 pub mod Reaching
 pub mod Agreement
+pub mod Places

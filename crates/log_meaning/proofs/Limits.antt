@@ -82,7 +82,7 @@ room_after log (Drop n) v h g = let q = length_filter (λ (own : Module). not (s
 total_last : (log : Log) (e : Edit) → total_size (log ++ e ∷ []) ≡ total_size log + size_of e
 total_last log e = fold_last (λ (total : ℕ) (x : Edit). total + size_of x) 0 log e
 
-made_within : (log : Log) (e : Edit) (v : ℕ) → append_answer log e ≡ Made v → IsWithinLimits log → IsWithinLimits (log ++ e ∷ [])
+pub made_within : (log : Log) (e : Edit) (v : ℕ) → append_answer log e ≡ Made v → IsWithinLimits log → IsWithinLimits (log ++ e ∷ [])
 made_within log e v h w =
     let p = made_not_full log e v h in
     let q = or_parts (nat_le edit_limit (version_of log)) (nat_lt total_limit (total_size log + size_of e)) p.0 in
@@ -103,3 +103,7 @@ kept_by log e TooMany h w = w
 pub limits_kept : (log : Log) (e : Edit) → IsWithinLimits log → IsWithinLimits (appended log e)
 unfolding appended
 limits_kept log e w = kept_by log e (append_answer log e) refl w
+
+pub empty_within : IsWithinLimits []
+unfolding library_of
+empty_within = record { edits = omega arith; modules = omega arith; total = omega arith }

@@ -1,0 +1,113 @@
+-- The laws in the words of their statements.
+use Rattle.std.proofs.Common.{◌≡◌, ◌≢◌, ℕ, suc, ◌<◌, Bool, true, false, not, List, [], ◌∷◌, ◌++◌, take, slice_get, find, Option, Some, None, option_map, option_to_list, ◌||◌, ◌&&◌, inl, inr, refl, sym, ap, ◌∙◌, subst, true≢false, eqb-true, append-nil, Decides}
+use Rattle.std.specs.List.{list_any, list_all}
+use Rattle.std.proofs.lemmas.Bool.{and_parts, not_from_false, false_from_ne_true}
+use Rattle.log_meaning.specs.Names.{Name, same_name, is_among}
+use Rattle.log_meaning.specs.Log.{Edit, edited_name, is_present}
+use Rattle.log_meaning.specs.Append.{Made, append_answer}
+use Rattle.log_meaning.specs.Walks.{Dependencies, is_ungrounded}
+use Rattle.log_meaning.specs.Reach.{reach}
+use Rattle.log_meaning.specs.Subject.{Subject, KeepsToReach}
+use Rattle.log_meaning.proofs.Members.{Member, any_none, all_of, find_none}
+use Rattle.log_meaning.proofs.Order.{among_member, member_among, same_sound}
+use Rattle.board_meaning.specs.Events.{EditMade, Install, Entry, History, edit_of, edit_in, log_of, library_after, version_after, stamp_after}
+use Rattle.board_meaning.specs.Claims.{claim_at, is_open, Input, inputs_of, input_names, is_unchanged, first_changed, is_claim_of}
+use Rattle.board_meaning.specs.Standing.{installed_claim, is_edited_after, is_unedited, stands, Stands}
+use Rattle.board_meaning.specs.Ready.{is_ready}
+use Rattle.board_meaning.specs.Machine.{IsInstalled, IsStale, installed_by, install_reply, IsVerdict, told_by, report_reply, is_by, may_call}
+use Rattle.board_meaning.specs.Legal.{MayFollow, IsLegal}
+use Rattle.board_laws.specs.HistoryLaws.{log_with}
+use Rattle.board_meaning.proofs.Histories.{log_last}
+use Rattle.board_meaning.proofs.Claiming.{names_are, stale_input, unedited_installed, installed_unedited}
+use Rattle.board_laws.proofs.Legality.{legal_edit, event_install, follows_event}
+use Rattle.board_laws.proofs.Standings.{answer_now, reach_now}
+use Rattle.board_laws.proofs.Resting.{standing_reach, ready_rests}
+use Rattle.board_laws.proofs.Following.{edit_leaves, install_makes}
+
+pub entries_determine : (H : History) (e : Entry) → log_of (H ++ e ∷ []) ≡ log_with (log_of H) (edit_in e)
+entries_determine H e = log_last H e ∙ with (edit_in e)
+  where
+    with : (o : Option Edit) → log_of H ++ option_to_list o ≡ log_with (log_of H) o
+    with None = append-nil (log_of H)
+    with (Some edit) = refl
+
+pub edits_were_made : (dependencies : Dependencies) (H : History) (place : ℕ) (e : Entry) (edit : Edit) → IsLegal dependencies H → slice_get H place ≡ Some e → edit_in e ≡ Some edit
+    → (append_answer (log_of (take place H)) edit ≡ Made (suc (version_after (take place H)))) × (e.pass ≡ 0)
+unfolding may_call
+edits_were_made dependencies H place e edit l s g = let q = legal_edit dependencies H l place e edit s g in (q.1, eqb-true e.pass 0 q.0)
+
+standing_unedited : (dependencies : Dependencies) (H : History) (n : Name) (s : Stands dependencies H n) → is_unedited dependencies H s.claim ≡ true
+unfolding is_unedited
+standing_unedited dependencies H n s =
+    not_from_false (list_any (is_edited_after H s.claim) (input_names (inputs_of dependencies H s.claim)))
+    (any_none (is_edited_after H s.claim) (input_names (inputs_of dependencies H s.claim)) (λ x m. s.unedited x (member_among (input_names (inputs_of dependencies H s.claim)) x m)))
+
+pub standing_answer : {Answer : Type 0} (subject : Subject Answer) → KeepsToReach subject → (H : History) (n : Name) → IsLegal subject.dependencies H → (s : Stands subject.dependencies H n)
+    → subject.answer (library_after (take s.claim H)) n ≡ subject.answer (library_after H) n
+standing_answer subject k H n l s =
+    answer_now subject.dependencies H l subject.answer k s.claim n s.claimed (standing_unedited subject.dependencies H n s)
+
+pub inputs_are_reach : (dependencies : Dependencies) (H : History) (n : Name) → IsLegal dependencies H → (s : Stands dependencies H n)
+    → input_names (inputs_of dependencies H s.claim) ≡ reach dependencies (library_after H) n
+inputs_are_reach dependencies H n l s =
+    names_are dependencies H s.claim n s.claimed ∙ sym (reach_now dependencies H l s.claim n s.claimed (standing_unedited dependencies H n s))
+
+pub standing_rests_told : (dependencies : Dependencies) (H : History) (n x : Name) → IsLegal dependencies H → stands dependencies H n ≡ true → is_among (reach dependencies (library_after H) n) x ≡ true
+    → is_present (library_after H) x ≡ true → stands dependencies H x ≡ true
+standing_rests_told dependencies H n x l t a p = standing_reach dependencies H l n x t (among_member (reach dependencies (library_after H) n) x a) p
+
+pub ready_rests_told : (dependencies : Dependencies) (H : History) (n x : Name) → IsLegal dependencies H → is_ready dependencies H n ≡ true → is_among (reach dependencies (library_after H) n) x ≡ true
+    → x ≢ n → is_present (library_after H) x ≡ true → stands dependencies H x ≡ true
+ready_rests_told dependencies H n x l r a d p =
+    ready_rests dependencies H l n x r (among_member (reach dependencies (library_after H) n) x a)
+    (false_from_ne_true (same_name n x) (λ e. d (sym (same_sound n x e)))) p
+
+pub edit_leaves_told : (dependencies : Dependencies) (H : History) (e : Entry) (edit : Edit) (n : Name) → IsLegal dependencies H → e.event ≡ EditMade edit
+    → stands dependencies (H ++ e ∷ []) n ≡ (stands dependencies H n && not (is_among (reach dependencies (library_after H) n) (edited_name edit)))
+edit_leaves_told dependencies H e edit n l h = edit_leaves dependencies H l e n edit (ap edit_of h) (ap installed_claim h)
+
+pub install_makes_told : (dependencies : Dependencies) (H : History) (e : Entry) (c : ℕ) (n : Name) → IsLegal dependencies H → MayFollow dependencies H e → e.event ≡ Install c
+    → stands dependencies (H ++ e ∷ []) n ≡ (stands dependencies H n || is_claim_of H n c)
+unfolding may_call
+install_makes_told dependencies H e c n l f h =
+    let q = event_install dependencies H f.call e.event c (follows_event dependencies H e f) (ap installed_claim h) in
+    install_makes dependencies H l e n c (ap edit_of h) (ap installed_claim h)
+    (and_parts (is_open H c) (is_by e.pass (slice_get H c)) (subst (λ z. may_call H e.pass z ≡ true) q.0 f.may)).0 q.1
+
+member_place : {A : Type 0} (xs : List A) (x : A) → Member x xs → (i : ℕ) × (slice_get xs i ≡ Some x)
+member_place [] x m = absurd m
+member_place (y ∷ xs) x (inl e) = (0, ap Some (sym e))
+member_place (y ∷ xs) x (inr m) = let q = member_place xs x m in (suc q.0, q.1)
+
+pub stale_tells : (dependencies : Dependencies) (H : History) (c : ℕ) (m n : Name) (newer : ℕ) → claim_at H c ≡ Some m → install_reply dependencies H c ≡ IsStale n newer
+    → (newer ≡ stamp_after H n) × (i : ℕ) × (input : Input) × (slice_get (inputs_of dependencies H c) i ≡ Some input) × (input.name ≡ n) × (input.stamp < newer)
+stale_tells dependencies H c m n newer h r =
+    let q = stale_input dependencies H c m h n newer r in
+    let p = member_place (inputs_of dependencies H c) q.1 q.2 in
+    (q.0, p.0, q.1, p.1, q.3, q.4)
+
+pub installed_decides : (dependencies : Dependencies) (H : History) (c : ℕ) (m : Name) → claim_at H c ≡ Some m → Decides (is_unedited dependencies H c) (install_reply dependencies H c ≡ IsInstalled)
+installed_decides dependencies H c m h = (unedited_installed dependencies H c m h, installed_unedited dependencies H c m h)
+
+pub installed_unchanged : (dependencies : Dependencies) (H : History) (c : ℕ) → install_reply dependencies H c ≡ IsInstalled → list_all (is_unchanged H) (inputs_of dependencies H c) ≡ true
+unfolding install_reply first_changed
+installed_unchanged dependencies H c r =
+    all_of (is_unchanged H) (inputs_of dependencies H c)
+    (λ x m. not_false (is_unchanged H x) (find_none (λ (input : Input). not (is_unchanged H input)) (inputs_of dependencies H c) (none (find (λ (input : Input). not (is_unchanged H input)) (inputs_of dependencies H c)) r) x m))
+  where
+    none : (o : Option Input) → installed_by (option_map (λ (input : Input). record { name = input.name; stamp = stamp_after H input.name }) o) ≡ IsInstalled → o ≡ None
+    none None e = refl
+    none (Some x) e = absurd (cc)
+
+    not_false : (b : Bool) → not b ≡ false → b ≡ true
+    not_false true e = refl
+    not_false false e = absurd (true≢false e)
+
+pub report_tells : {Answer : Type 0} (subject : Subject Answer) (H : History) (n : Name) (answer : Answer) (version : ℕ) → report_reply subject H n ≡ IsVerdict answer version → subject.answer (library_after H) n ≡ Some answer
+unfolding report_reply
+report_tells {Answer = Answer} subject H n answer version r = by (is_ungrounded subject.dependencies (library_after H) n || stands subject.dependencies H n) (subject.answer (library_after H) n) r
+  where
+    by : (known : Bool) (o : Option Answer) → told_by (version_after H) known o ≡ IsVerdict answer version → o ≡ Some answer
+    by known None e = absurd (cc)
+    by true (Some a) e = let q : a ≡ answer = cc in ap Some q
+    by false (Some a) e = absurd (cc)
