@@ -4,8 +4,8 @@ use Rattle.std.specs.Cmp.{both_ways}
 use Rattle.std.proofs.lemmas.Bool.{or_cases, or_parts, or_from, or_left, or_right, and_parts, and_from, not_from_false, false_from_ne_true}
 use Rattle.log_meaning.specs.Names.{Name, same_name, is_among}
 use Rattle.log_meaning.specs.Log.{Edit, edited_name}
-use Rattle.log_meaning.specs.Walks.{Dependencies}
-use Rattle.log_meaning.specs.Reach.{reach}
+use Rattle.walk_meaning.specs.Walks.{Dependencies}
+use Rattle.walk_meaning.specs.Reach.{reach}
 use Rattle.log_meaning.proofs.Members.{Member, in_append, append_left, append_right}
 use Rattle.log_meaning.proofs.Order.{among_member, member_among, same_sound, same_itself}
 use Rattle.board_meaning.specs.Events.{Entry, History, edit_in, library_after}

@@ -5,7 +5,7 @@ use Rattle.log_meaning.specs.Names.{Name}
 use Rattle.log_meaning.specs.Log.{Edit, names_of}
 use Rattle.log_meaning.specs.Append.{Edited, Made, Same, Absent, Full, TooLong, TooMany, append_answer}
 use Rattle.log_meaning.specs.LogLaws.{IsWithinLimits}
-use Rattle.log_meaning.specs.Walks.{Dependencies}
+use Rattle.walk_meaning.specs.Walks.{Dependencies}
 use Rattle.log_meaning.proofs.Members.{find_found}
 use Rattle.log_meaning.proofs.Limits.{made_not_full, made_within, empty_within}
 use Rattle.board_meaning.specs.Events.{Event, EditMade, Claim, Release, Close, Entry, History, edit_of, edit_in, log_of, library_after, version_after, version_with, entry_of}

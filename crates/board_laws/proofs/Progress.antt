@@ -4,10 +4,10 @@ use Rattle.std.specs.List.{list_any, list_all}
 use Rattle.std.proofs.lemmas.Bool.{cases_Bool, or_parts, and_parts}
 use Rattle.log_meaning.specs.Names.{Name}
 use Rattle.log_meaning.specs.Log.{names_of, is_present}
-use Rattle.log_meaning.specs.Walks.{Dependencies, direct, walking, is_ungrounded, is_grounded}
+use Rattle.walk_meaning.specs.Walks.{Dependencies, direct, walking, is_ungrounded, is_grounded}
 use Rattle.log_meaning.proofs.Members.{Member, all_not, find_some}
 use Rattle.log_meaning.proofs.Order.{member_among}
-use Rattle.log_meaning.proofs.Walking.{present_in, walking_step, in_ungrounded, grounded_dependency}
+use Rattle.walk_meaning.proofs.Walking.{present_in, walking_step, in_ungrounded, grounded_dependency}
 use Rattle.board_meaning.specs.Events.{History, library_after}
 use Rattle.board_meaning.specs.Claims.{open_claims, has_current_claim, is_claim_of, is_unchanged, inputs_of}
 use Rattle.board_meaning.specs.Standing.{stands}

@@ -3,13 +3,13 @@ use Rattle.std.proofs.Common.{◌≡◌, ℕ, suc, ◌<◌, Bool, true, false, n
 use Rattle.std.proofs.lemmas.Bool.{cases_Bool, or_cases, or_from, or_left, or_right}
 use Rattle.log_meaning.specs.Names.{Name, same_name}
 use Rattle.log_meaning.specs.Log.{text_of, is_present}
-use Rattle.log_meaning.specs.Walks.{Dependencies, direct}
-use Rattle.log_meaning.specs.Reach.{reach}
+use Rattle.walk_meaning.specs.Walks.{Dependencies, direct}
+use Rattle.walk_meaning.specs.Reach.{reach}
 use Rattle.log_meaning.proofs.Members.{Member, append_left, in_filter, filter_in}
 use Rattle.log_meaning.proofs.Order.{same_sound, same_itself}
-use Rattle.log_meaning.proofs.Walking.{depends_present}
-use Rattle.log_meaning.proofs.Reaching.{reach_closed, reach_first, reach_least}
-use Rattle.log_meaning.proofs.Agreement.{direct_same}
+use Rattle.walk_meaning.proofs.Walking.{depends_present}
+use Rattle.walk_meaning.proofs.Reaching.{reach_closed, reach_first, reach_least}
+use Rattle.walk_meaning.proofs.Agreement.{direct_same}
 use Rattle.board_meaning.specs.Events.{Entry, History, library_after}
 use Rattle.board_meaning.specs.Claims.{claimed_name, claim_at}
 use Rattle.board_meaning.specs.Standing.{installed_claim, installed_claims, is_edited, is_edited_after, is_unedited, stands}

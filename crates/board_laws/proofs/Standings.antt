@@ -4,13 +4,13 @@ use Rattle.std.specs.List.{list_any, cons_option}
 use Rattle.std.proofs.lemmas.Bool.{and_parts, and_from, not_from_false}
 use Rattle.log_meaning.specs.Names.{Name}
 use Rattle.log_meaning.specs.Log.{Library, is_present}
-use Rattle.log_meaning.specs.Walks.{Dependencies, direct, is_grounded}
-use Rattle.log_meaning.specs.Reach.{reach}
-use Rattle.log_meaning.specs.Subject.{KeepsToReach}
+use Rattle.walk_meaning.specs.Walks.{Dependencies, direct, is_grounded}
+use Rattle.walk_meaning.specs.Reach.{reach}
+use Rattle.walk_meaning.specs.Subject.{KeepsToReach}
 use Rattle.log_meaning.proofs.Members.{Member, any_found, any_of, any_not, any_none, all_at}
 use Rattle.log_meaning.proofs.Order.{among_member, member_among}
 use Rattle.log_meaning.proofs.Libraries.{library_ascending}
-use Rattle.log_meaning.proofs.Agreement.{reach_same, grounded_same}
+use Rattle.walk_meaning.proofs.Agreement.{reach_same, grounded_same}
 use Rattle.board_meaning.specs.Events.{Event, EditMade, Claim, Install, Stale, Release, Close, Entry, History, log_of, library_after}
 use Rattle.board_meaning.specs.Claims.{claim_at, is_open, is_ended, inputs_of, input_names, is_claim_of, has_current_claim}
 use Rattle.board_meaning.specs.Standing.{installed_claim, installed_claims, is_edited_after, is_unedited, supports, stands, Stands}

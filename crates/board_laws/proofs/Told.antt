@@ -1,26 +1,27 @@
 -- The laws in the words of their statements.
-use Rattle.std.proofs.Common.{◌≡◌, ◌≢◌, ℕ, suc, ◌<◌, Bool, true, false, not, List, [], ◌∷◌, ◌++◌, take, slice_get, find, Option, Some, None, option_map, option_to_list, ◌||◌, ◌&&◌, inl, inr, refl, sym, ap, ◌∙◌, subst, true≢false, eqb-true, append-nil, Decides}
+use Rattle.std.proofs.Common.{◌≡◌, ◌≢◌, ℕ, suc, ◌<◌, Bool, true, false, not, List, [], ◌∷◌, ◌++◌, take, slice_get, find, Option, Some, None, option_map, option_and_then, option_to_list, length, is_some, ◌||◌, ◌&&◌, inl, inr, refl, sym, ap, ◌∙◌, subst, true≢false, eqb-true, append-nil, Decides}
 use Rattle.std.specs.List.{list_any, list_all}
 use Rattle.std.proofs.lemmas.Bool.{and_parts, not_from_false, false_from_ne_true}
-use Rattle.log_meaning.specs.Names.{Name, same_name, is_among}
-use Rattle.log_meaning.specs.Log.{Edit, edited_name, is_present}
+use Rattle.log_meaning.specs.Names.{Text, Name, same_name, is_among}
+use Rattle.log_meaning.specs.Log.{Edit, edited_name, is_present, text_of}
 use Rattle.log_meaning.specs.Append.{Made, append_answer}
-use Rattle.log_meaning.specs.Walks.{Dependencies, is_ungrounded}
-use Rattle.log_meaning.specs.Reach.{reach}
-use Rattle.log_meaning.specs.Subject.{Subject, KeepsToReach}
+use Rattle.walk_meaning.specs.Walks.{Dependencies, is_ungrounded}
+use Rattle.walk_meaning.specs.Reach.{reach}
+use Rattle.walk_meaning.specs.Subject.{Subject, KeepsToReach, AnswersPresent}
 use Rattle.log_meaning.proofs.Members.{Member, any_none, all_of, find_none}
 use Rattle.log_meaning.proofs.Order.{among_member, member_among, same_sound}
 use Rattle.board_meaning.specs.Events.{EditMade, Install, Entry, History, edit_of, edit_in, log_of, library_after, version_after, stamp_after}
-use Rattle.board_meaning.specs.Claims.{claim_at, is_open, Input, inputs_of, input_names, is_unchanged, first_changed, is_claim_of}
+use Rattle.board_meaning.specs.Claims.{claim_at, is_open, Input, inputs_of, input_names, is_unchanged, first_changed, is_claim_of, inputs_after}
 use Rattle.board_meaning.specs.Standing.{installed_claim, is_edited_after, is_unedited, stands, Stands}
-use Rattle.board_meaning.specs.Ready.{is_ready}
-use Rattle.board_meaning.specs.Machine.{IsInstalled, IsStale, installed_by, install_reply, IsVerdict, told_by, report_reply, is_by, may_call}
+use Rattle.board_meaning.specs.Ready.{is_ready, least_ready}
+use Rattle.board_meaning.specs.Machine.{Job, IsInstalled, IsStale, installed_by, install_reply, IsVerdict, told_by, report_reply, is_by, may_call, answers_of, job_after, claim_reply, IsAbsent, IsPending}
 use Rattle.board_meaning.specs.Legal.{MayFollow, IsLegal}
 use Rattle.board_laws.specs.HistoryLaws.{log_with}
 use Rattle.board_meaning.proofs.Histories.{log_last}
 use Rattle.board_meaning.proofs.Claiming.{names_are, stale_input, unedited_installed, installed_unedited}
-use Rattle.board_laws.proofs.Legality.{legal_edit, event_install, follows_event}
-use Rattle.board_laws.proofs.Standings.{answer_now, reach_now}
+use Rattle.board_laws.proofs.Legality.{legal_edit, event_install, follows_event, least_is_ready}
+use Rattle.board_laws.proofs.Standings.{answer_now, reach_now, ready_parts}
+use Rattle.log_meaning.proofs.Libraries.{library_ascending}
 use Rattle.board_laws.proofs.Resting.{standing_reach, ready_rests}
 use Rattle.board_laws.proofs.Following.{edit_leaves, install_makes}
 
@@ -111,3 +112,37 @@ report_tells {Answer = Answer} subject H n answer version r = by (is_ungrounded 
     by known None e = absurd (cc)
     by true (Some a) e = let q : a ≡ answer = cc in ap Some q
     by false (Some a) e = absurd (cc)
+
+-- ---- replies to claims and reports
+
+job_of_present : {Answer : Type 0} (subject : Subject Answer) (H : History) (n : Name) → is_present (library_after H) n ≡ true → is_some (job_after subject H n) ≡ true
+unfolding job_after
+job_of_present {Answer = Answer} subject H n p = by (text_of (library_after H) n) p
+  where
+    by : (o : Option Text) → is_some o ≡ true → is_some {T = Job Answer} (option_map (λ (text : Text). record { claim = length H; name = n; text = text; inputs = inputs_after subject.dependencies H n; answers = answers_of subject (library_after H) n }) o) ≡ true
+    by None e = e
+    by (Some t) e = refl
+
+pub claim_gives_job : {Answer : Type 0} (subject : Subject Answer) (H : History) → is_some (claim_reply subject H) ≡ is_some (least_ready subject.dependencies H)
+claim_gives_job {Answer = Answer} subject H = by (least_ready subject.dependencies H) refl
+  where
+    by : (o : Option Name) → least_ready subject.dependencies H ≡ o → is_some (option_and_then (job_after subject H) o) ≡ is_some o
+    by None e = refl
+    by (Some n) e =
+        job_of_present subject H n
+        (and_parts (is_present (library_after H) n) (not (is_ungrounded subject.dependencies (library_after H) n)) (ready_parts subject.dependencies H n (least_is_ready subject.dependencies H n e)).grounded).0
+
+pub report_tells_others : {Answer : Type 0} (subject : Subject Answer) (H : History) (n : Name) → AnswersPresent subject
+    → Decides (not (is_present (library_after H) n)) (report_reply subject H n ≡ IsAbsent (version_after H))
+    × Decides (is_present (library_after H) n && not (is_ungrounded subject.dependencies (library_after H) n || stands subject.dependencies H n)) (report_reply subject H n ≡ IsPending (version_after H))
+unfolding report_reply
+report_tells_others {Answer = Answer} subject H n a =
+    by (is_ungrounded subject.dependencies (library_after H) n || stands subject.dependencies H n) (subject.answer (library_after H) n) (is_present (library_after H) n) (a (library_after H) n (library_ascending (log_of H)))
+  where
+    by : (known : Bool) (o : Option Answer) (present : Bool) → is_some o ≡ present
+        → Decides (not present) (told_by (version_after H) known o ≡ IsAbsent (version_after H)) × Decides (present && not known) (told_by (version_after H) known o ≡ IsPending (version_after H))
+    by known None true e = absurd (true≢false (sym e))
+    by known None false e = ((λ h. refl, λ h. refl), (λ h. absurd (true≢false (sym h)), λ h. absurd (cc)))
+    by true (Some x) true e = ((λ h. absurd (true≢false (sym h)), λ h. absurd (cc)), (λ h. absurd (true≢false (sym h)), λ h. absurd (cc)))
+    by false (Some x) true e = ((λ h. absurd (true≢false (sym h)), λ h. absurd (cc)), (λ h. refl, λ h. refl))
+    by known (Some x) false e = absurd (true≢false e)

@@ -3,7 +3,7 @@ use Rattle.std.specs.Prelude.{◌≡◌, ℕ, suc, true, List, [], ◌∷◌, �
 use Rattle.log_meaning.specs.Log.{Edit, Log}
 use Rattle.log_meaning.specs.Append.{Made, append_answer}
 use Rattle.log_meaning.specs.LogLaws.{IsWithinLimits}
-use Rattle.log_meaning.specs.Walks.{Dependencies}
+use Rattle.walk_meaning.specs.Walks.{Dependencies}
 use Rattle.board_meaning.specs.Events.{Entry, History, edit_in, log_of, version_after}
 use Rattle.board_meaning.specs.Machine.{Call, may_call, after_call}
 use Rattle.board_meaning.specs.Legal.{IsLegal, PassCall, after_calls, may_make_all}

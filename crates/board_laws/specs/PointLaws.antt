@@ -1,11 +1,11 @@
 -- Laws of the points of calls (this profile).
 use Rattle.std.specs.Prelude.{◌≡◌, ℕ, true, Some}
 use Rattle.log_meaning.specs.Names.{Name}
-use Rattle.log_meaning.specs.Walks.{Dependencies}
-use Rattle.log_meaning.specs.Subject.{Subject}
+use Rattle.walk_meaning.specs.Walks.{Dependencies}
+use Rattle.walk_meaning.specs.Subject.{Subject}
 use Rattle.board_meaning.specs.Events.{History}
 use Rattle.board_meaning.specs.Claims.{claim_at}
-use Rattle.board_meaning.specs.Machine.{job_of, InstallCall, may_call}
+use Rattle.board_meaning.specs.Machine.{Job, job_of, claim_reply, ClaimCall, InstallCall, may_call, after_call}
 use Rattle.board_meaning.specs.Legal.{IsLegal}
 use Rattle.board_meaning.specs.Points.{IsPoint}
 
@@ -25,3 +25,11 @@ abbrev pub PointKeepsJob : Type 0 → Type 0
 PointKeepsJob Answer =
     (subject : Subject Answer) (seen : History) (pass : ℕ) (point : History) (claim : ℕ) (name : Name) → IsPoint subject.dependencies seen pass point
     → claim_at seen claim ≡ Some name → job_of subject point claim ≡ job_of subject seen claim
+
+-- Read: the pass that was handed a job by a claim may end that claim, and the job is that of the claim.
+abbrev pub JobsMayBeEnded : Type 0 → Type 0
+JobsMayBeEnded Answer =
+    (subject : Subject Answer) (history : History) (pass : ℕ) (job : Job Answer) → IsLegal subject.dependencies history
+    → claim_reply subject history ≡ Some job
+    → (job_of subject (after_call subject.dependencies history pass ClaimCall) job.claim ≡ Some job)
+    × (may_call (after_call subject.dependencies history pass ClaimCall) pass (InstallCall job.claim) ≡ true)

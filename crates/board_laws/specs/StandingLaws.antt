@@ -3,14 +3,14 @@ use Rattle.std.specs.Prelude.{◌≡◌, ◌≢◌, ℕ, ◌<◌, true, false, [
 use Rattle.std.specs.List.{list_all}
 use Rattle.log_meaning.specs.Names.{Name, is_among}
 use Rattle.log_meaning.specs.Log.{Edit, edited_name, is_present}
-use Rattle.log_meaning.specs.Walks.{Dependencies, is_grounded}
-use Rattle.log_meaning.specs.Reach.{reach}
-use Rattle.log_meaning.specs.Subject.{Subject, KeepsToReach}
-use Rattle.board_meaning.specs.Events.{EditMade, Install, Entry, History, edit_in, library_after, stamp_after}
+use Rattle.walk_meaning.specs.Walks.{Dependencies, is_ungrounded, is_grounded}
+use Rattle.walk_meaning.specs.Reach.{reach}
+use Rattle.walk_meaning.specs.Subject.{Subject, AnswersPresent, KeepsToReach}
+use Rattle.board_meaning.specs.Events.{EditMade, Install, Entry, History, edit_in, library_after, version_after, stamp_after}
 use Rattle.board_meaning.specs.Claims.{claim_at, open_claims, Input, inputs_of, input_names, is_unchanged, is_claim_of}
 use Rattle.board_meaning.specs.Standing.{installed_claim, is_unedited, stands, Stands}
 use Rattle.board_meaning.specs.Ready.{is_closed, is_ready, least_ready}
-use Rattle.board_meaning.specs.Machine.{IsInstalled, IsStale, install_reply, IsVerdict, report_reply}
+use Rattle.board_meaning.specs.Machine.{IsInstalled, IsStale, install_reply, claim_reply, IsVerdict, IsPending, IsAbsent, report_reply}
 use Rattle.board_meaning.specs.Legal.{MayFollow, IsLegal}
 
 -- Read: the test of standing verdicts decides what it means.
@@ -108,3 +108,15 @@ abbrev pub ReportTellsAnswer : Type 0 → Type 0
 ReportTellsAnswer Answer =
     (subject : Subject Answer) (history : History) (name : Name) (answer : Answer) (version : ℕ)
     → report_reply subject history name ≡ IsVerdict answer version → subject.answer (library_after history) name ≡ Some answer
+
+-- Read: a claim gives a job exactly where some name is ready.
+abbrev pub ClaimGivesJob : Type 0 → Type 0
+ClaimGivesJob Answer =
+    (subject : Subject Answer) (history : History) → is_some (claim_reply subject history) ≡ is_some (least_ready subject.dependencies history)
+
+-- Read: a report tells that a name is absent, or that its verdict is to come, exactly where it is so.
+abbrev pub ReportTellsOthers : Type 0 → Type 0
+ReportTellsOthers Answer =
+    (subject : Subject Answer) (history : History) (name : Name) → AnswersPresent subject
+    → Decides (not (is_present (library_after history) name)) (report_reply subject history name ≡ IsAbsent (version_after history))
+    × Decides (is_present (library_after history) name && not (is_ungrounded subject.dependencies (library_after history) name || stands subject.dependencies history name)) (report_reply subject history name ≡ IsPending (version_after history))

@@ -1,6 +1,6 @@
 //! The points of calls through passes.
 
-ghost use Rattle.board_laws.specs.PointLaws.{SeenIsPoint, OthersEndNoClaim, PointKeepsJob};
+ghost use Rattle.board_laws.specs.PointLaws.{SeenIsPoint, OthersEndNoClaim, PointKeepsJob, JobsMayBeEnded};
 
 /// What a pass has seen of its claims holds at the point of its call.
 pub fn law_points()
@@ -8,7 +8,8 @@ pub fn law_points()
     ensures claims { OthersEndNoClaim }
 {}
 
-/// The job of a claim that a pass has seen is the same at the point.
+/// The job of a claim that a pass has seen is the same at the point, and the pass that was handed a job may end its claim.
 pub fn law_jobs<A>()
-    ensures { PointKeepsJob A }
+    ensures kept { PointKeepsJob A }
+    ensures may_end { JobsMayBeEnded A }
 {}

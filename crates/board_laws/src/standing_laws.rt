@@ -1,11 +1,14 @@
 //! Standing verdicts, ready names and installs.
 
-ghost use Rattle.board_laws.specs.StandingLaws.{StandingIsDecided, StandingIsPresentAnswer, InputsArePresentReach, StandingIsGrounded, StandingRestsOnStanding, ReadyRestsOnStanding, EditLeavesStanding, InstallMakesStanding, OthersLeaveStanding, SomeNameIsReady, ClaimsAreOfReady, StaleTellsPresentStamp, InstalledIsUnedited, InstalledIsUnchanged, ReportTellsAnswer};
+ghost use Rattle.board_laws.specs.StandingLaws.{StandingIsDecided, StandingIsPresentAnswer, InputsArePresentReach, StandingIsGrounded, StandingRestsOnStanding, ReadyRestsOnStanding, EditLeavesStanding, InstallMakesStanding, OthersLeaveStanding, SomeNameIsReady, ClaimsAreOfReady, StaleTellsPresentStamp, InstalledIsUnedited, InstalledIsUnchanged, ReportTellsAnswer, ReportTellsOthers, ClaimGivesJob};
 
-/// A standing verdict is the answer at the present library, and a report tells no other.
+/// A standing verdict is the answer at the present library, and a report tells no other. A claim gives a job where a name is
+/// ready.
 pub fn law_answers<A>()
     ensures standing { StandingIsPresentAnswer A }
     ensures report { ReportTellsAnswer A }
+    ensures others { ReportTellsOthers A }
+    ensures claim { ClaimGivesJob A }
 {}
 
 /// What a standing verdict says of the present library.

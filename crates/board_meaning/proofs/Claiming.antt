@@ -4,8 +4,8 @@ use Rattle.std.specs.List.{list_any}
 use Rattle.std.proofs.lemmas.Bool.{false_from_ne_true, not_from_false}
 use Rattle.log_meaning.specs.Names.{Name, same_name}
 use Rattle.log_meaning.specs.Log.{text_of}
-use Rattle.log_meaning.specs.Walks.{Dependencies}
-use Rattle.log_meaning.specs.Reach.{reach, AgreesOn}
+use Rattle.walk_meaning.specs.Walks.{Dependencies}
+use Rattle.walk_meaning.specs.Reach.{reach, AgreesOn}
 use Rattle.log_meaning.proofs.Members.{Member, in_map, map_in, any_not, any_none, find_found, find_none}
 use Rattle.log_meaning.proofs.Order.{among_member, same_sound, same_itself}
 use Rattle.log_meaning.proofs.Libraries.{stamp_past}

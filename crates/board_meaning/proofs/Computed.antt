@@ -3,8 +3,8 @@ use Rattle.std.proofs.Common.{refl}
 use Rattle.log_meaning.specs.Names.{is_among, is_ascending, with_name, with_names}
 use Rattle.log_meaning.specs.Log.{with_module, without_module, library_of, text_of, stamp_from}
 use Rattle.log_meaning.specs.Append.{append_answer}
-use Rattle.log_meaning.specs.Walks.{direct, walking, is_ungrounded}
-use Rattle.log_meaning.specs.Reach.{reach_within, reach}
+use Rattle.walk_meaning.specs.Walks.{direct, walking, is_ungrounded}
+use Rattle.walk_meaning.specs.Reach.{reach_within, reach}
 use Rattle.board_meaning.specs.Events.{log_of}
 use Rattle.board_meaning.specs.Claims.{claims_from, is_open, inputs_after, inputs_of, first_changed, has_current_claim}
 use Rattle.board_meaning.specs.Standing.{installed_claims, is_edited, is_unedited, stands}

@@ -2,8 +2,8 @@
 use Rattle.std.specs.Prelude.{◌≡◌, ℕ, true, false, List, [], ◌∷◌, map, length, filter, Some, None, option_map, codes}
 use Rattle.log_meaning.specs.Names.{Name, Text}
 use Rattle.log_meaning.specs.Log.{Put, Drop, Library, text_of, is_present}
-use Rattle.log_meaning.specs.Reach.{reach}
-use Rattle.log_meaning.specs.Subject.{Subject}
+use Rattle.walk_meaning.specs.Reach.{reach}
+use Rattle.walk_meaning.specs.Subject.{Subject}
 use Rattle.board_meaning.specs.Events.{History}
 use Rattle.board_meaning.specs.Claims.{Input}
 use Rattle.board_meaning.specs.Standing.{stands}

@@ -3,9 +3,9 @@ use Rattle.std.specs.Prelude.{ℕ, Bool, true, false, List, ◌++◌, ◌&&◌, 
 use Rattle.log_meaning.specs.Names.{Name, Text, same_name}
 use Rattle.log_meaning.specs.Log.{Edit, Library, text_of}
 use Rattle.log_meaning.specs.Append.{Edited, Made, Same, Absent, Full, TooLong, TooMany, append_answer}
-use Rattle.log_meaning.specs.Walks.{Dependencies, is_grounded, is_ungrounded}
-use Rattle.log_meaning.specs.Reach.{reach}
-use Rattle.log_meaning.specs.Subject.{Subject}
+use Rattle.walk_meaning.specs.Walks.{Dependencies, is_grounded, is_ungrounded}
+use Rattle.walk_meaning.specs.Reach.{reach}
+use Rattle.walk_meaning.specs.Subject.{Subject}
 use Rattle.board_meaning.specs.Events.{Event, EditMade, Claim, Install, Stale, Release, Close, Entry, History, log_of, library_after, version_after, entry_of}
 use Rattle.board_meaning.specs.Claims.{Input, claim_at, is_open, inputs_after, inputs_of, first_changed}
 use Rattle.board_meaning.specs.Standing.{stands}

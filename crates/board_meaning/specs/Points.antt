@@ -1,7 +1,7 @@
 -- What a pass has seen of a board that several threads share, and the point at which a call of it happens (this profile).
 use Rattle.std.specs.Prelude.{◌≡◌, ℕ, Bool, true, ◌++◌, not, nat_eq, nat_lt}
 use Rattle.std.specs.List.{list_all}
-use Rattle.log_meaning.specs.Walks.{Dependencies}
+use Rattle.walk_meaning.specs.Walks.{Dependencies}
 use Rattle.board_meaning.specs.Events.{Entry, History}
 use Rattle.board_meaning.specs.Legal.{IsLegal}
 

@@ -3,7 +3,7 @@ use Rattle.std.specs.Prelude.{◌≡◌, ℕ, suc, Bool, true, false, List, ◌&
 use Rattle.std.specs.List.{list_any}
 use Rattle.log_meaning.specs.Names.{Name, same_name, is_among}
 use Rattle.log_meaning.specs.Log.{Edit, edited_name}
-use Rattle.log_meaning.specs.Walks.{Dependencies}
+use Rattle.walk_meaning.specs.Walks.{Dependencies}
 use Rattle.board_meaning.specs.Events.{Event, EditMade, Claim, Install, Stale, Release, Close, Entry, History, edit_in}
 use Rattle.board_meaning.specs.Claims.{claim_at, is_claim_of, inputs_of, input_names}
 

@@ -1,6 +1,6 @@
 -- The log of the edits made, and the library that it leaves (this profile).
-use Rattle.std.specs.Prelude.{ℕ, zero, suc, Bool, List, [], ◌∷◌, max, map, length, not, filter, fold, slice_get, Option, Some, None, is_some, if◌then◌else◌}
-use Rattle.log_meaning.specs.Names.{Name, Text, same_name, comes_before}
+use Rattle.std.specs.Prelude.{ℕ, zero, suc, Bool, List, [], ◌∷◌, max, map, length, not, filter, fold, slice_get, Option, Some, None, is_some, if◌then◌else◌, ◌≡◌, true}
+use Rattle.log_meaning.specs.Names.{Name, Text, same_name, comes_before, is_ascending}
 
 -- Read: a text is put under a name, or a name is dropped.
 pub data Edit : Type 0 where
@@ -27,6 +27,10 @@ Library = List Module
 
 abbrev pub names_of : Library → List Name
 names_of library = map (λ (own : Module). own.name) library
+
+-- Read: the list is a library: its names stand in byte order, each once.
+abbrev pub IsLibrary : Library → Type 0
+IsLibrary library = is_ascending (names_of library) ≡ true
 
 -- Read: the library with this text under this name, in place of the text that the name had.
 unfoldable pub with_module : Name → Text → Library → Library

@@ -1,9 +1,8 @@
 -- Laws of the log and of the library that it leaves (this profile).
 use Rattle.std.specs.Prelude.{◌≡◌, suc, ◌≤◌, [], ◌∷◌, ◌++◌, length, Option, Some, None, if◌then◌else◌}
 use Rattle.log_meaning.specs.Names.{Name, Text, same_name, is_among}
-use Rattle.log_meaning.specs.Log.{Edit, Put, Drop, edited_name, Log, Library, names_of, library_of, text_of, is_present, version_of, stamp_of}
+use Rattle.log_meaning.specs.Log.{Edit, Put, Drop, edited_name, Log, Library, names_of, library_of, text_of, is_present, version_of, stamp_of, IsLibrary}
 use Rattle.log_meaning.specs.Append.{module_limit, edit_limit, total_limit, total_size, appended}
-use Rattle.log_meaning.specs.Subject.{IsLibrary}
 
 -- Read: what an edit leaves of its name.
 abbrev pub left_by : Edit → Option Text

@@ -2,8 +2,8 @@
 use Rattle.std.specs.Prelude.{◌≡◌, ℕ, true, List, length, Decides}
 use Rattle.log_meaning.specs.Names.{Name, is_among, is_ascending}
 use Rattle.log_meaning.specs.Log.{Library, is_present}
-use Rattle.log_meaning.specs.Walks.{Dependencies, direct, IsWalk, Ungrounded, walking, is_ungrounded, is_grounded}
-use Rattle.log_meaning.specs.Reach.{IsReached, reach, AgreesOn}
+use Rattle.walk_meaning.specs.Walks.{Dependencies, direct, IsWalk, Ungrounded, walking, is_ungrounded, is_grounded}
+use Rattle.walk_meaning.specs.Reach.{IsReached, reach, AgreesOn}
 
 -- Read: a walk from this name has so many names behind its first.
 abbrev pub WalksOn : Dependencies → Library → Name → ℕ → Type 0

@@ -1,18 +1,14 @@
 -- What is answered of the modules of a library (this profile).
 use Rattle.std.specs.Prelude.{◌≡◌, true, Option, is_some}
-use Rattle.log_meaning.specs.Names.{Name, is_ascending}
-use Rattle.log_meaning.specs.Log.{Library, names_of, is_present}
-use Rattle.log_meaning.specs.Walks.{Dependencies, is_grounded}
-use Rattle.log_meaning.specs.Reach.{reach, AgreesOn}
+use Rattle.log_meaning.specs.Names.{Name}
+use Rattle.log_meaning.specs.Log.{Library, IsLibrary, is_present}
+use Rattle.walk_meaning.specs.Walks.{Dependencies, is_grounded}
+use Rattle.walk_meaning.specs.Reach.{reach, AgreesOn}
 
 -- Read: a subject has direct dependencies, and a definition of its answers, by a library and a name of it.
 pub record Subject (Answer : Type 0) : Type 0 where
   pub dependencies : Dependencies
   pub answer : Library → Name → Option Answer
-
--- Read: the list is a library: its names stand in byte order, each once.
-abbrev pub IsLibrary : Library → Type 0
-IsLibrary library = is_ascending (names_of library) ≡ true
 
 -- Read: the subject answers of the present names and of no others.
 abbrev pub AnswersPresent : {Answer : Type 0} → Subject Answer → Type 0

@@ -1,5 +1,5 @@
-use Rattle.log_meaning.proofs.Reaching.{reach_decides, reach_ascending}
-use Rattle.log_meaning.proofs.walk_laws.law_reach.Goals as goal
+use Rattle.walk_meaning.proofs.Reaching.{reach_decides, reach_ascending}
+use Rattle.walk_meaning.proofs.walk_laws.law_reach.Goals as goal
 
 pub returns-clause-reached : goal.returns-clause-reached
 returns-clause-reached c = reach_decides

@@ -4,8 +4,8 @@ use Rattle.std.specs.List.{list_any, list_all}
 use Rattle.std.proofs.lemmas.Bool.{cases_Bool, and_parts, and_from, not_from_false, false_from_ne_true}
 use Rattle.log_meaning.specs.Names.{Name, Text, is_among}
 use Rattle.log_meaning.specs.Log.{Library, names_of, text_of, is_present}
-use Rattle.log_meaning.specs.Walks.{Dependencies, of_text, direct, IsWalk, Ungrounded, walking, is_ungrounded, is_grounded}
-use Rattle.log_meaning.specs.WalkLaws.{WalksOn}
+use Rattle.walk_meaning.specs.Walks.{Dependencies, of_text, direct, IsWalk, Ungrounded, walking, is_ungrounded, is_grounded}
+use Rattle.walk_meaning.specs.WalkLaws.{WalksOn}
 use Rattle.log_meaning.proofs.Members.{Member, any_found, any_of, all_not, all_at, in_filter, filter_in}
 use Rattle.log_meaning.proofs.Order.{among_member, member_among}
 use Rattle.log_meaning.proofs.Libraries.{present_among}

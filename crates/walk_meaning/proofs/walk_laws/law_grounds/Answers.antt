@@ -1,5 +1,5 @@
-use Rattle.log_meaning.proofs.Walking.{grounded_dependency, ungrounded_dependency}
-use Rattle.log_meaning.proofs.walk_laws.law_grounds.Goals as goal
+use Rattle.walk_meaning.proofs.Walking.{grounded_dependency, ungrounded_dependency}
+use Rattle.walk_meaning.proofs.walk_laws.law_grounds.Goals as goal
 
 pub returns-clause-grounded : goal.returns-clause-grounded
 returns-clause-grounded c = grounded_dependency

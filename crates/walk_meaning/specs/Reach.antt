@@ -2,7 +2,7 @@
 use Rattle.std.specs.Prelude.{◌≡◌, ◌⊎◌, ℕ, zero, suc, true, List, [], ◌∷◌, length, flat_map}
 use Rattle.log_meaning.specs.Names.{Name, is_among, with_names}
 use Rattle.log_meaning.specs.Log.{Library, text_of}
-use Rattle.log_meaning.specs.Walks.{Dependencies, direct, IsWalk}
+use Rattle.walk_meaning.specs.Walks.{Dependencies, direct, IsWalk}
 
 -- Read: a walk from the first name has this name on it, and the other is that name or a direct dependency of it.
 pub record IsOnWalk (dependencies : Dependencies) (library : Library) (name other : Name) : Type 0 where

@@ -1,5 +1,5 @@
-use Rattle.log_meaning.proofs.Walking.{walking_decides, ungrounded_decides, ungrounded_walks_on}
-use Rattle.log_meaning.proofs.walk_laws.law_walks.Goals as goal
+use Rattle.walk_meaning.proofs.Walking.{walking_decides, ungrounded_decides, ungrounded_walks_on}
+use Rattle.walk_meaning.proofs.walk_laws.law_walks.Goals as goal
 
 pub returns-clause-counted : goal.returns-clause-counted
 returns-clause-counted c = walking_decides

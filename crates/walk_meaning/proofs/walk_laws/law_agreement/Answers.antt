@@ -1,5 +1,5 @@
-use Rattle.log_meaning.proofs.Agreement.{reach_same, grounded_same}
-use Rattle.log_meaning.proofs.walk_laws.law_agreement.Goals as goal
+use Rattle.walk_meaning.proofs.Agreement.{reach_same, grounded_same}
+use Rattle.walk_meaning.proofs.walk_laws.law_agreement.Goals as goal
 
 pub returns-clause-reach : goal.returns-clause-reach
 returns-clause-reach c = reach_same

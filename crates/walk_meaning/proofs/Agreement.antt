@@ -3,12 +3,12 @@ use Rattle.std.proofs.Common.{◌≡◌, ℕ, zero, suc, true, not, List, length
 use Rattle.std.specs.Cmp.{both_ways}
 use Rattle.log_meaning.specs.Names.{Name}
 use Rattle.log_meaning.specs.Log.{Library, text_of, is_present}
-use Rattle.log_meaning.specs.Walks.{Dependencies, of_text, direct, walking, is_ungrounded, is_grounded}
-use Rattle.log_meaning.specs.Reach.{reach, AgreesOn}
+use Rattle.walk_meaning.specs.Walks.{Dependencies, of_text, direct, walking, is_ungrounded, is_grounded}
+use Rattle.walk_meaning.specs.Reach.{reach, AgreesOn}
 use Rattle.log_meaning.proofs.Members.{Member}
 use Rattle.log_meaning.proofs.Order.{member_among}
-use Rattle.log_meaning.proofs.Walking.{present_in, in_present, walking_step, walking_next, walks_on, ungrounded_in, in_ungrounded}
-use Rattle.log_meaning.proofs.Reaching.{one_list, IsClosed, reach_closed, reach_first, reach_ascending, reach_least}
+use Rattle.walk_meaning.proofs.Walking.{present_in, in_present, walking_step, walking_next, walks_on, ungrounded_in, in_ungrounded}
+use Rattle.walk_meaning.proofs.Reaching.{one_list, IsClosed, reach_closed, reach_first, reach_ascending, reach_least}
 
 pub direct_same : (dependencies : Dependencies) (library other : Library) (n : Name) → text_of library n ≡ text_of other n → direct dependencies library n ≡ direct dependencies other n
 unfolding direct

@@ -4,11 +4,11 @@ use Rattle.std.specs.List.{list_all}
 use Rattle.std.proofs.lemmas.Bool.{cases_Bool, and_parts}
 use Rattle.log_meaning.specs.Names.{Name, comes_before, is_among, is_ascending}
 use Rattle.log_meaning.specs.Log.{Library, names_of, is_present}
-use Rattle.log_meaning.specs.Walks.{Dependencies, direct, IsWalk}
-use Rattle.log_meaning.specs.Reach.{IsReached, reach_within, reach}
+use Rattle.walk_meaning.specs.Walks.{Dependencies, direct, IsWalk}
+use Rattle.walk_meaning.specs.Reach.{IsReached, reach_within, reach}
 use Rattle.log_meaning.proofs.Members.{Member, all_not, all_at, filter_in, in_flat_map, flat_map_in}
 use Rattle.log_meaning.proofs.Order.{among_member, member_among, in_with_all, with_all_new, with_all_old, with_all_ascending, before_trans, not_before_itself}
-use Rattle.log_meaning.proofs.Walking.{filter_shorter, filter_within, present_in, depends_present, names_count}
+use Rattle.walk_meaning.proofs.Walking.{filter_shorter, filter_within, present_in, depends_present, names_count}
 
 -- ---- two lists in byte order with the same members are one
 
