@@ -1,0 +1,6 @@
+pub mod Faces
+pub mod Closure
+pub mod Resolution
+pub mod Holding
+pub mod Coherence
+pub mod ClosureLaws
