@@ -1,1 +1,2 @@
 pub mod ClosureKept
+pub mod Computed

@@ -4,3 +4,4 @@ pub mod Resolution
 pub mod Holding
 pub mod Coherence
 pub mod ClosureLaws
+pub mod Examples

@@ -4,3 +4,4 @@
 #![tactic(auto)]
 
 pub mod closure_laws;
+pub mod examples;
