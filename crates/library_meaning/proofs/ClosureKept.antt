@@ -34,6 +34,7 @@ module _ (environment : Environment) where
     where
       clash : (k : ℕ) → slice_get names k ≡ Some x → name ≡ x → ⊥
       clash k p e = true≢false (sym (member_among names name (subst (λ z. Member z names) (sym e) (place_member names k x p))) ∙ n)
+
       by : (slice_get names i ≡ Some x) ⊎ ((i ≡ length names) × (name ≡ x)) → (slice_get names j ≡ Some x) ⊎ ((j ≡ length names) × (name ≡ x)) → i ≡ j
       by (inl p) (inl q) = c.once i j x p q
       by (inl p) (inr q) = absurd (clash i p q.1)
@@ -73,8 +74,10 @@ module _ (environment : Environment) where
       at : (xs ys : List Name) (x : Name) → slice_get (xs ++ x ∷ ys) (length xs) ≡ Some x
       at [] ys x = refl
       at (y ∷ xs) ys x = at xs ys x
+
       front : (other : Name) → sees (includes_of (theory_of environment name)) other ≡ true → sees before other ≡ true
       front other s = subst (λ z. sees z other ≡ true) (take_front before (name ∷ rest) (length before) (omega arith) ∙ take_length before) (b (length before) name other (at before rest name) s)
+
       last : (x : Name) → Member x (name ∷ []) → Member x (with_once names name)
       last x (inl e) = subst (λ z. Member z (with_once names name)) (sym e) (with_once_new names name)
       last x (inr m) = absurd m

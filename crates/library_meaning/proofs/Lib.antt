@@ -1,2 +1,3 @@
 pub mod ClosureKept
 pub mod Computed
+pub mod Resolving

@@ -5,3 +5,4 @@
 
 pub mod closure_laws;
 pub mod examples;
+pub mod resolution_laws;
