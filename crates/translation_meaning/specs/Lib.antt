@@ -4,3 +4,4 @@ pub mod Translation
 pub mod Unmapped
 pub mod TypedMaps
 pub mod Examples
+pub mod TranslationLaws
