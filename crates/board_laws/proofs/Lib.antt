@@ -5,3 +5,4 @@ pub mod Following
 pub mod Progress
 pub mod Pointing
 pub mod Told
+pub mod Rising

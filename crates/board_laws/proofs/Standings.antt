@@ -21,7 +21,7 @@ use Rattle.log_meaning.proofs.Places.{place_within}
 use Rattle.board_meaning.proofs.Claiming.{claim_within, claim_front, is_name_some, some_is_name, agrees_since}
 use Rattle.board_laws.proofs.Legality.{legal_claim, legal_install}
 
-installed_is : (e : Event) (c : ℕ) → installed_claim e ≡ Some c → e ≡ Install c
+pub installed_is : (e : Event) (c : ℕ) → installed_claim e ≡ Some c → e ≡ Install c
 installed_is (EditMade edit) c h = absurd (cc)
 installed_is (Claim n) c h = absurd (cc)
 installed_is (Install d) c h = let q : d ≡ c = cc in ap Install q

@@ -1,6 +1,6 @@
 -- The laws in the words of their statements.
-use Rattle.std.proofs.Common.{◌≡◌, ◌≢◌, ℕ, suc, ◌<◌, Bool, true, false, not, List, [], ◌∷◌, ◌++◌, take, slice_get, find, Option, Some, None, option_map, option_and_then, option_to_list, length, is_some, ◌||◌, ◌&&◌, inl, inr, refl, sym, ap, ◌∙◌, subst, true≢false, eqb-true, append-nil, Decides}
-use Rattle.std.specs.List.{list_any, list_all}
+use Rattle.std.proofs.Common.{◌≡◌, ◌≢◌, ℕ, suc, ◌<◌, Bool, true, false, not, List, [], ◌∷◌, ◌++◌, take, slice_get, Option, Some, None, option_map, option_and_then, option_to_list, length, is_some, ◌||◌, ◌&&◌, inl, inr, refl, sym, ap, ◌∙◌, subst, true≢false, eqb-true, append-nil, Decides}
+use Rattle.std.specs.List.{list_any}
 use Rattle.std.proofs.lemmas.Bool.{and_parts, not_from_false, false_from_ne_true}
 use Rattle.log_meaning.specs.Names.{Text, Name, same_name, is_among}
 use Rattle.log_meaning.specs.Log.{Edit, edited_name, is_present, text_of}
@@ -8,13 +8,13 @@ use Rattle.log_meaning.specs.Append.{Made, append_answer}
 use Rattle.walk_meaning.specs.Walks.{Dependencies, is_ungrounded}
 use Rattle.walk_meaning.specs.Reach.{reach}
 use Rattle.walk_meaning.specs.Subject.{Subject, KeepsToReach, AnswersPresent}
-use Rattle.log_meaning.proofs.Members.{Member, any_none, all_of, find_none}
+use Rattle.log_meaning.proofs.Members.{Member, any_none}
 use Rattle.log_meaning.proofs.Order.{among_member, member_among, same_sound}
 use Rattle.board_meaning.specs.Events.{EditMade, Install, Entry, History, edit_of, edit_in, log_of, library_after, version_after, stamp_after}
-use Rattle.board_meaning.specs.Claims.{claim_at, is_open, Input, inputs_of, input_names, is_unchanged, first_changed, is_claim_of, inputs_after}
+use Rattle.board_meaning.specs.Claims.{claim_at, is_open, Input, inputs_of, input_names, is_claim_of, inputs_after}
 use Rattle.board_meaning.specs.Standing.{installed_claim, is_edited_after, is_unedited, stands, Stands}
 use Rattle.board_meaning.specs.Ready.{is_ready, least_ready}
-use Rattle.board_meaning.specs.Machine.{Job, IsInstalled, IsStale, installed_by, install_reply, IsVerdict, told_by, report_reply, is_by, may_call, answers_of, job_after, claim_reply, IsAbsent, IsPending}
+use Rattle.board_meaning.specs.Machine.{Job, IsInstalled, IsStale, install_reply, IsVerdict, told_by, report_reply, is_by, may_call, answers_of, job_after, claim_reply, IsAbsent, IsPending}
 use Rattle.board_meaning.specs.Legal.{MayFollow, IsLegal}
 use Rattle.board_laws.specs.HistoryLaws.{log_with}
 use Rattle.board_meaning.proofs.Histories.{log_last}
@@ -89,20 +89,6 @@ stale_tells dependencies H c m n newer h r =
 
 pub installed_decides : (dependencies : Dependencies) (H : History) (c : ℕ) (m : Name) → claim_at H c ≡ Some m → Decides (is_unedited dependencies H c) (install_reply dependencies H c ≡ IsInstalled)
 installed_decides dependencies H c m h = (unedited_installed dependencies H c m h, installed_unedited dependencies H c m h)
-
-pub installed_unchanged : (dependencies : Dependencies) (H : History) (c : ℕ) → install_reply dependencies H c ≡ IsInstalled → list_all (is_unchanged H) (inputs_of dependencies H c) ≡ true
-unfolding install_reply first_changed
-installed_unchanged dependencies H c r =
-    all_of (is_unchanged H) (inputs_of dependencies H c)
-    (λ x m. not_false (is_unchanged H x) (find_none (λ (input : Input). not (is_unchanged H input)) (inputs_of dependencies H c) (none (find (λ (input : Input). not (is_unchanged H input)) (inputs_of dependencies H c)) r) x m))
-  where
-    none : (o : Option Input) → installed_by (option_map (λ (input : Input). record { name = input.name; stamp = stamp_after H input.name }) o) ≡ IsInstalled → o ≡ None
-    none None e = refl
-    none (Some x) e = absurd (cc)
-
-    not_false : (b : Bool) → not b ≡ false → b ≡ true
-    not_false true e = refl
-    not_false false e = absurd (true≢false e)
 
 pub report_tells : {Answer : Type 0} (subject : Subject Answer) (H : History) (n : Name) (answer : Answer) (version : ℕ) → report_reply subject H n ≡ IsVerdict answer version → subject.answer (library_after H) n ≡ Some answer
 unfolding report_reply

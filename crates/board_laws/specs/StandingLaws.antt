@@ -64,6 +64,13 @@ InstallMakesStanding =
     → MayFollow dependencies history entry → entry.event ≡ Install claim
     → stands dependencies (history ++ entry ∷ []) name ≡ (stands dependencies history name || is_claim_of history name claim)
 
+-- Read: a verdict is installed for a name that had none, so each install raises the number of standing verdicts.
+abbrev pub InstallIsOfWaiting : Type 0
+InstallIsOfWaiting =
+    (dependencies : Dependencies) (history : History) (entry : Entry) (claim : ℕ) (name : Name) → IsLegal dependencies history
+    → MayFollow dependencies history entry → entry.event ≡ Install claim → is_claim_of history name claim ≡ true
+    → stands dependencies history name ≡ false
+
 -- Read: other entries leave the standing verdicts as they are.
 abbrev pub OthersLeaveStanding : Type 0
 OthersLeaveStanding =

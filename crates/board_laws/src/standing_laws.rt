@@ -1,6 +1,6 @@
 //! Standing verdicts, ready names and installs.
 
-ghost use Rattle.board_laws.specs.StandingLaws.{StandingIsDecided, StandingIsPresentAnswer, InputsArePresentReach, StandingIsGrounded, StandingRestsOnStanding, ReadyRestsOnStanding, EditLeavesStanding, InstallMakesStanding, OthersLeaveStanding, SomeNameIsReady, ClaimsAreOfReady, StaleTellsPresentStamp, InstalledIsUnedited, InstalledIsUnchanged, ReportTellsAnswer, ReportTellsOthers, ClaimGivesJob};
+ghost use Rattle.board_laws.specs.StandingLaws.{StandingIsDecided, StandingIsPresentAnswer, InputsArePresentReach, StandingIsGrounded, StandingRestsOnStanding, ReadyRestsOnStanding, EditLeavesStanding, InstallMakesStanding, OthersLeaveStanding, SomeNameIsReady, ClaimsAreOfReady, StaleTellsPresentStamp, InstalledIsUnedited, InstalledIsUnchanged, ReportTellsAnswer, ReportTellsOthers, ClaimGivesJob, InstallIsOfWaiting};
 
 /// A standing verdict is the answer at the present library, and a report tells no other. A claim gives a job where a name is
 /// ready.
@@ -33,9 +33,10 @@ pub fn law_ready()
     ensures rests { ReadyRestsOnStanding }
 {}
 
-/// What an install finds.
+/// What an install finds: unchanged inputs, and a name without a standing verdict.
 pub fn law_install()
     ensures stale { StaleTellsPresentStamp }
     ensures unedited { InstalledIsUnedited }
     ensures unchanged { InstalledIsUnchanged }
+    ensures waiting { InstallIsOfWaiting }
 {}

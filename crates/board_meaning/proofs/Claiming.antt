@@ -1,12 +1,12 @@
 -- Claims: where they stand, their inputs, and what has changed since.
 use Rattle.std.proofs.Common.{◌≡◌, ℕ, suc, ◌<◌, Bool, true, false, not, List, [], ◌∷◌, ◌++◌, map, length, take, drop, slice_get, find, Option, Some, None, option_map, option_and_then, ◌||◌, refl, sym, ap, ◌∙◌, subst, true≢false, arith, eqb-true, eq-eqb}
-use Rattle.std.specs.List.{list_any}
+use Rattle.std.specs.List.{list_any, list_all}
 use Rattle.std.proofs.lemmas.Bool.{false_from_ne_true, not_from_false}
 use Rattle.log_meaning.specs.Names.{Name, same_name}
 use Rattle.log_meaning.specs.Log.{text_of}
 use Rattle.walk_meaning.specs.Walks.{Dependencies}
 use Rattle.walk_meaning.specs.Reach.{reach, AgreesOn}
-use Rattle.log_meaning.proofs.Members.{Member, in_map, map_in, any_not, any_none, find_found, find_none}
+use Rattle.log_meaning.proofs.Members.{Member, in_map, map_in, any_not, any_none, find_found, find_none, all_of}
 use Rattle.log_meaning.proofs.Order.{among_member, same_sound, same_itself}
 use Rattle.log_meaning.proofs.Libraries.{stamp_past}
 use Rattle.board_meaning.specs.Events.{Event, EditMade, Claim, Install, Stale, Release, Close, Entry, History, edit_of, log_of, library_after, stamp_after}
@@ -192,3 +192,17 @@ module _ (dependencies : Dependencies) (H : History) (c : ℕ) (m : Name) (h : c
           let b : stamp_after H x.name ≡ newer = cc in
           let d = later x q.0 q.1 in
           (sym b ∙ ap (stamp_after H) a, x, q.0, a, omega (arith, b, d))
+
+pub installed_unchanged : (dependencies : Dependencies) (H : History) (c : ℕ) → install_reply dependencies H c ≡ IsInstalled → list_all (is_unchanged H) (inputs_of dependencies H c) ≡ true
+unfolding install_reply first_changed
+installed_unchanged dependencies H c r =
+    all_of (is_unchanged H) (inputs_of dependencies H c)
+    (λ x m. not_false (is_unchanged H x) (find_none (λ (input : Input). not (is_unchanged H input)) (inputs_of dependencies H c) (none (find (λ (input : Input). not (is_unchanged H input)) (inputs_of dependencies H c)) r) x m))
+  where
+    none : (o : Option Input) → installed_by (option_map (λ (input : Input). record { name = input.name; stamp = stamp_after H input.name }) o) ≡ IsInstalled → o ≡ None
+    none None e = refl
+    none (Some x) e = absurd (cc)
+
+    not_false : (b : Bool) → not b ≡ false → b ≡ true
+    not_false true e = refl
+    not_false false e = absurd (true≢false e)
