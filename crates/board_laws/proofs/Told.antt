@@ -1,0 +1,134 @@
+-- The laws in the words of their statements.
+use Rattle.std.proofs.Common.{◌≡◌, ◌≢◌, ℕ, suc, ◌<◌, Bool, true, false, not, List, [], ◌∷◌, ◌++◌, take, slice_get, Option, Some, None, option_map, option_and_then, option_to_list, length, is_some, ◌||◌, ◌&&◌, inl, inr, refl, sym, ap, ◌∙◌, subst, true≢false, eqb-true, append-nil, Decides}
+use Rattle.std.specs.List.{list_any}
+use Rattle.std.proofs.lemmas.Bool.{and_parts, not_from_false, false_from_ne_true}
+use Rattle.log_meaning.specs.Names.{Text, Name, same_name, is_among}
+use Rattle.log_meaning.specs.Log.{Edit, edited_name, is_present, text_of}
+use Rattle.log_meaning.specs.Append.{Made, append_answer}
+use Rattle.walk_meaning.specs.Walks.{Dependencies, is_ungrounded}
+use Rattle.walk_meaning.specs.Reach.{reach}
+use Rattle.walk_meaning.specs.Subject.{Subject, KeepsToReach, AnswersPresent}
+use Rattle.log_meaning.proofs.Members.{Member, any_none}
+use Rattle.log_meaning.proofs.Order.{among_member, member_among, same_sound}
+use Rattle.board_meaning.specs.Events.{EditMade, Install, Entry, History, edit_of, edit_in, log_of, library_after, version_after, stamp_after}
+use Rattle.board_meaning.specs.Claims.{claim_at, is_open, Input, inputs_of, input_names, is_claim_of, inputs_after}
+use Rattle.board_meaning.specs.Standing.{installed_claim, is_edited_after, is_unedited, stands, Stands}
+use Rattle.board_meaning.specs.Ready.{is_ready, least_ready}
+use Rattle.board_meaning.specs.Machine.{Job, IsInstalled, IsStale, install_reply, IsVerdict, told_by, report_reply, is_by, may_call, answers_of, job_after, claim_reply, IsAbsent, IsPending}
+use Rattle.board_meaning.specs.Legal.{MayFollow, IsLegal}
+use Rattle.board_laws.specs.HistoryLaws.{log_with}
+use Rattle.board_meaning.proofs.Histories.{log_last}
+use Rattle.board_meaning.proofs.Claiming.{names_are, stale_input, unedited_installed, installed_unedited}
+use Rattle.board_laws.proofs.Legality.{legal_edit, event_install, follows_event, least_is_ready}
+use Rattle.board_laws.proofs.Standings.{answer_now, reach_now, ready_parts}
+use Rattle.log_meaning.proofs.Libraries.{library_ascending}
+use Rattle.board_laws.proofs.Resting.{standing_reach, ready_rests}
+use Rattle.board_laws.proofs.Following.{edit_leaves, install_makes}
+
+pub entries_determine : (H : History) (e : Entry) → log_of (H ++ e ∷ []) ≡ log_with (log_of H) (edit_in e)
+entries_determine H e = log_last H e ∙ with (edit_in e)
+  where
+    with : (o : Option Edit) → log_of H ++ option_to_list o ≡ log_with (log_of H) o
+    with None = append-nil (log_of H)
+    with (Some edit) = refl
+
+pub edits_were_made : (dependencies : Dependencies) (H : History) (place : ℕ) (e : Entry) (edit : Edit) → IsLegal dependencies H → slice_get H place ≡ Some e → edit_in e ≡ Some edit
+    → (append_answer (log_of (take place H)) edit ≡ Made (suc (version_after (take place H)))) × (e.pass ≡ 0)
+unfolding may_call
+edits_were_made dependencies H place e edit l s g = let q = legal_edit dependencies H l place e edit s g in (q.1, eqb-true e.pass 0 q.0)
+
+standing_unedited : (dependencies : Dependencies) (H : History) (n : Name) (s : Stands dependencies H n) → is_unedited dependencies H s.claim ≡ true
+unfolding is_unedited
+standing_unedited dependencies H n s =
+    not_from_false (list_any (is_edited_after H s.claim) (input_names (inputs_of dependencies H s.claim)))
+    (any_none (is_edited_after H s.claim) (input_names (inputs_of dependencies H s.claim)) (λ x m. s.unedited x (member_among (input_names (inputs_of dependencies H s.claim)) x m)))
+
+pub standing_answer : {Answer : Type 0} (subject : Subject Answer) → KeepsToReach subject → (H : History) (n : Name) → IsLegal subject.dependencies H → (s : Stands subject.dependencies H n)
+    → subject.answer (library_after (take s.claim H)) n ≡ subject.answer (library_after H) n
+standing_answer subject k H n l s =
+    answer_now subject.dependencies H l subject.answer k s.claim n s.claimed (standing_unedited subject.dependencies H n s)
+
+pub inputs_are_reach : (dependencies : Dependencies) (H : History) (n : Name) → IsLegal dependencies H → (s : Stands dependencies H n)
+    → input_names (inputs_of dependencies H s.claim) ≡ reach dependencies (library_after H) n
+inputs_are_reach dependencies H n l s =
+    names_are dependencies H s.claim n s.claimed ∙ sym (reach_now dependencies H l s.claim n s.claimed (standing_unedited dependencies H n s))
+
+pub standing_rests_told : (dependencies : Dependencies) (H : History) (n x : Name) → IsLegal dependencies H → stands dependencies H n ≡ true → is_among (reach dependencies (library_after H) n) x ≡ true
+    → is_present (library_after H) x ≡ true → stands dependencies H x ≡ true
+standing_rests_told dependencies H n x l t a p = standing_reach dependencies H l n x t (among_member (reach dependencies (library_after H) n) x a) p
+
+pub ready_rests_told : (dependencies : Dependencies) (H : History) (n x : Name) → IsLegal dependencies H → is_ready dependencies H n ≡ true → is_among (reach dependencies (library_after H) n) x ≡ true
+    → x ≢ n → is_present (library_after H) x ≡ true → stands dependencies H x ≡ true
+ready_rests_told dependencies H n x l r a d p =
+    ready_rests dependencies H l n x r (among_member (reach dependencies (library_after H) n) x a)
+    (false_from_ne_true (same_name n x) (λ e. d (sym (same_sound n x e)))) p
+
+pub edit_leaves_told : (dependencies : Dependencies) (H : History) (e : Entry) (edit : Edit) (n : Name) → IsLegal dependencies H → e.event ≡ EditMade edit
+    → stands dependencies (H ++ e ∷ []) n ≡ (stands dependencies H n && not (is_among (reach dependencies (library_after H) n) (edited_name edit)))
+edit_leaves_told dependencies H e edit n l h = edit_leaves dependencies H l e n edit (ap edit_of h) (ap installed_claim h)
+
+pub install_makes_told : (dependencies : Dependencies) (H : History) (e : Entry) (c : ℕ) (n : Name) → IsLegal dependencies H → MayFollow dependencies H e → e.event ≡ Install c
+    → stands dependencies (H ++ e ∷ []) n ≡ (stands dependencies H n || is_claim_of H n c)
+unfolding may_call
+install_makes_told dependencies H e c n l f h =
+    let q = event_install dependencies H f.call e.event c (follows_event dependencies H e f) (ap installed_claim h) in
+    install_makes dependencies H l e n c (ap edit_of h) (ap installed_claim h)
+    (and_parts (is_open H c) (is_by e.pass (slice_get H c)) (subst (λ z. may_call H e.pass z ≡ true) q.0 f.may)).0 q.1
+
+member_place : {A : Type 0} (xs : List A) (x : A) → Member x xs → (i : ℕ) × (slice_get xs i ≡ Some x)
+member_place [] x m = absurd m
+member_place (y ∷ xs) x (inl e) = (0, ap Some (sym e))
+member_place (y ∷ xs) x (inr m) = let q = member_place xs x m in (suc q.0, q.1)
+
+pub stale_tells : (dependencies : Dependencies) (H : History) (c : ℕ) (m n : Name) (newer : ℕ) → claim_at H c ≡ Some m → install_reply dependencies H c ≡ IsStale n newer
+    → (newer ≡ stamp_after H n) × (i : ℕ) × (input : Input) × (slice_get (inputs_of dependencies H c) i ≡ Some input) × (input.name ≡ n) × (input.stamp < newer)
+stale_tells dependencies H c m n newer h r =
+    let q = stale_input dependencies H c m h n newer r in
+    let p = member_place (inputs_of dependencies H c) q.1 q.2 in
+    (q.0, p.0, q.1, p.1, q.3, q.4)
+
+pub installed_decides : (dependencies : Dependencies) (H : History) (c : ℕ) (m : Name) → claim_at H c ≡ Some m → Decides (is_unedited dependencies H c) (install_reply dependencies H c ≡ IsInstalled)
+installed_decides dependencies H c m h = (unedited_installed dependencies H c m h, installed_unedited dependencies H c m h)
+
+pub report_tells : {Answer : Type 0} (subject : Subject Answer) (H : History) (n : Name) (answer : Answer) (version : ℕ) → report_reply subject H n ≡ IsVerdict answer version → subject.answer (library_after H) n ≡ Some answer
+unfolding report_reply
+report_tells {Answer = Answer} subject H n answer version r = by (is_ungrounded subject.dependencies (library_after H) n || stands subject.dependencies H n) (subject.answer (library_after H) n) r
+  where
+    by : (known : Bool) (o : Option Answer) → told_by (version_after H) known o ≡ IsVerdict answer version → o ≡ Some answer
+    by known None e = absurd (cc)
+    by true (Some a) e = let q : a ≡ answer = cc in ap Some q
+    by false (Some a) e = absurd (cc)
+
+-- ---- replies to claims and reports
+
+job_of_present : {Answer : Type 0} (subject : Subject Answer) (H : History) (n : Name) → is_present (library_after H) n ≡ true → is_some (job_after subject H n) ≡ true
+unfolding job_after
+job_of_present {Answer = Answer} subject H n p = by (text_of (library_after H) n) p
+  where
+    by : (o : Option Text) → is_some o ≡ true → is_some {T = Job Answer} (option_map (λ (text : Text). record { claim = length H; name = n; text = text; inputs = inputs_after subject.dependencies H n; answers = answers_of subject (library_after H) n }) o) ≡ true
+    by None e = e
+    by (Some t) e = refl
+
+pub claim_gives_job : {Answer : Type 0} (subject : Subject Answer) (H : History) → is_some (claim_reply subject H) ≡ is_some (least_ready subject.dependencies H)
+claim_gives_job {Answer = Answer} subject H = by (least_ready subject.dependencies H) refl
+  where
+    by : (o : Option Name) → least_ready subject.dependencies H ≡ o → is_some (option_and_then (job_after subject H) o) ≡ is_some o
+    by None e = refl
+    by (Some n) e =
+        job_of_present subject H n
+        (and_parts (is_present (library_after H) n) (not (is_ungrounded subject.dependencies (library_after H) n)) (ready_parts subject.dependencies H n (least_is_ready subject.dependencies H n e)).grounded).0
+
+pub report_tells_others : {Answer : Type 0} (subject : Subject Answer) (H : History) (n : Name) → AnswersPresent subject
+    → Decides (not (is_present (library_after H) n)) (report_reply subject H n ≡ IsAbsent (version_after H))
+    × Decides (is_present (library_after H) n && not (is_ungrounded subject.dependencies (library_after H) n || stands subject.dependencies H n)) (report_reply subject H n ≡ IsPending (version_after H))
+unfolding report_reply
+report_tells_others {Answer = Answer} subject H n a =
+    by (is_ungrounded subject.dependencies (library_after H) n || stands subject.dependencies H n) (subject.answer (library_after H) n) (is_present (library_after H) n) (a (library_after H) n (library_ascending (log_of H)))
+  where
+    by : (known : Bool) (o : Option Answer) (present : Bool) → is_some o ≡ present
+        → Decides (not present) (told_by (version_after H) known o ≡ IsAbsent (version_after H)) × Decides (present && not known) (told_by (version_after H) known o ≡ IsPending (version_after H))
+    by known None true e = absurd (true≢false (sym e))
+    by known None false e = ((λ h. refl, λ h. refl), (λ h. absurd (true≢false (sym h)), λ h. absurd (cc)))
+    by true (Some x) true e = ((λ h. absurd (true≢false (sym h)), λ h. absurd (cc)), (λ h. absurd (true≢false (sym h)), λ h. absurd (cc)))
+    by false (Some x) true e = ((λ h. absurd (true≢false (sym h)), λ h. absurd (cc)), (λ h. refl, λ h. refl))
+    by known (Some x) false e = absurd (true≢false e)

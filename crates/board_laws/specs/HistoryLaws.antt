@@ -1,0 +1,55 @@
+-- Laws of legal histories (this profile).
+use Rattle.std.specs.Prelude.{◌≡◌, ℕ, suc, true, List, [], ◌∷◌, ◌++◌, take, slice_get, Option, Some, None}
+use Rattle.log_meaning.specs.Log.{Edit, Log}
+use Rattle.log_meaning.specs.Append.{Made, append_answer}
+use Rattle.log_meaning.specs.LogLaws.{IsWithinLimits}
+use Rattle.walk_meaning.specs.Walks.{Dependencies}
+use Rattle.board_meaning.specs.Events.{Entry, History, edit_in, log_of, version_after}
+use Rattle.board_meaning.specs.Machine.{Call, may_call, after_call}
+use Rattle.board_meaning.specs.Legal.{IsLegal, PassCall, after_calls, may_make_all}
+
+-- Read: the history without entries is legal.
+abbrev pub EmptyIsLegal : Type 0
+EmptyIsLegal = (dependencies : Dependencies) → IsLegal dependencies []
+
+-- Read: a call that its pass may make leaves a legal history legal.
+abbrev pub CallsKeepLegal : Type 0
+CallsKeepLegal =
+    (dependencies : Dependencies) (history : History) (pass : ℕ) (call : Call) → IsLegal dependencies history
+    → may_call history pass call ≡ true → IsLegal dependencies (after_call dependencies history pass call)
+
+-- Read: so do calls one after another.
+abbrev pub RunsKeepLegal : Type 0
+RunsKeepLegal =
+    (dependencies : Dependencies) (history : History) (calls : List PassCall) → IsLegal dependencies history
+    → may_make_all dependencies history calls ≡ true → IsLegal dependencies (after_calls dependencies history calls)
+
+-- Read: a beginning of a legal history is legal.
+abbrev pub BeginningsAreLegal : Type 0
+BeginningsAreLegal =
+    (dependencies : Dependencies) (history later : History) → IsLegal dependencies (history ++ later) → IsLegal dependencies history
+
+-- Read: one more entry adds its edit to the log, or leaves the log as it is.
+abbrev pub log_with : Log → Option Edit → Log
+log_with log None = log
+log_with log (Some edit) = log ++ edit ∷ []
+
+abbrev pub EntriesDetermineLog : Type 0
+EntriesDetermineLog = (history : History) (entry : Entry) → log_of (history ++ entry ∷ []) ≡ log_with (log_of history) (edit_in entry)
+
+-- Read: an edit in a legal history was one that the log took, and it was made by pass 0.
+abbrev pub EditsWereMade : Type 0
+EditsWereMade =
+    (dependencies : Dependencies) (history : History) (place : ℕ) (entry : Entry) (edit : Edit) → IsLegal dependencies history
+    → slice_get history place ≡ Some entry → edit_in entry ≡ Some edit
+    → (append_answer (log_of (take place history)) edit ≡ Made (suc (version_after (take place history)))) × (entry.pass ≡ 0)
+
+-- Read: the version of an entry counts the edits up to and with itself.
+abbrev pub VersionsCountEdits : Type 0
+VersionsCountEdits =
+    (dependencies : Dependencies) (history : History) (place : ℕ) (entry : Entry) → IsLegal dependencies history
+    → slice_get history place ≡ Some entry → entry.version ≡ version_after (take (suc place) history)
+
+-- Read: the log of a legal history keeps to all limits.
+abbrev pub LegalLogsAreWithinLimits : Type 0
+LegalLogsAreWithinLimits = (dependencies : Dependencies) (history : History) → IsLegal dependencies history → IsWithinLimits (log_of history)

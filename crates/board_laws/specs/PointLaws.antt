@@ -1,0 +1,35 @@
+-- Laws of the points of calls (this profile).
+use Rattle.std.specs.Prelude.{◌≡◌, ℕ, true, Some}
+use Rattle.log_meaning.specs.Names.{Name}
+use Rattle.walk_meaning.specs.Walks.{Dependencies}
+use Rattle.walk_meaning.specs.Subject.{Subject}
+use Rattle.board_meaning.specs.Events.{History}
+use Rattle.board_meaning.specs.Claims.{claim_at}
+use Rattle.board_meaning.specs.Machine.{Job, job_of, claim_reply, ClaimCall, InstallCall, may_call, after_call}
+use Rattle.board_meaning.specs.Legal.{IsLegal}
+use Rattle.board_meaning.specs.Points.{IsPoint}
+
+-- Read: where no other pass has made an entry, what a pass has seen is the point.
+abbrev pub SeenIsPoint : Type 0
+SeenIsPoint =
+    (dependencies : Dependencies) (seen : History) (pass : ℕ) → IsLegal dependencies seen → IsPoint dependencies seen pass seen
+
+-- Read: a claim that a pass may end by what it has seen, it may end at the point: other passes do not end it.
+abbrev pub OthersEndNoClaim : Type 0
+OthersEndNoClaim =
+    (dependencies : Dependencies) (seen : History) (pass : ℕ) (point : History) (claim : ℕ) → IsPoint dependencies seen pass point
+    → may_call seen pass (InstallCall claim) ≡ true → may_call point pass (InstallCall claim) ≡ true
+
+-- Read: the job of a claim that the pass has seen is the same at the point.
+abbrev pub PointKeepsJob : Type 0 → Type 0
+PointKeepsJob Answer =
+    (subject : Subject Answer) (seen : History) (pass : ℕ) (point : History) (claim : ℕ) (name : Name) → IsPoint subject.dependencies seen pass point
+    → claim_at seen claim ≡ Some name → job_of subject point claim ≡ job_of subject seen claim
+
+-- Read: the pass that was handed a job by a claim may end that claim, and the job is that of the claim.
+abbrev pub JobsMayBeEnded : Type 0 → Type 0
+JobsMayBeEnded Answer =
+    (subject : Subject Answer) (history : History) (pass : ℕ) (job : Job Answer) → IsLegal subject.dependencies history
+    → claim_reply subject history ≡ Some job
+    → (job_of subject (after_call subject.dependencies history pass ClaimCall) job.claim ≡ Some job)
+    × (may_call (after_call subject.dependencies history pass ClaimCall) pass (InstallCall job.claim) ≡ true)

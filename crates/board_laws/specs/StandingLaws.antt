@@ -1,0 +1,129 @@
+-- Laws of standing verdicts, of ready names and of installs (this profile).
+use Rattle.std.specs.Prelude.{◌≡◌, ◌≢◌, ℕ, ◌<◌, true, false, [], ◌∷◌, ◌++◌, ◌&&◌, ◌||◌, not, take, slice_get, Some, None, is_some, Decides}
+use Rattle.std.specs.List.{list_all}
+use Rattle.log_meaning.specs.Names.{Name, is_among}
+use Rattle.log_meaning.specs.Log.{Edit, edited_name, is_present}
+use Rattle.walk_meaning.specs.Walks.{Dependencies, is_ungrounded, is_grounded}
+use Rattle.walk_meaning.specs.Reach.{reach}
+use Rattle.walk_meaning.specs.Subject.{Subject, AnswersPresent, KeepsToReach}
+use Rattle.board_meaning.specs.Events.{EditMade, Install, Entry, History, edit_in, library_after, version_after, stamp_after}
+use Rattle.board_meaning.specs.Claims.{claim_at, open_claims, Input, inputs_of, input_names, is_unchanged, is_claim_of}
+use Rattle.board_meaning.specs.Standing.{installed_claim, is_unedited, stands, Stands}
+use Rattle.board_meaning.specs.Ready.{is_closed, is_ready, least_ready}
+use Rattle.board_meaning.specs.Machine.{IsInstalled, IsStale, install_reply, claim_reply, IsVerdict, IsPending, IsAbsent, report_reply}
+use Rattle.board_meaning.specs.Legal.{MayFollow, IsLegal}
+
+-- Read: the test of standing verdicts decides what it means.
+abbrev pub StandingIsDecided : Type 0
+StandingIsDecided =
+    (dependencies : Dependencies) (history : History) (name : Name) → Decides (stands dependencies history name) (Stands dependencies history name)
+
+-- Read: a standing verdict, which is the answer at its claim, is the answer at the present library.
+abbrev pub StandingIsPresentAnswer : Type 0 → Type 0
+StandingIsPresentAnswer Answer =
+    (subject : Subject Answer) → KeepsToReach subject
+    → (history : History) (name : Name) → IsLegal subject.dependencies history → (standing : Stands subject.dependencies history name)
+    → subject.answer (library_after (take standing.claim history)) name ≡ subject.answer (library_after history) name
+
+-- Read: the inputs of its claim are the reach that the name has now.
+abbrev pub InputsArePresentReach : Type 0
+InputsArePresentReach =
+    (dependencies : Dependencies) (history : History) (name : Name) → IsLegal dependencies history → (standing : Stands dependencies history name)
+    → input_names (inputs_of dependencies history standing.claim) ≡ reach dependencies (library_after history) name
+
+-- Read: a name with a standing verdict is present and grounded.
+abbrev pub StandingIsGrounded : Type 0
+StandingIsGrounded =
+    (dependencies : Dependencies) (history : History) (name : Name) → IsLegal dependencies history
+    → stands dependencies history name ≡ true → is_grounded dependencies (library_after history) name ≡ true
+
+-- Read: where a name has a standing verdict, so has each present name of its reach.
+abbrev pub StandingRestsOnStanding : Type 0
+StandingRestsOnStanding =
+    (dependencies : Dependencies) (history : History) (name other : Name) → IsLegal dependencies history
+    → stands dependencies history name ≡ true → is_among (reach dependencies (library_after history) name) other ≡ true
+    → is_present (library_after history) other ≡ true → stands dependencies history other ≡ true
+
+-- Read: where a name is ready, each other present name of its reach has a standing verdict.
+abbrev pub ReadyRestsOnStanding : Type 0
+ReadyRestsOnStanding =
+    (dependencies : Dependencies) (history : History) (name other : Name) → IsLegal dependencies history
+    → is_ready dependencies history name ≡ true → is_among (reach dependencies (library_after history) name) other ≡ true
+    → other ≢ name → is_present (library_after history) other ≡ true → stands dependencies history other ≡ true
+
+-- Read: an edit leaves exactly the verdicts that stood and whose inputs, which are the reach, lack the edited name.
+abbrev pub EditLeavesStanding : Type 0
+EditLeavesStanding =
+    (dependencies : Dependencies) (history : History) (entry : Entry) (edit : Edit) (name : Name) → IsLegal dependencies history → entry.event ≡ EditMade edit
+    → stands dependencies (history ++ entry ∷ []) name ≡ (stands dependencies history name && not (is_among (reach dependencies (library_after history) name) (edited_name edit)))
+
+-- Read: an install makes the verdict of its claim's name stand, and leaves the others.
+abbrev pub InstallMakesStanding : Type 0
+InstallMakesStanding =
+    (dependencies : Dependencies) (history : History) (entry : Entry) (claim : ℕ) (name : Name) → IsLegal dependencies history
+    → MayFollow dependencies history entry → entry.event ≡ Install claim
+    → stands dependencies (history ++ entry ∷ []) name ≡ (stands dependencies history name || is_claim_of history name claim)
+
+-- Read: a verdict is installed for a name that had none, so each install raises the number of standing verdicts.
+abbrev pub InstallIsOfWaiting : Type 0
+InstallIsOfWaiting =
+    (dependencies : Dependencies) (history : History) (entry : Entry) (claim : ℕ) (name : Name) → IsLegal dependencies history
+    → MayFollow dependencies history entry → entry.event ≡ Install claim → is_claim_of history name claim ≡ true
+    → stands dependencies history name ≡ false
+
+-- Read: other entries leave the standing verdicts as they are.
+abbrev pub OthersLeaveStanding : Type 0
+OthersLeaveStanding =
+    (dependencies : Dependencies) (history : History) (entry : Entry) (name : Name) → IsLegal dependencies history
+    → edit_in entry ≡ None → installed_claim entry.event ≡ None
+    → stands dependencies (history ++ entry ∷ []) name ≡ stands dependencies history name
+
+-- Read: where the board is not closed, a grounded present name does not stand and no claim is open, some name is ready.
+abbrev pub SomeNameIsReady : Type 0
+SomeNameIsReady =
+    (dependencies : Dependencies) (history : History) (name : Name) → is_closed history ≡ false
+    → is_grounded dependencies (library_after history) name ≡ true → stands dependencies history name ≡ false
+    → open_claims history ≡ [] → is_some (least_ready dependencies history) ≡ true
+
+-- Read: a claim is of a name that is ready before it.
+abbrev pub ClaimsAreOfReady : Type 0
+ClaimsAreOfReady =
+    (dependencies : Dependencies) (history : History) (place : ℕ) (name : Name) → IsLegal dependencies history
+    → claim_at history place ≡ Some name → is_ready dependencies (take place history) name ≡ true
+
+-- Read: a stale install tells the present stamp of an input, which is greater than the one that was used.
+abbrev pub StaleTellsPresentStamp : Type 0
+StaleTellsPresentStamp =
+    (dependencies : Dependencies) (history : History) (claim : ℕ) (of name : Name) (newer : ℕ) → claim_at history claim ≡ Some of
+    → install_reply dependencies history claim ≡ IsStale name newer
+    → (newer ≡ stamp_after history name) × (i : ℕ) × (input : Input) × (slice_get (inputs_of dependencies history claim) i ≡ Some input) × (input.name ≡ name) × (input.stamp < newer)
+
+-- Read: a verdict is installed exactly where no input of its claim was edited after it. Then every stamp is the one of
+-- the claim.
+abbrev pub InstalledIsUnedited : Type 0
+InstalledIsUnedited =
+    (dependencies : Dependencies) (history : History) (claim : ℕ) (of : Name) → claim_at history claim ≡ Some of
+    → Decides (is_unedited dependencies history claim) (install_reply dependencies history claim ≡ IsInstalled)
+
+abbrev pub InstalledIsUnchanged : Type 0
+InstalledIsUnchanged =
+    (dependencies : Dependencies) (history : History) (claim : ℕ) → install_reply dependencies history claim ≡ IsInstalled
+    → list_all (is_unchanged history) (inputs_of dependencies history claim) ≡ true
+
+-- Read: a report tells no other verdict than the answer at the present library.
+abbrev pub ReportTellsAnswer : Type 0 → Type 0
+ReportTellsAnswer Answer =
+    (subject : Subject Answer) (history : History) (name : Name) (answer : Answer) (version : ℕ)
+    → report_reply subject history name ≡ IsVerdict answer version → subject.answer (library_after history) name ≡ Some answer
+
+-- Read: a claim gives a job exactly where some name is ready.
+abbrev pub ClaimGivesJob : Type 0 → Type 0
+ClaimGivesJob Answer =
+    (subject : Subject Answer) (history : History) → is_some (claim_reply subject history) ≡ is_some (least_ready subject.dependencies history)
+
+-- Read: a report tells that a name is absent, or that its verdict is to come, exactly where it is so.
+abbrev pub ReportTellsOthers : Type 0 → Type 0
+ReportTellsOthers Answer =
+    (subject : Subject Answer) (history : History) (name : Name) → AnswersPresent subject
+    → Decides (not (is_present (library_after history) name)) (report_reply subject history name ≡ IsAbsent (version_after history))
+    × Decides (is_present (library_after history) name && not (is_ungrounded subject.dependencies (library_after history) name || stands subject.dependencies history name)) (report_reply subject history name ≡ IsPending (version_after history))

@@ -1,0 +1,7 @@
+//! The laws of the board of verdicts: legal histories, standing verdicts, ready names, installs, and the points of calls.
+//! There is no code: each function here does nothing, and its contract is a law.
+#![tactic(auto)]
+
+pub mod history_laws;
+pub mod point_laws;
+pub mod standing_laws;

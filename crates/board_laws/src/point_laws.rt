@@ -1,0 +1,15 @@
+//! The points of calls through passes.
+
+ghost use Rattle.board_laws.specs.PointLaws.{SeenIsPoint, OthersEndNoClaim, PointKeepsJob, JobsMayBeEnded};
+
+/// What a pass has seen of its claims holds at the point of its call.
+pub fn law_points()
+    ensures seen { SeenIsPoint }
+    ensures claims { OthersEndNoClaim }
+{}
+
+/// The job of a claim that a pass has seen is the same at the point, and the pass that was handed a job may end its claim.
+pub fn law_jobs<A>()
+    ensures kept { PointKeepsJob A }
+    ensures may_end { JobsMayBeEnded A }
+{}

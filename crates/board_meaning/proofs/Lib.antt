@@ -1,0 +1,4 @@
+pub mod Histories
+pub mod Claiming
+pub mod Earlier
+pub mod Computed

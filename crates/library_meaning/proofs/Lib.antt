@@ -1,0 +1,4 @@
+pub mod ClosureKept
+pub mod Computed
+pub mod ComputedWords
+pub mod Resolving

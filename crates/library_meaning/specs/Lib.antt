@@ -1,0 +1,10 @@
+pub mod Faces
+pub mod Closure
+pub mod Resolution
+pub mod StandsFor
+pub mod Words
+pub mod Holding
+pub mod Coherence
+pub mod ClosureLaws
+pub mod Examples
+pub mod WordExamples

@@ -1,0 +1,4 @@
+pub mod Names
+pub mod Log
+pub mod Append
+pub mod LogLaws

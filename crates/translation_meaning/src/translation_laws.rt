@@ -1,0 +1,14 @@
+//! Translation of spines, and composed maps.
+
+ghost use Rattle.translation_meaning.specs.TranslationLaws.{SpineIsTaken, FamilySpineIsTaken, CompositionTranslatesImages};
+
+/// A head with its arguments is translated by its image taking the translated arguments.
+pub fn law_spines()
+    ensures object { SpineIsTaken }
+    ensures family { FamilySpineIsTaken }
+{}
+
+/// A composition has the images of the first map, translated along the second.
+pub fn law_composition()
+    ensures { CompositionTranslatesImages }
+{}

@@ -1,0 +1,3 @@
+pub mod Walking
+pub mod Reaching
+pub mod Agreement
