@@ -1,1 +1,2 @@
 pub mod SharedText
+pub mod Readings
