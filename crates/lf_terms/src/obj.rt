@@ -1,9 +1,9 @@
 //! Objects.
-ghost use Rattle.std.specs.Prelude.{◌≡◌, ◌↔◌, ◌≤◌, ◌∷◌, ◌++◌, [], length, slice_get, IfErr, OnErr, OnOk, IsNone};
+ghost use Rattle.std.specs.Prelude.{◌≡◌, ◌↔◌, ◌≤◌, ◌∷◌, ◌++◌, [], length, slice_get, IfErr, IfOk, OnErr, OnOk, IsNone};
 ghost use Rattle.std.specs.Option.{option_copied};
-ghost use Rattle.lf_terms.specs.Readings.{arguments_of};
+ghost use Rattle.lf_terms.specs.Readings.{arguments_of, read_head, read_object, read_arguments};
 
-use crate::QName;
+use crate::{Memory, QName};
 use std::alloc::Global;
 
 /// The head of an atomic object: a variable, which is the number of binders between it and its own, or a constant.
@@ -11,6 +11,18 @@ use std::alloc::Global;
 pub enum Head {
     Var(u32),
     Con(QName),
+}
+
+impl Head {
+    /// An equal head.
+    pub fn copy(&self, alloc: Global) -> Result<Head, Memory>
+        ensures { IfOk result (λ head. read_head head ≡ read_head self.now) }
+    {
+        match self {
+            Head::Var(index) => Ok(Head::Var(*index)),
+            Head::Con(constant) => Ok(Head::Con(constant.copy(alloc)?)),
+        }
+    }
 }
 
 /// A λ, or a head with its arguments.
@@ -28,6 +40,22 @@ pub struct Spine {
     items: Vec<Obj>,
 }
 
+impl Obj {
+    /// An equal object.
+    #[cycle(copying)]
+    pub fn copy(&self, alloc: Global) -> Result<Obj, Memory>
+        ensures { IfOk result (λ m. read_object m ≡ read_object self.now) }
+    {
+        match self {
+            Obj::Lam(body) => Ok(Obj::Lam(Box::new(alloc, body.copy(alloc)?)?)),
+            Obj::At { head, spine } => Ok(Obj::At {
+                head: head.copy(alloc)?,
+                spine: spine.copy(alloc)?,
+            }),
+        }
+    }
+}
+
 impl Spine {
     /// No arguments. It takes no memory.
     pub fn new(alloc: Global) -> Self
@@ -36,6 +64,23 @@ impl Spine {
         Spine {
             items: Vec::new(alloc),
         }
+    }
+
+    /// No arguments, and room for so many.
+    pub(crate) fn with_capacity(alloc: Global, arguments: usize) -> Result<Self, Memory>
+        ensures { IfOk result (λ spine. arguments_of spine ≡ []) }
+    {
+        Ok(Spine {
+            items: Vec::with_capacity(alloc, arguments)?,
+        })
+    }
+
+    /// Adds an argument at the end.
+    pub(crate) fn add(&mut self, item: Obj) -> Result<(), Memory>
+        ensures { OnOk result (arguments_of self.new ≡ arguments_of self.old ++ item ∷ []) }
+    {
+        self.items.push(item)?;
+        Ok(())
     }
 
     /// Adds an argument at the end, or hands it back for want of memory.
@@ -68,5 +113,17 @@ impl Spine {
         ensures { result.now ≡ arguments_of self.now }
     {
         self.items.as_slice()
+    }
+
+    /// Copies of the arguments.
+    #[cycle(copying)]
+    pub(crate) fn copy(&self, alloc: Global) -> Result<Spine, Memory>
+        ensures { IfOk result (λ spine. read_arguments spine ≡ read_arguments self.now) }
+    {
+        let mut copies = Spine::with_capacity(alloc, self.len())?;
+        for item in self.as_slice() {
+            copies.add(item.copy(alloc)?)?;
+        }
+        Ok(copies)
     }
 }
