@@ -19,9 +19,11 @@ mod obj;
 mod path;
 mod qname;
 mod sameness;
+mod shared;
 mod shift;
 mod simple;
 mod span;
+mod steps;
 mod term_path;
 mod texts;
 
@@ -41,9 +43,11 @@ pub use obj::{Head, Obj, Spine};
 pub use path::Path;
 pub use qname::QName;
 pub use sameness::{same_class, same_fam, same_kind, same_obj, same_value};
+pub use shared::Arc;
 pub use shift::{shift_fam, shift_kind, shift_obj};
 pub use simple::Simple;
 pub use span::Span;
+pub use steps::Steps;
 pub use term_path::TermPath;
 pub use texts::Texts;
 

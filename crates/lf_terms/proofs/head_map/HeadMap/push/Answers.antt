@@ -19,5 +19,5 @@ returns-clause-ok c =
 pub returns-clause-twice : goal.returns-clause-twice
 returns-clause-twice c =
     let absent : is_some (image_of c.args.self.now c.args.name) ≡ false =
-        rw (← c.self.view_is) (sym c.contains_key.ensures ∙ c.if-contains_key.false) in
+    rw (← c.self.view_is) (sym c.contains_key.ensures ∙ c.if-contains_key.false) in
     (λ e. elim c.match-insert.branch [ in-Ok w ↦ absurd (cc) | in-Err w ↦ absurd (cc) ], λ e. absurd (cc))
