@@ -1,8 +1,10 @@
 -- Look-up by name in the tables.
-use Rattle.std.proofs.Common.{◌≡◌, Bool, true, false, ◌||◌, cond, List, [], ◌∷◌, map, Option, Some, None, is_some, refl, sym, ap, ◌∙◌}
+use Rattle.std.specs.Prelude.{slice_get}
+use Rattle.std.proofs.Common.{◌≡◌, ℕ, zero, suc, Bool, true, false, cond, List, [], ◌∷◌, ◌++◌, map, Option, Some, None, is_some, refl, sym, ap, ◌∙◌}
 use Rattle.std.specs.Option.{option_map}
 use Rattle.std.specs.Ordering.{on}
-use Rattle.std.specs.List.{find, list_any, AllByRecursion, IsDistinct}
+use Rattle.std.specs.List.{AllByRecursion, IsDistinct}
+use Rattle.std.specs.Map.{keys_of, lookup, lookup_key}
 use Rattle.lf_meaning.specs.Signatures.{declaration_of, same_constant}
 use Rattle.lf_terms.specs.Readings.{read_constant, read_declaration, read_signature}
 use Rattle.lf_terms.specs.SameName.{same_qname, same_qname_equiv}
@@ -12,23 +14,6 @@ use Rattle.lf_terms.specs.declared.flat_decl.FlatDecl.{FlatDecl}
 use Rattle.lf_terms.specs.declared.flat_sig.Named.{Named}
 
 module _ {X Y : Type 0} (f : X → Y) where
-  -- What is found in a list of images is the image of what is found.
-  pub find_image : (test : Y → Bool) (xs : List X) → option_map f (find (λ x. test (f x)) xs) ≡ find test (map f xs)
-  find_image test [] = refl
-  find_image test (x ∷ xs) = by (test (f x)) (find_image test xs)
-    where
-      by : (b : Bool) → option_map f (find (λ y. test (f y)) xs) ≡ find test (map f xs) → option_map f (cond b (Some x) (find (λ y. test (f y)) xs)) ≡ cond b (Some (f x)) (find test (map f xs))
-      by true rest = refl
-      by false rest = rest
-
-  pub any_image : (test : Y → Bool) (xs : List X) → list_any (λ x. test (f x)) xs ≡ is_some (find test (map f xs))
-  any_image test [] = refl
-  any_image test (x ∷ xs) = by (test (f x)) (any_image test xs)
-    where
-      by : (b : Bool) → list_any (λ y. test (f y)) xs ≡ is_some (find test (map f xs)) → b || list_any (λ y. test (f y)) xs ≡ is_some (cond b (Some (f x)) (find test (map f xs)))
-      by true rest = refl
-      by false rest = rest
-
   all_images : (P : Y → Type 0) (xs : List X) → AllByRecursion (λ x. P (f x)) xs → AllByRecursion P (map f xs)
   all_images P [] h = tt
   all_images P (x ∷ xs) h = (h.0, all_images P xs h.1)
@@ -52,18 +37,42 @@ declared_read (d ∷ decls) q =
     by false false e rest = rest
 
 -- The declarations of a table's entries.
-abbrev pub decls_of : List Named → List FlatDecl
-decls_of = map (λ e. e.decl)
+abbrev pub decls_of : List (Named × Unit {0}) → List FlatDecl
+decls_of es = map (λ e. e.decl) (keys_of es)
 
-pub found_declared : (q : QName) (es : List Named) → option_map (λ e. e.decl) (find (λ e. same_qname q e.decl.name) es) ≡ declared (decls_of es) q
-found_declared q = find_image (λ e. e.decl) (λ d. same_qname q d.name)
+pub found_declared : (q : QName) (es : List (Named × Unit {0})) → option_map (λ e. e.decl) (lookup_key (λ e. same_qname q e.decl.name) es) ≡ declared (decls_of es) q
+found_declared q [] = refl
+found_declared q (e ∷ es) = by (same_qname q e.0.decl.name) (found_declared q es)
+  where
+    by : (b : Bool) → option_map (λ k. k.decl) (lookup_key (λ k. same_qname q k.decl.name) es) ≡ declared (decls_of es) q → option_map (λ k. k.decl) (cond b (Some e.0) (lookup_key (λ k. same_qname q k.decl.name) es)) ≡ cond b (Some e.0.decl) (declared (decls_of es) q)
+    by true rest = refl
+    by false rest = rest
 
-pub contained_declared : (q : QName) (es : List Named) → list_any (λ e. same_qname q e.decl.name) es ≡ is_some (declared (decls_of es) q)
-contained_declared q = any_image (λ e. e.decl) (λ d. same_qname q d.name)
+pub contained_declared : (q : QName) (es : List (Named × Unit {0})) → is_some (lookup (λ e. same_qname q e.decl.name) es) ≡ is_some (declared (decls_of es) q)
+contained_declared q [] = refl
+contained_declared q (e ∷ es) = by (same_qname q e.0.decl.name) (contained_declared q es)
+  where
+    by : (b : Bool) → is_some (lookup (λ k. same_qname q k.decl.name) es) ≡ is_some (declared (decls_of es) q) → is_some (cond b (Some e.1) (lookup (λ k. same_qname q k.decl.name) es)) ≡ is_some (cond b (Some e.0.decl) (declared (decls_of es) q))
+    by true rest = refl
+    by false rest = rest
 
-names_twice : (es : List Named) → map (λ e. read_constant e.decl.name) es ≡ declared_names (decls_of es)
+pub decls_pushed : (es : List (Named × Unit {0})) (k : Named) (v : Unit {0}) → decls_of (es ++ (k, v) ∷ []) ≡ decls_of es ++ k.decl ∷ []
+decls_pushed [] k v = refl
+decls_pushed (e ∷ es) k v = ap (λ ds. e.0.decl ∷ ds) (decls_pushed es k v)
+
+pub item_declared : (es : List (Named × Unit {0})) (i : ℕ) → option_map (λ e. e.0.decl) (slice_get es i) ≡ slice_get (decls_of es) i
+item_declared [] i = refl
+item_declared (e ∷ es) zero = refl
+item_declared (e ∷ es) (suc i) = item_declared es i
+
+-- What is not found is nothing.
+pub found_nothing : {X : Type 0} (found : Option X) → is_some found ≡ false → found ≡ None
+found_nothing None h = refl
+found_nothing (Some x) h = absurd (cc)
+
+names_twice : (es : List Named) → map (λ e. read_constant e.decl.name) es ≡ declared_names (map (λ e. e.decl) es)
 names_twice [] = refl
 names_twice (e ∷ es) = ap (λ names. read_constant e.decl.name ∷ names) (names_twice es)
 
-pub distinct_declared : (es : List Named) → IsDistinct (on (λ e. e.decl.name) same_qname) es → HasDistinctNames (decls_of es)
-distinct_declared es h = rw (← names_twice es) (distinct_images (λ (e : Named). read_constant e.decl.name) same_constant es h)
+pub distinct_declared : (es : List (Named × Unit {0})) → IsDistinct (on (λ e. e.decl.name) same_qname) (keys_of es) → HasDistinctNames (decls_of es)
+distinct_declared es h = rw (← names_twice (keys_of es)) (distinct_images (λ (e : Named). read_constant e.decl.name) same_constant (keys_of es) h)

@@ -12,7 +12,7 @@ ghost use Rattle.lf_terms.specs.Tables.{declared, handed_back, HasDistinctNames}
 ghost use Rattle.lf_terms.specs.declared.flat_sig.PushFault.TheVariants.{Twice};
 
 use crate::{FlatDecl, QName};
-use indexmap::{Equivalent, IndexSet};
+use indexmap::{Equivalent, IndexMap};
 use std::alloc::Global;
 use std::hash::{Hash, Hasher};
 use std::marker::Model;
@@ -62,11 +62,12 @@ impl Equivalent<Named> for &QName {
 /// Declarations of different names, seen as the list of them, in the order in which they came.
 #[derive(Debug, Drop)]
 pub struct FlatSig {
-    decls: IndexSet<Named>,
+    decls: IndexMap<Named, ()>,
 }
 
 impl Model for FlatSig {
     ghost use Rattle.std.specs.Prelude.{List, map};
+    ghost use Rattle.std.specs.Map.{keys_of};
     ghost use Rattle.std.specs.Coded.{codes};
     ghost use Rattle.lf_terms.specs.declared.flat_decl.FlatDecl.{FlatDecl};
     ghost use Rattle.lf_terms.specs.contracts.flat_decl.FlatDecl as e;
@@ -75,7 +76,7 @@ impl Model for FlatSig {
 
     ghost coded = { Prim.hlevel (codes, e.the_row.coded) };
 
-    ghost view = { λ s. map (λ e. e.decl) s.decls.keys };
+    ghost view = { λ s. map (λ e. e.decl) (keys_of s.decls.entries) };
 }
 
 /// Why a declaration was not added. It comes back with the reason.
@@ -92,7 +93,7 @@ impl FlatSig {
         ensures { result ≡ [] }
     {
         FlatSig {
-            decls: IndexSet::new(alloc),
+            decls: IndexMap::new(alloc),
         }
     }
 
@@ -103,12 +104,12 @@ impl FlatSig {
         ensures twice { IsErrOf result (Twice decl) ↔ IsSome (declared self.old decl.name) }
         ensures back { IfErr result (λ fault. handed_back fault ≡ decl) }
     {
-        if self.decls.contains(&decl.name) {
+        if self.decls.contains_key(&decl.name) {
             return Err(PushFault::Twice(decl));
         }
-        match self.decls.insert(Named { decl }) {
+        match self.decls.insert(Named { decl }, ()) {
             Ok(_) => Ok(()),
-            Err(failed) => Err(PushFault::Memory(failed.value.decl)),
+            Err(failed) => Err(PushFault::Memory(failed.value.0.decl)),
         }
     }
 
@@ -117,8 +118,8 @@ impl FlatSig {
         ensures declaration { option_copied result ≡ declared self.now name.now }
         ensures meaning { option_map (λ d. read_declaration d.now) result ≡ declaration_of (read_signature self.now) (read_constant name.now) }
     {
-        match self.decls.get(name) {
-            Some(named) => Some(&named.decl),
+        match self.decls.get_key_value(name) {
+            Some((named, _)) => Some(&named.decl),
             None => None,
         }
     }
@@ -129,7 +130,7 @@ impl FlatSig {
         ensures none { IsNone result ↔ (length self.now ≤ i) }
     {
         match self.decls.get_index(i) {
-            Some(named) => Some(&named.decl),
+            Some((named, _)) => Some(&named.decl),
             None => None,
         }
     }

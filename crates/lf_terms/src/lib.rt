@@ -52,4 +52,10 @@ pub use term_path::TermPath;
 pub use texts::Texts;
 
 #[cfg(test)]
+mod table_tests;
+#[cfg(test)]
+mod term_tests;
+#[cfg(test)]
 mod tests;
+#[cfg(test)]
+mod thread_tests;

@@ -67,7 +67,7 @@ impl Spine {
     }
 
     /// No arguments, and room for so many.
-    pub(crate) fn with_capacity(alloc: Global, arguments: usize) -> Result<Self, Memory>
+    pub fn with_capacity(alloc: Global, arguments: usize) -> Result<Self, Memory>
         ensures { IfOk result (λ spine. arguments_of spine ≡ []) }
     {
         Ok(Spine {
@@ -75,9 +75,10 @@ impl Spine {
         })
     }
 
-    /// Adds an argument at the end.
-    pub(crate) fn add(&mut self, item: Obj) -> Result<(), Memory>
-        ensures { OnOk result (arguments_of self.new ≡ arguments_of self.old ++ item ∷ []) }
+    /// Adds an argument at the end, or lets it go for want of memory.
+    pub fn add(&mut self, item: Obj) -> Result<(), Memory>
+        ensures ok { OnOk result (arguments_of self.new ≡ arguments_of self.old ++ item ∷ []) }
+        ensures err { OnErr result (arguments_of self.new ≡ arguments_of self.old) }
     {
         self.items.push(item)?;
         Ok(())

@@ -11,12 +11,12 @@ use Rattle.lf_terms.proofs.flat_sig.FlatSig.get.Goals.{In-Some, In-None}
 found : (c : In-Some) → Some c.in-Some.named.now.decl ≡ declared c.args.self.now c.args.name.now
 found c =
     let at = ap (option_map (λ (e : Named). e.decl)) c.in-Some.ensures.key in
-    rw (← c.self.view_is) (at ∙ found_declared c.args.name.now c.self.inside.decls.keys)
+    rw (← c.self.view_is) (at ∙ found_declared c.args.name.now c.self.inside.decls.entries)
 
 absent : (c : In-None) → ◌≡◌ {A = Option FlatDecl} None (declared c.args.self.now c.args.name.now)
 absent c =
     let at = ap (option_map (λ (e : Named). e.decl)) c.in-None.ensures.key in
-    rw (← c.self.view_is) (at ∙ found_declared c.args.name.now c.self.inside.decls.keys)
+    rw (← c.self.view_is) (at ∙ found_declared c.args.name.now c.self.inside.decls.entries)
 
 pub returns-in-Some-clause-declaration : goal.returns-in-Some-clause-declaration
 returns-in-Some-clause-declaration c = found c
