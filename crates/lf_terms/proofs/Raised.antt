@@ -1,5 +1,5 @@
 -- Raising of a head with a spine, taken at once.
-use Rattle.std.proofs.Common.{◌≡◌, ℕ, List, map, ap, sym, ◌∙◌}
+use Rattle.std.proofs.Common.{◌≡◌, ℕ, map, ap, sym, ◌∙◌}
 use Rattle.lf_meaning.specs.Terms as terms
 use Rattle.lf_meaning.specs.Raising.{raise, raise_atomic, raise_family}
 use Rattle.lf_meaning.proofs.Spines.{raise_applied, map_applied}

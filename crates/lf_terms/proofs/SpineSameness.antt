@@ -1,8 +1,8 @@
 -- Sameness of heads with spines, taken at once.
-use Rattle.std.proofs.Common.{◌≡◌, ℕ, ◌+◌, List, [], ◌∷◌, length, map, Bool, true, false, ◌&&◌, refl, sym, ap, ap₂, ◌∙◌, arith}
-use Rattle.std.proofs.lemmas.Bool.{and_parts, and_from}
+use Rattle.std.proofs.Common.{◌≡◌, ◌+◌, List, [], ◌∷◌, length, Bool, true, false, ◌&&◌, refl, sym, ap, ap₂, ◌∙◌, arith}
+use Rattle.std.proofs.lemmas.Bool.{and_parts}
 use lib.Pointwise.{pointwise}
-use Rattle.lf_meaning.specs.Terms.{Constant, Object, Atomic, Var, Con, App, AtomicFamily, FamilyCon, FamilyApp, apply_all, family_apply_all, argument_count, family_argument_count}
+use Rattle.lf_meaning.specs.Terms.{Constant, Object, Atomic, App, AtomicFamily, FamilyCon, FamilyApp, apply_all, family_apply_all, argument_count, family_argument_count}
 use Rattle.lf_meaning.specs.Signatures.{same_constant}
 use Rattle.lf_meaning.specs.Equality.{same_object, same_atomic, same_family, same_atomic_family}
 use Rattle.lf_meaning.proofs.Equality.{pointwise_sound, same_object_sound, same_atomic_sound, same_atomic_family_sound}

@@ -25,7 +25,6 @@ use Rattle.lf_terms.specs.declared.class.Class.TheVariants as class
 use Rattle.lf_terms.specs.declared.class.Value.{Value}
 use Rattle.lf_terms.specs.declared.class.Value.TheVariants as value
 use Rattle.lf_terms.specs.declared.flat_decl.FlatDecl.{FlatDecl}
-use Rattle.lf_terms.specs.declared.flat_decl.Image.{Image}
 
 -- A constant.
 abbrev pub read_constant : QName → terms.Constant

@@ -1,4 +1,4 @@
-use Rattle.std.proofs.Common.{◌≡◌, Option, Some, None, ap, sym, ◌∙◌}
+use Rattle.std.proofs.Common.{◌≡◌, Option, Some, None, ap, ◌∙◌}
 use Rattle.std.specs.Option.{option_map}
 use Rattle.lf_terms.specs.Readings.{read_declaration}
 use Rattle.lf_terms.specs.Tables.{declared}

@@ -1,4 +1,4 @@
-use Rattle.std.proofs.Common.{◌≡◌, Option, Some, None, false, is_some, refl, sym, ◌∙◌}
+use Rattle.std.proofs.Common.{◌≡◌, false, is_some, sym, ◌∙◌}
 use Rattle.indexmap.proofs.CallerLemmas.{insert_entry-new}
 use Rattle.lf_terms.specs.SameName.{same_qname}
 use Rattle.lf_terms.specs.Tables.{image_of}
