@@ -1,0 +1,4 @@
+pub mod ReadingEquations
+pub mod Raised
+pub mod SpineSameness
+pub mod Lookup

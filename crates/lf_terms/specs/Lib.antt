@@ -1,1 +1,4 @@
 pub mod SharedText
+pub mod Readings
+pub mod Tables
+pub mod SameName

@@ -1,0 +1,5 @@
+use Rattle.lf_terms.proofs.table_tests.steps_take_no_bytes.Given as goal
+
+-- The ledger of the blank.
+abbrev pub ghosts-counted : goal.ghosts-counted
+ghosts-counted g a = record { name = a.blank.name; parts = a.blank.parts }

@@ -1,0 +1,48 @@
+-- Look-up by name in flat signatures and in maps of constants (this profile).
+use Rattle.std.specs.Prelude.{List, Option, map}
+use Rattle.std.specs.List.{find, IsDistinct}
+use Rattle.std.specs.Map.{keys_of, lookup}
+use Rattle.lf_meaning.specs.Terms.{Constant}
+use Rattle.lf_meaning.specs.Signatures.{same_constant}
+use Rattle.lf_terms.specs.Readings.{read_constant}
+use Rattle.lf_terms.specs.declared.qname.QName.{QName}
+use Rattle.lf_terms.specs.declared.flat_decl.FlatDecl.{FlatDecl}
+use Rattle.lf_terms.specs.declared.flat_decl.Image.{Image}
+use Rattle.lf_terms.specs.declared.flat_sig.PushFault.{PushFault}
+use Rattle.lf_terms.specs.declared.flat_sig.PushFault.TheVariants as push
+use Rattle.lf_terms.specs.declared.head_map.MapFault.{MapFault}
+use Rattle.lf_terms.specs.declared.head_map.MapFault.TheVariants as pair
+
+-- The names that are declared, in order.
+abbrev pub declared_names : List FlatDecl → List Constant
+declared_names = map (λ d. read_constant d.name)
+
+-- No name is declared twice.
+abbrev pub HasDistinctNames : List FlatDecl → Type 0
+HasDistinctNames decls = IsDistinct same_constant (declared_names decls)
+
+-- The declaration of that name.
+abbrev pub declared : List FlatDecl → QName → Option FlatDecl
+declared decls name = find (λ d. same_constant (read_constant name) (read_constant d.name)) decls
+
+-- What a refused push hands back.
+abbrev pub handed_back : PushFault → FlatDecl
+handed_back (push.Twice decl) = decl
+handed_back (push.Memory decl) = decl
+
+-- The constants of a map, in order.
+abbrev pub heads_of : List (QName × Image) → List Constant
+heads_of images = map read_constant (keys_of images)
+
+-- No constant has two images.
+abbrev pub HasDistinctHeads : List (QName × Image) → Type 0
+HasDistinctHeads images = IsDistinct same_constant (heads_of images)
+
+-- The image of a constant.
+abbrev pub image_of : List (QName × Image) → QName → Option Image
+image_of images name = lookup (λ q. same_constant (read_constant name) (read_constant q)) images
+
+-- What a refused push hands back.
+abbrev pub pair_handed_back : MapFault → QName × Image
+pair_handed_back (pair.Twice name image) = (name, image)
+pair_handed_back (pair.Memory name image) = (name, image)

@@ -1,0 +1,83 @@
+//! Maps from constants to their images, in order.
+ghost use Rattle.std.specs.Prelude.{◌≡◌, ◌↔◌, ◌∷◌, ◌++◌, [], length, IfErr, IsErrOf, IsSome, OnErr, OnOk};
+ghost use Rattle.std.specs.Option.{option_copied};
+ghost use Rattle.lf_terms.specs.Tables.{image_of, pair_handed_back, HasDistinctHeads};
+ghost use Rattle.lf_terms.specs.declared.head_map.MapFault.TheVariants.{Twice};
+
+use crate::{Image, QName};
+use indexmap::IndexMap;
+use std::alloc::Global;
+use std::marker::Model;
+
+/// Different constants with their images, seen as the list of the pairs, in the order in which they came.
+#[derive(Debug, Drop)]
+pub struct HeadMap {
+    images: IndexMap<QName, Image>,
+}
+
+impl Model for HeadMap {
+    ghost use Rattle.std.specs.Prelude.{List};
+    ghost use Rattle.std.specs.Coded.{codes};
+    ghost use Rattle.lf_terms.specs.declared.qname.QName.{QName};
+    ghost use Rattle.lf_terms.specs.declared.flat_decl.Image.{Image};
+    ghost use Rattle.lf_terms.specs.contracts.qname.QName as q;
+    ghost use Rattle.lf_terms.specs.contracts.flat_decl.Image as e;
+
+    ghost Value = { List (QName × Image) };
+
+    ghost coded = { Prim.hlevel (codes, q.the_row.coded, e.the_row.coded) };
+
+    ghost view = { λ m. m.images.entries };
+}
+
+/// Why a pair was not added. It comes back with the reason.
+#[derive(Debug, Drop)]
+pub enum MapFault {
+    /// The constant has an image already.
+    Twice(QName, Image),
+    Memory(QName, Image),
+}
+
+impl HeadMap {
+    /// No constants. It takes no memory.
+    pub fn new(alloc: Global) -> HeadMap
+        ensures { result ≡ [] }
+    {
+        HeadMap {
+            images: IndexMap::new(alloc),
+        }
+    }
+
+    /// Adds a constant with its image at the end, or hands both back.
+    pub fn push(&mut self, name: QName, image: Image) -> Result<(), MapFault>
+        ensures ok { OnOk result (self.new ≡ self.old ++ (name, image) ∷ []) }
+        ensures err { OnErr result (self.new ≡ self.old) }
+        ensures twice { IsErrOf result (Twice name image) ↔ IsSome (image_of self.old name) }
+        ensures back { IfErr result (λ fault. pair_handed_back fault ≡ (name, image)) }
+    {
+        if self.images.contains_key(&name) {
+            return Err(MapFault::Twice(name, image));
+        }
+        match self.images.insert(name, image) {
+            Ok(previous) => {
+                drop(previous);
+                Ok(())
+            }
+            Err(failed) => Err(MapFault::Memory(failed.value.0, failed.value.1)),
+        }
+    }
+
+    /// The image of a constant.
+    pub fn get(&self, name: &QName) -> Option<&Image>
+        ensures { option_copied result ≡ image_of self.now name.now }
+    {
+        self.images.get(name)
+    }
+
+    pub fn len(&self) -> usize
+        ensures len { result ≡ length self.now }
+        ensures distinct { HasDistinctHeads self.now }
+    {
+        self.images.len()
+    }
+}

@@ -1,0 +1,10 @@
+//! Simple types.
+
+use crate::QName;
+
+/// A base, named by a family constant, or an arrow.
+#[derive(Debug, Drop)]
+pub enum Simple {
+    Base(QName),
+    Arrow(Box<Simple>, Box<Simple>),
+}

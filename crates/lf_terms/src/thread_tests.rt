@@ -1,0 +1,49 @@
+//! Which types may cross threads: these functions are proved, and nothing is run.
+
+use crate::{Arc, Class, Ctx, Fam, FlatSig, HeadMap, Kind, Obj, Spine, Value};
+
+fn crosses<T: Send + Sync>(_value: &T) {}
+
+fn objects_cross(object: &Obj) {
+    crosses(object);
+}
+
+fn spines_cross(spine: &Spine) {
+    crosses(spine);
+}
+
+fn families_cross(family: &Fam) {
+    crosses(family);
+}
+
+fn kinds_cross(kind: &Kind) {
+    crosses(kind);
+}
+
+fn classes_cross(class: &Class) {
+    crosses(class);
+}
+
+fn values_cross(value: &Value) {
+    crosses(value);
+}
+
+fn contexts_cross(context: &Ctx) {
+    crosses(context);
+}
+
+fn signatures_cross(signature: &FlatSig) {
+    crosses(signature);
+}
+
+fn maps_cross(map: &HeadMap) {
+    crosses(map);
+}
+
+fn shared_signatures_cross(signature: &Arc<FlatSig>) {
+    crosses(signature);
+}
+
+fn shared_values_cross<X: Drop + Send + Sync>(shared: &Arc<X>) {
+    crosses(shared);
+}
