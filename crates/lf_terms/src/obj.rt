@@ -75,6 +75,20 @@ impl Spine {
         })
     }
 
+    /// A spine of the arguments of a vector, from the first to the last. It takes no memory.
+    pub fn from_vec(items: Vec<Obj>) -> Self
+        ensures { arguments_of result ≡ items.items }
+    {
+        Spine { items }
+    }
+
+    /// The vector of the arguments. It takes no memory.
+    pub fn into_vec(self) -> Vec<Obj>
+        ensures { result.items ≡ arguments_of self }
+    {
+        self.items
+    }
+
     /// Adds an argument at the end, or lets it go for want of memory.
     pub fn add(&mut self, item: Obj) -> Result<(), Memory>
         ensures ok { OnOk result (arguments_of self.new ≡ arguments_of self.old ++ item ∷ []) }
