@@ -25,6 +25,8 @@ context_no_misfit sig (c ∷ after) before v a h is = (family_no_misfit sig afte
 pub typed_no_misfit : TypedSubstitutionMeetsNoMisfit
 typed_no_misfit sig typed after before v a h m b j =
     let value : HasSort (sorts_of sig) (erase_context before) v (erase a) = checks_sort sig before v a h in
-    let object : HasSort (sorts_of sig) (erase_context after ++ (erase a ∷ erase_context before)) m (erase b) = subst (λ D. HasSort (sorts_of sig) D m (erase b)) (erase_split after before a (erase a) refl) (checks_sort sig (after ++ (a ∷ before)) m b j.object_checks) in
-    (subst (λ n. NoMisfit v (erase a) n m) (length_erased after) (no_misfit (erase a) (sorts_of sig) (erase_context after) (erase_context before) v m (erase b) value object),
-     family_no_misfit sig after before v a h b j.family_is, context_no_misfit sig after before v a h j.context_is)
+    let object : HasSort (sorts_of sig) (erase_context after ++ (erase a ∷ erase_context before)) m (erase b) = subst (λ D. HasSort (sorts_of sig) D m (erase b)) (erase_split after before a (erase a) refl) (checks_sort sig (after ++ (a ∷ before)) m b j.object_checks) in (
+      subst (λ n. NoMisfit v (erase a) n m) (length_erased after) (no_misfit (erase a) (sorts_of sig) (erase_context after) (erase_context before) v m (erase b) value object),
+      family_no_misfit sig after before v a h b j.family_is,
+      context_no_misfit sig after before v a h j.context_is,
+    )
