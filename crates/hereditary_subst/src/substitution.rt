@@ -71,7 +71,7 @@ pub(crate) fn subst_spine(
     Ok(substituted)
 }
 
-/// The number of binders passed, under one more.
+/// The variable, under one binder more.
 fn inside(at: u32) -> Result<u32, Memory>
     ensures { IfOk result (λ inner. inner ≡ at + 1) }
 {

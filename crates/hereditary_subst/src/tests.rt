@@ -67,6 +67,22 @@ fn doubling(alloc: Global) -> Result<Box<Obj>, Fail> {
     lambda(alloc, g(alloc, &zero, &zero)?)
 }
 
+/// `λ. λ. λ. g 2 0`.
+fn picking(alloc: Global) -> Result<Box<Obj>, Fail> {
+    let two = variable(alloc, 2)?;
+    let zero = variable(alloc, 0)?;
+    let inner = lambda(alloc, g(alloc, &two, &zero)?)?;
+    lambda(alloc, lambda(alloc, inner)?)
+}
+
+/// Variable 0 with one argument three times.
+fn applied_thrice(alloc: Global, argument: &Obj) -> Result<Box<Obj>, Fail> {
+    let head = Head::Var(0);
+    let mut spine = spine_of(alloc, [argument, argument])?;
+    spine.add(argument.copy(alloc)?)?;
+    Ok(Box::new(alloc, Obj::At { head, spine })?)
+}
+
 fn base(alloc: Global) -> Result<Box<Simple>, Fail> {
     Ok(Box::new(alloc, Simple::Base(constant(alloc, "t")?))?)
 }
@@ -78,6 +94,12 @@ fn arrow(alloc: Global, domain: Box<Simple>, codomain: Box<Simple>) -> Result<Bo
 /// `t -> t`.
 fn endomorphism(alloc: Global) -> Result<Box<Simple>, Fail> {
     arrow(alloc, base(alloc)?, base(alloc)?)
+}
+
+/// `t -> t -> t -> t`.
+fn three_arguments(alloc: Global) -> Result<Box<Simple>, Fail> {
+    let two = arrow(alloc, base(alloc)?, endomorphism(alloc)?)?;
+    arrow(alloc, base(alloc)?, two)
 }
 
 fn gives(
@@ -127,15 +149,8 @@ fn arguments_are_taken_from_the_left(rt: HostRuntime) -> Result<(), Fail> {
     let z = named(alloc, "z")?;
     let w = named(alloc, "w")?;
     let y = named(alloc, "y")?;
-    let two = variable(alloc, 2)?;
-    let zero = variable(alloc, 0)?;
-    let inner = lambda(alloc, g(alloc, &two, &zero)?)?;
-    let value = lambda(alloc, lambda(alloc, inner)?)?;
-    let simple = arrow(
-        alloc,
-        base(alloc)?,
-        arrow(alloc, base(alloc)?, endomorphism(alloc)?)?,
-    )?;
+    let value = picking(alloc)?;
+    let simple = three_arguments(alloc)?;
     let mut spine = Vec::new(alloc);
     spine.push(z.copy(alloc)?)?;
     spine.push(w.copy(alloc)?)?;
@@ -143,6 +158,30 @@ fn arguments_are_taken_from_the_left(rt: HostRuntime) -> Result<(), Fail> {
     let reduced = Box::new(alloc, reduce(alloc, &value, &simple, &spine)?)?;
     let wanted = g(alloc, &z, &y)?;
     assert!(rt; same_obj(&reduced, &wanted));
+    Ok(())
+}
+
+#[test]
+fn three_arguments_are_taken(rt: HostRuntime) -> Result<(), Fail> {
+    let alloc = rt.alloc();
+    let z = named(alloc, "z")?;
+    let value = picking(alloc)?;
+    let simple = three_arguments(alloc)?;
+    let into = applied_thrice(alloc, &z)?;
+    let wanted = g(alloc, &z, &z)?;
+    assert!(rt; gives(alloc, &value, &simple, 0, &into, &wanted)?);
+    Ok(())
+}
+
+#[test]
+fn an_atomic_value_keeps_its_argument(rt: HostRuntime) -> Result<(), Fail> {
+    let alloc = rt.alloc();
+    let z = named(alloc, "z")?;
+    let value = variable(alloc, 3)?;
+    let simple = base(alloc)?;
+    let into = applied(alloc, 0, &z)?;
+    let wanted = applied(alloc, 3, &z)?;
+    assert!(rt; gives(alloc, &value, &simple, 0, &into, &wanted)?);
     Ok(())
 }
 

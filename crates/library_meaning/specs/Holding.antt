@@ -48,13 +48,26 @@ abbrev pub SameLevel : Signature → Constant → Class → Type 0
 SameLevel signature constant (FamilyClass family) = IsObjectConstant signature constant
 SameLevel signature constant (KindClass kind) = IsFamilyConstant signature constant (domain_count kind)
 
+-- Read: the object is no constant without arguments; as a value such a one is the same as the constant.
+abbrev pub IsNoConstant : Object → Type 0
+IsNoConstant (Lam body) = ⊤
+IsNoConstant (At (Var index)) = ⊤
+IsNoConstant (At (Con constant)) = ⊥
+IsNoConstant (At (App r argument)) = ⊤
+
+-- Read: the body of a family value is atomic and, where there is no binder, no constant without arguments.
+abbrev pub IsValueBody : ℕ → Family → Type 0
+IsValueBody binders (Pi domain body) = ⊥
+IsValueBody binders (AtFamily (FamilyCon constant)) = 0 < binders
+IsValueBody binders (AtFamily (FamilyApp p argument)) = ⊤
+
 -- Read: a closed value of the level of its class. A family value has as many binders as the kind has domains.
 abbrev pub ValueHolds : Signature → Class → Value → Type 0
 ValueHolds signature class (SameAs constant) = SameLevel signature constant class
-ValueHolds signature (FamilyClass family) (TermValue object) = ObjectHolds signature 0 object
+ValueHolds signature (FamilyClass family) (TermValue object) = ObjectHolds signature 0 object × IsNoConstant object
 ValueHolds signature (KindClass kind) (TermValue object) = ⊥
 ValueHolds signature (FamilyClass family) (FamilyValue binders body) = ⊥
-ValueHolds signature (KindClass kind) (FamilyValue binders body) = (binders ≡ domain_count kind) × FamilyHolds signature binders body
+ValueHolds signature (KindClass kind) (FamilyValue binders body) = (binders ≡ domain_count kind) × FamilyHolds signature binders body × IsValueBody binders body
 
 abbrev pub OptionalValueHolds : Signature → Class → Option Value → Type 0
 OptionalValueHolds signature class None = ⊤
