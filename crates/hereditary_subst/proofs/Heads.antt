@@ -1,6 +1,6 @@
 -- Substitution at a head with a spine, read off values.
 use Rattle.std.proofs.Common.{◌≡◌, ℕ, suc, ◌+◌, ◌<◌, ◌≤◌, List, [], ◌∷◌, ◌++◌, map, take, length, zero, slice_index_or, reverse, refl, ap, sym, subst, ◌∙◌, arith}
-use Rattle.std.proofs.lemmas.List.{take_all, reverse-append, reverse-reverse}
+use Rattle.std.proofs.lemmas.List.{reverse-append, reverse-reverse}
 use Rattle.lf_meaning.specs.Terms as terms
 use Rattle.lf_meaning.specs.Raising.{raise}
 use Rattle.lf_meaning.specs.Substitution.{substitute, substitute_family, reduce, app}
@@ -92,6 +92,12 @@ pub costs_met : (v : terms.Object) (t : terms.Simple) (n i : ℕ) (h : Head) (ms
     → atomic_cost v t (costs t) n (read_head h) ms ≡ reduce_cost (costs t) (raise n 0 v) ms
 costs_met v t n i h ms var same = ap (λ (x : Head). atomic_cost v t (costs t) n (read_head x) ms) var ∙ atomic_cost_met v t (costs t) n i ms same
 
+-- the same, of an argument that was copied
+pub takes_copied : (t : terms.Simple) (value : Obj) (h : Head) (s r : Spine) (argument copy : Obj) → value ≡ objs.At h s → arguments_of r ≡ arguments_of s ++ copy ∷ []
+    → read_object copy ≡ read_object argument → read_object (objs.At h r) ≡ (app t (read_object value) (read_object argument)).value
+takes_copied t value h s r argument copy made pushed copied =
+    takes_at t value h s r copy made pushed ∙ ap (λ (m : terms.Object). (app t (read_object value) m).value) copied
+
 -- what is taken, and what stands behind it
 taken : (f : terms.Object → terms.Object) (items : List Obj) (other : Obj) (i : ℕ) → i < length items
     → map f (take i (read_objects items)) ++ f (read_object (slice_index_or items i other)) ∷ [] ≡ map f (take (suc i) (read_objects items))
@@ -144,31 +150,6 @@ map-reverse (m ∷ ms) =
 
 turned : (ms items : List Obj) → items ≡ reverse ms → reverse (read_objects items) ≡ read_objects ms
 turned ms items e = ap (λ (others : List Obj). reverse (read_objects others)) e ∙ ap reverse (map-reverse ms) ∙ reverse-reverse (read_objects ms)
-
--- one more of the arguments that are copied
-itself : (ms : List terms.Object) → map (λ (m : terms.Object). m) ms ≡ ms
-itself [] = refl
-itself (m ∷ ms) = ap (λ (ns : List terms.Object). m ∷ ns) (itself ms)
-
-pub next_copied : (done items : List Obj) (m item : Obj) (i : ℕ) → item ≡ slice_index_or items i item → i < length items
-    → read_objects done ≡ take i (read_objects items) → read_object m ≡ read_object item
-    → read_objects (done ++ m ∷ []) ≡ take (i + 1) (read_objects items)
-next_copied done items m item i is inside so_far new =
-    next_argument (λ (x : terms.Object). x) done items m item i inside (so_far ∙ sym (itself (take i (read_objects items))))
-    (new ∙ ap read_object is)
-    ∙ itself (take (i + 1) (read_objects items))
-
-take_map : (i : ℕ) (items : List Obj) → take i (read_objects items) ≡ read_objects (take i items)
-take_map zero items = refl
-take_map (suc i) [] = refl
-take_map (suc i) (x ∷ items) = ap (λ (ms : List terms.Object). read_object x ∷ ms) (take_map i items)
-
--- all of them were copied, and turned round
-pub all_copied : (done items turn : List Obj) (i : ℕ) → length items ≤ i → read_objects done ≡ take i (read_objects items) → turn ≡ reverse done
-    → reverse (read_objects turn) ≡ read_objects items
-all_copied done items turn i end so_far back =
-    turned done turn back ∙ so_far
-    ∙ (let whole : take i (read_objects items) ≡ read_objects items = take_map i items ∙ ap read_objects (take_all i items end) in whole)
 
 module _ (t : terms.Simple) (v : terms.Object) (n : ℕ) (s r : Spine) (value : Obj) (items : List Obj)
     (arguments : read_arguments r ≡ map (substitute v t n) (read_arguments s)) (raised : read_object value ≡ raise n 0 v) (back : items ≡ reverse (arguments_of r)) where

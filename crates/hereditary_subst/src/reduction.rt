@@ -56,14 +56,31 @@ pub(crate) fn take_all(
     Ok(applied)
 }
 
+/// As `apply`, over an argument that stays where it is: it is copied only where it comes to stand on a spine.
+fn apply_copied(alloc: Global, value: Obj, simple: &Simple, argument: &Obj) -> Result<Obj, Memory>
+    ensures { IfOk result (λ m. read_object m ≡ (meant.app (read_simple simple.now) (read_object value) (read_object argument.now)).value) }
+{
+    match value {
+        Obj::Lam(inner) => match simple {
+            Simple::Arrow(domain, _) => subst_obj(alloc, argument, domain, 0, &inner),
+            Simple::Base(_) => Ok(Obj::Lam(inner)),
+        },
+        Obj::At { head, mut spine } => {
+            spine.add(argument.copy(alloc)?)?;
+            Ok(Obj::At { head, spine })
+        }
+    }
+}
+
 /// The value, at its simple type, applied hereditarily to the whole spine.
 pub fn reduce(alloc: Global, value: &Obj, simple: &Simple, spine: &[Obj]) -> Result<Obj, Memory>
     ensures { IfOk result (λ m. read_object m ≡ meant.reduce (read_object value.now) (read_simple simple.now) (read_objects spine.now)) }
 {
-    let mut arguments = Vec::with_capacity(alloc, spine.len())?;
+    let mut applied = value.copy(alloc)?;
+    let mut current = simple;
     for argument in spine {
-        arguments.push(argument.copy(alloc)?)?;
+        applied = apply_copied(alloc, applied, current, argument)?;
+        current = codomain(current);
     }
-    arguments.reverse();
-    take_all(alloc, value.copy(alloc)?, simple, arguments)
+    Ok(applied)
 }
