@@ -48,7 +48,7 @@ fn shift_head(alloc: Global, head: &Head, by: u32, from: u32) -> Result<Head, Me
     }
 }
 
-/// The place, under one binder more.
+/// The number of binders passed, under one more.
 fn inside(from: u32) -> Result<u32, Memory>
     ensures { IfOk result (λ inner. inner ≡ from + 1) }
 {
