@@ -3,9 +3,8 @@
 
 use mmt_outside::{NoFolder, OpenGate, StdSink, StdSource};
 use mmt_top::{Status, run};
-use std::env;
-use std::io;
 use std::process::ExitCode;
+use std::{env, io};
 
 /// The exit status where the words cannot be fetched, for another cause than want of memory.
 const NO_WORDS: u8 = 9;
