@@ -14,7 +14,7 @@ fn constant(alloc: Global, text: &str) -> Result<QName, Fail> {
     })
 }
 
-/// Whether a constant of kind `type` with that value was added.
+/// Whether a constant of kind `type` and of that name was added.
 fn declare(alloc: Global, signature: &mut FlatSig, text: &str) -> Result<bool, Fail> {
     let decl = FlatDecl {
         name: constant(alloc, text)?,
