@@ -1,0 +1,2 @@
+pub mod FreePrefixes
+pub mod Computed

@@ -1,0 +1,11 @@
+pub mod Prefixes
+pub mod Constants
+pub mod PrintedTerms
+pub mod PrintedTables
+pub mod EditLines
+pub mod VerdictLines
+pub mod CarriedLines
+pub mod FolderLines
+pub mod GeneratorLines
+pub mod PrintingLaws
+pub mod Examples
