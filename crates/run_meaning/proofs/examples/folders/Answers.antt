@@ -1,0 +1,17 @@
+use Rattle.run_meaning.proofs.FoldersComputed.{empty_folder, other_files, bad_files, places_are_in_files, second_of_name}
+use Rattle.run_meaning.proofs.examples.folders.Goals as goal
+
+pub returns-clause-empty_folder : goal.returns-clause-empty_folder
+returns-clause-empty_folder c = empty_folder
+
+pub returns-clause-other_files : goal.returns-clause-other_files
+returns-clause-other_files c = other_files
+
+pub returns-clause-bad_files : goal.returns-clause-bad_files
+returns-clause-bad_files c = bad_files
+
+pub returns-clause-places_are_in_files : goal.returns-clause-places_are_in_files
+returns-clause-places_are_in_files c = places_are_in_files
+
+pub returns-clause-second_of_name : goal.returns-clause-second_of_name
+returns-clause-second_of_name c = second_of_name

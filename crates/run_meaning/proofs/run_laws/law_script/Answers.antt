@@ -1,0 +1,8 @@
+use Rattle.run_meaning.proofs.Outputs.{output_is_in_order, longer_begins_with_it}
+use Rattle.run_meaning.proofs.run_laws.law_script.Goals as goal
+
+pub returns-clause-order : goal.returns-clause-order
+returns-clause-order c = output_is_in_order
+
+pub returns-clause-longer : goal.returns-clause-longer
+returns-clause-longer c = longer_begins_with_it

@@ -1,0 +1,12 @@
+pub mod Judging
+pub mod ScriptCommands
+pub mod ScriptItems
+pub mod ScriptOutput
+pub mod WordLists
+pub mod Files
+pub mod Folders
+pub mod Generator
+pub mod RunLaws
+pub mod ScriptExamples
+pub mod FolderExamples
+pub mod WordExamples

@@ -1,0 +1,112 @@
+-- The lists of words that are accepted (this profile).
+use Rattle.std.specs.Prelude.{ℕ, Bool, false, List, [], ◌∷◌, ◌-◌, ◌==◌, ◌^◌, ◌&&◌, not, length, take, drop, nat_eq, nat_le, Option, Some, None, is_some, option_map, option_and_then, if◌then◌else◌, codes}
+use Rattle.std.specs.List.{list_all, starts_with}
+use Rattle.std.specs.Str.{bytes_eq}
+use Rattle.std.specs.Str.Parse.{digits_value}
+
+-- Read: a script is played; the modules of a folder are checked; or the generator makes so many modules and edits, beginning
+-- with this number.
+pub data Task : Type 0 where
+  Play : Task
+  CheckFolder : (folder : List ℕ) → Task
+  Generate : (start modules edits : ℕ) → Task
+
+-- Read: what is run, by so many workers.
+pub record Run : Type 0 where
+  pub task : Task
+  pub workers : ℕ
+
+-- Read: the number of workers where the words name none.
+abbrev pub default_workers : ℕ
+default_workers = 4
+
+abbrev pub is_digit : ℕ → Bool
+is_digit byte = nat_le 48 byte && nat_le byte 57
+
+-- Read: decimal digits without a leading zero, `0` itself excepted.
+abbrev pub is_number : List ℕ → Bool
+is_number [] = false
+is_number (digit ∷ []) = is_digit digit
+is_number (digit ∷ second ∷ digits) = not (digit == 48) && list_all is_digit (digit ∷ second ∷ digits)
+
+-- Read: the number that the word writes, where it is one from the first to the second.
+abbrev pub number_between : ℕ → ℕ → List ℕ → Option ℕ
+number_between least greatest word =
+    if is_number word && nat_le least (digits_value 10 word) && nat_le (digits_value 10 word) greatest then Some (digits_value 10 word) else None
+
+abbrev pub workers_of : List ℕ → Option ℕ
+workers_of word = number_between 0 16 word
+
+-- Read: the words are a worker part, `--workers N` or `--workers=N`, for so many workers.
+abbrev pub worker_part : List (List ℕ) → Option ℕ
+worker_part [] = None
+worker_part (word ∷ []) =
+    if starts_with nat_eq word (codes "--workers=") then workers_of (drop 10 word) else None
+worker_part (word ∷ number ∷ []) = if bytes_eq word (codes "--workers") then workers_of number else None
+worker_part (word ∷ number ∷ third ∷ words) = None
+
+-- Read: the word is a folder: it is not empty, and does not begin with `-`.
+abbrev pub is_folder : List ℕ → Bool
+is_folder [] = false
+is_folder (byte ∷ bytes) = not (byte == 45)
+
+abbrev pub play_of : List (List ℕ) → Option Task
+play_of [] = Some Play
+play_of (word ∷ words) = None
+
+abbrev pub check_of : List (List ℕ) → Option Task
+check_of [] = None
+check_of (folder ∷ []) = if is_folder folder then Some (CheckFolder folder) else None
+check_of (folder ∷ second ∷ words) = None
+
+-- Read: START from 0 to 2^31 - 1, MODULES from 1 to 1,000 and EDITS from 0 to 1,000.
+abbrev pub generate_by : List ℕ → List ℕ → List ℕ → Option Task
+generate_by start modules edits =
+    option_and_then (λ (first : ℕ). option_and_then (λ (second : ℕ). option_map (λ (third : ℕ). Generate first second third)
+    (number_between 0 1000 edits)) (number_between 1 1000 modules)) (number_between 0 (2 ^ 31 - 1) start)
+
+abbrev pub generate_of : List (List ℕ) → Option Task
+generate_of [] = None
+generate_of (start ∷ []) = None
+generate_of (start ∷ modules ∷ []) = None
+generate_of (start ∷ modules ∷ edits ∷ []) = generate_by start modules edits
+generate_of (start ∷ modules ∷ edits ∷ fourth ∷ words) = None
+
+-- Read: the task of a command's first word and the words behind it.
+abbrev pub task_of : List ℕ → List (List ℕ) → Option Task
+task_of word words =
+    if bytes_eq word (codes "play") then play_of words
+    else (if bytes_eq word (codes "check") then check_of words
+    else (if bytes_eq word (codes "gen") then generate_of words else None))
+
+-- Read: the words behind the command's first word are these of the command, with this worker part.
+abbrev pub with_part : List ℕ → List (List ℕ) → List (List ℕ) → Option Run
+with_part word words part =
+    option_and_then (λ (task : Task). option_map (λ (workers : ℕ). record { task = task; workers = workers }) (worker_part part)) (task_of word words)
+
+abbrev pub without_part : List ℕ → List (List ℕ) → Option Run
+without_part word words = option_map (λ (task : Task). record { task = task; workers = default_workers }) (task_of word words)
+
+-- Read: a worker part of so many words stands directly behind the first word.
+abbrev pub part_in_front : List ℕ → List (List ℕ) → ℕ → Option Run
+part_in_front word words count = with_part word (drop count words) (take count words)
+
+-- Read: a worker part of so many words stands at the end.
+abbrev pub part_at_end : List ℕ → List (List ℕ) → ℕ → Option Run
+part_at_end word words count = with_part word (take (length words - count) words) (drop (length words - count) words)
+
+abbrev pub first_of : Option Run → Option Run → Option Run
+first_of None second = second
+first_of (Some first) second = Some first
+
+-- Read: what the words ask for, where they are an accepted list: a command with at most one worker part, directly behind its
+-- first word or at the end.
+unfoldable pub run_of : List (List ℕ) → Option Run
+run_of [] = None
+run_of (word ∷ words) =
+    first_of (without_part word words)
+    (first_of (part_in_front word words 1) (first_of (part_in_front word words 2) (first_of (part_at_end word words 1) (part_at_end word words 2))))
+
+-- Read: the words are an accepted list. Any other list prints the usage line.
+abbrev pub is_accepted : List (List ℕ) → Bool
+is_accepted words = is_some (run_of words)
