@@ -160,11 +160,14 @@ unfolding least_ready
 least_is_ready dependencies H m h = (find_found (is_ready dependencies H) (names_of (library_after H)) m h).1
 
 module _ (dependencies : Dependencies) (H : History) (l : IsLegal dependencies H) where
-  pub legal_claim : (c : ℕ) (m : Name) → claim_at H c ≡ Some m → is_ready dependencies (take c H) m ≡ true
-  legal_claim c m h =
+  pub legal_least : (c : ℕ) (m : Name) → claim_at H c ≡ Some m → least_ready dependencies (take c H) ≡ Some m
+  legal_least c m h =
       let q = claim_entry H c m h in
       let f = l c q.0 q.1 in
-      least_is_ready dependencies (take c H) m (event_claim dependencies (take c H) f.call q.0.event m (follows_event dependencies (take c H) q.0 f) q.2)
+      event_claim dependencies (take c H) f.call q.0.event m (follows_event dependencies (take c H) q.0 f) q.2
+
+  pub legal_claim : (c : ℕ) (m : Name) → claim_at H c ≡ Some m → is_ready dependencies (take c H) m ≡ true
+  legal_claim c m h = least_is_ready dependencies (take c H) m (legal_least c m h)
 
   pub legal_install : (p c : ℕ) (e : Entry) → slice_get H p ≡ Some e → installed_claim e.event ≡ Some c
       → (may_call (take p H) e.pass (InstallCall c) ≡ true) × (install_reply dependencies (take p H) c ≡ IsInstalled)

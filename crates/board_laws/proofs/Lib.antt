@@ -4,5 +4,6 @@ pub mod Resting
 pub mod Following
 pub mod Progress
 pub mod Pointing
+pub mod Entries
 pub mod Told
 pub mod Rising

@@ -1,5 +1,5 @@
 -- Points: what other passes leave as it was.
-use Rattle.std.proofs.Common.{◌≡◌, ℕ, zero, suc, ◌+◌, ◌<◌, Bool, true, false, not, [], ◌∷◌, ◌++◌, length, take, slice_get, nat_eq, Option, Some, None, option_map, option_and_then, option_to_list, is_some, ◌&&◌, inl, inr, ⊎_elim, refl, sym, ap, ap₂, ◌∙◌, subst, true≢false, arith, eqb-true, eq-eqb, append-nil}
+use Rattle.std.proofs.Common.{◌≡◌, ℕ, zero, suc, ◌+◌, ◌<◌, Bool, true, false, not, [], ◌∷◌, ◌++◌, length, take, slice_get, nat_eq, Option, Some, None, option_map, option_and_then, option_to_list, is_some, ◌&&◌, inl, inr, ⊎_elim, refl, sym, ap, ap₂, ◌∙◌, subst, true≢false, arith, eqb-true, eq-eqb, append-nil, append_assoc, cond}
 use Rattle.std.proofs.lemmas.Bool.{cases_Bool, or_from, and_parts, and_from, not_from_false}
 use Rattle.std.proofs.lemmas.List.Folds.{list_any-append}
 use Rattle.log_meaning.specs.Names.{Name, Text}
@@ -12,10 +12,11 @@ use Rattle.board_meaning.specs.Claims.{claimed_name, claim_at, ends_claim, is_en
 use Rattle.board_meaning.specs.Ready.{is_closed, least_ready}
 use Rattle.board_meaning.specs.Machine.{Job, answers_of, job_after, job_of, claim_reply, edit_reply, Installed, IsInstalled, IsStale, install_event, install_reply, Call, EditCall, ClaimCall, InstallCall, ReleaseCall, CloseCall, event_of, is_by, may_call, after_call}
 use Rattle.board_meaning.specs.Legal.{MayFollow, IsLegal}
-use Rattle.board_meaning.specs.Points.{are_of_others, IsPoint}
+use Rattle.board_meaning.specs.Points.{entries_of, are_of_others, IsPoint, BoardCall, Makes, Reports, AsksAnswers, AsksClosed, Reply, may_ask, added_by, Happens}
+use Rattle.board_laws.specs.PointLaws.{IsSeenAfter}
 use Rattle.log_meaning.proofs.Places.{place_within, get_front, get_last, get_take, get_behind, take_front, take_length, length_take}
 use Rattle.board_meaning.proofs.Claiming.{claim_within, claim_front}
-use Rattle.board_laws.proofs.Legality.{edit_event_edit, close_event, claim_event, follows_event}
+use Rattle.board_laws.proofs.Legality.{edit_event_edit, close_event, claim_event, follows_event, legal_call}
 
 pub seen_point : (dependencies : Dependencies) (seen : History) (pass : ℕ) → IsLegal dependencies seen → IsPoint dependencies seen pass seen
 seen_point dependencies seen pass l = record { later = []; begins = sym (append-nil seen); others = refl; legal = l }
@@ -25,7 +26,7 @@ install_ends c d IsInstalled h = eqb-true c d h
 install_ends c d (IsStale n k) h = eqb-true c d h
 
 -- what ends a claim is an install or a release of it
-ending_call : (dependencies : Dependencies) (H : History) (pass : ℕ) (call : Call) (e : Event) (c : ℕ) → event_of dependencies H call ≡ Some e → ends_claim c e ≡ true → may_call H pass call ≡ true
+pub ending_call : (dependencies : Dependencies) (H : History) (pass : ℕ) (call : Call) (e : Event) (c : ℕ) → event_of dependencies H call ≡ Some e → ends_claim c e ≡ true → may_call H pass call ≡ true
     → may_call H pass (InstallCall c) ≡ true
 unfolding event_of may_call
 ending_call dependencies H pass (EditCall edit) e c h g m = absurd (true≢false (sym g ∙ ap (ends_claim c) (edit_event_edit edit (edit_reply H edit) e h)))
@@ -42,7 +43,7 @@ by_same : (o : Option Entry) (p q : ℕ) → is_by p o ≡ true → is_by q o �
 by_same None p q h g = absurd (true≢false (sym h))
 by_same (Some e) p q h g = eqb-true p e.pass h ∙ sym (eqb-true q e.pass g)
 
-by_within : (xs : History) (i p : ℕ) → is_by p (slice_get xs i) ≡ true → i < length xs
+pub by_within : (xs : History) (i p : ℕ) → is_by p (slice_get xs i) ≡ true → i < length xs
 by_within [] i p h = absurd (true≢false (sym h))
 by_within (x ∷ xs) zero p h = omega arith
 by_within (x ∷ xs) (suc i) p h = let e = by_within xs i p h in omega (arith, e)
@@ -103,18 +104,80 @@ module _ (dependencies : Dependencies) (seen later : History) (pass c : ℕ) (le
       not_true false h = refl
 
 pub point_ends_no_claim : (dependencies : Dependencies) (seen : History) (pass : ℕ) (point : History) (c : ℕ) → IsPoint dependencies seen pass point
-    → may_call seen pass (InstallCall c) ≡ true → may_call point pass (InstallCall c) ≡ true
-point_ends_no_claim dependencies seen pass point c p m =
-    subst (λ z. may_call z pass (InstallCall c) ≡ true) (sym p.begins)
-    (open_later dependencies seen p.later pass c (subst (IsLegal dependencies) p.begins p.legal) p.others m)
+    → (may_call seen pass (InstallCall c) ≡ true → may_call point pass (InstallCall c) ≡ true)
+    × (may_call seen pass (ReleaseCall c) ≡ true → may_call point pass (ReleaseCall c) ≡ true)
+unfolding may_call
+point_ends_no_claim dependencies seen pass point c p = (stays, stays)
+  where
+    stays : may_call seen pass (InstallCall c) ≡ true → may_call point pass (InstallCall c) ≡ true
+    stays m =
+        subst (λ z. may_call z pass (InstallCall c) ≡ true) (sym p.begins)
+        (open_later dependencies seen p.later pass c (subst (IsLegal dependencies) p.begins p.legal) p.others m)
 
 pub point_keeps_job : {Answer : Type 0} (subject : Subject Answer) (seen : History) (pass : ℕ) (point : History) (c : ℕ) (n : Name) → IsPoint subject.dependencies seen pass point
-    → claim_at seen c ≡ Some n → job_of subject point c ≡ job_of subject seen c
+    → claim_at seen c ≡ Some n → (job_of subject point c ≡ job_of subject seen c) × (take c point ≡ take c seen)
 unfolding job_of
 point_keeps_job subject seen pass point c n p h =
     let within = claim_within seen c n h in
-    ap (λ z. option_and_then (job_after subject (take c z)) (claim_at z c)) p.begins
-    ∙ ap₂ (λ B o. option_and_then (job_after subject B) o) (take_front seen p.later c (omega (arith, within))) (claim_front seen p.later c within)
+    let before : take c (seen ++ p.later) ≡ take c seen = take_front seen p.later c (omega (arith, within)) in (
+      ap (λ z. option_and_then (job_after subject (take c z)) (claim_at z c)) p.begins
+          ∙ ap₂ (λ B o. option_and_then (job_after subject B) o) before (claim_front seen p.later c within),
+      ap (take c) p.begins ∙ before,
+    )
+
+-- ---- a pass's own entries
+
+own_append : (pass : ℕ) (xs ys : History) → entries_of pass (xs ++ ys) ≡ entries_of pass xs ++ entries_of pass ys
+own_append pass [] ys = refl
+own_append pass (x ∷ xs) ys = by (nat_eq pass x.pass) (own_append pass xs ys)
+  where
+    by : (b : Bool) → entries_of pass (xs ++ ys) ≡ entries_of pass xs ++ entries_of pass ys
+        → cond b (x ∷ entries_of pass (xs ++ ys)) (entries_of pass (xs ++ ys)) ≡ cond b (x ∷ entries_of pass xs) (entries_of pass xs) ++ entries_of pass ys
+    by true e = ap (λ (zs : History). x ∷ zs) e
+    by false e = e
+
+others_have_none : (pass : ℕ) (xs : History) → are_of_others pass xs ≡ true → entries_of pass xs ≡ []
+others_have_none pass [] h = refl
+others_have_none pass (x ∷ xs) h = let q = and_parts (not (nat_eq pass x.pass)) (are_of_others pass xs) h in by (nat_eq pass x.pass) q.0 (others_have_none pass xs q.1)
+  where
+    by : (b : Bool) → not b ≡ true → entries_of pass xs ≡ [] → cond b (x ∷ entries_of pass xs) (entries_of pass xs) ≡ []
+    by true g e = absurd (true≢false (sym g))
+    by false g e = e
+
+pub point_has_own : (dependencies : Dependencies) (seen : History) (pass : ℕ) (point : History) → IsPoint dependencies seen pass point → entries_of pass point ≡ entries_of pass seen
+point_has_own dependencies seen pass point p =
+    ap (entries_of pass) p.begins ∙ own_append pass seen p.later ∙ ap (λ (zs : History). entries_of pass seen ++ zs) (others_have_none pass p.later p.others) ∙ append-nil (entries_of pass seen)
+
+-- what a call adds is its pass's own
+added_own : (dependencies : Dependencies) (H : History) (pass : ℕ) (call : BoardCall) → entries_of pass (added_by dependencies H pass call) ≡ added_by dependencies H pass call
+added_own dependencies H pass (Makes call) = by (event_of dependencies H call)
+  where
+    by : (o : Option Event) → entries_of pass (option_to_list (option_map (entry_of H pass) o)) ≡ option_to_list (option_map (entry_of H pass) o)
+    by None = refl
+    by (Some event) = ap (λ (b : Bool). cond b (entry_of H pass event ∷ []) []) (eq-eqb pass pass refl)
+added_own dependencies H pass (Reports name) = refl
+added_own dependencies H pass (AsksAnswers name) = refl
+added_own dependencies H pass AsksClosed = refl
+
+added_legal : (dependencies : Dependencies) (H : History) (pass : ℕ) (call : BoardCall) → IsLegal dependencies H → may_ask H pass call ≡ true → IsLegal dependencies (H ++ added_by dependencies H pass call)
+unfolding after_call
+added_legal dependencies H pass (Makes call) l m = legal_call dependencies H pass call l m
+added_legal dependencies H pass (Reports name) l m = subst (IsLegal dependencies) (sym (append-nil H)) l
+added_legal dependencies H pass (AsksAnswers name) l m = subst (IsLegal dependencies) (sym (append-nil H)) l
+added_legal dependencies H pass AsksClosed l m = subst (IsLegal dependencies) (sym (append-nil H)) l
+
+pub calls_are_seen : {Answer : Type 0} (subject : Subject Answer) (seen : History) (pass : ℕ) (call : BoardCall) (reply : Reply Answer) (after : History)
+    → (h : Happens subject seen pass call reply after) → IsSeenAfter subject seen pass call h.point after
+calls_are_seen subject seen pass call reply after h =
+    let added : History = added_by subject.dependencies h.point pass call in
+    record {
+      legal = subst (IsLegal subject.dependencies) (sym h.sees) (added_legal subject.dependencies h.point pass call h.at_point.legal h.may);
+      later = h.at_point.later ++ added;
+      begins = h.sees ∙ ap (λ (z : History). z ++ added) h.at_point.begins ∙ append_assoc seen h.at_point.later added;
+      own = ap (entries_of pass) h.sees ∙ own_append pass h.point added
+          ∙ ap (λ (z : History). z ++ entries_of pass added) (point_has_own subject.dependencies seen pass h.point h.at_point)
+          ∙ ap (λ (z : History). entries_of pass seen ++ z) (added_own subject.dependencies h.point pass call);
+    }
 
 -- ---- the job of a claim
 

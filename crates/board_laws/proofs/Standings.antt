@@ -29,6 +29,11 @@ installed_is (Stale d n k) c h = absurd (cc)
 installed_is (Release d) c h = absurd (cc)
 installed_is Close c h = absurd (cc)
 
+-- an install in a legal history was replied to as installed
+pub installed_entry : (dependencies : Dependencies) (H : History) → IsLegal dependencies H → (p c : ℕ) (e : Entry) → slice_get H p ≡ Some e → e.event ≡ Install c
+    → install_reply dependencies (take p H) c ≡ IsInstalled
+installed_entry dependencies H l p c e s g = (legal_install dependencies H l p c e s (ap installed_claim g)).1
+
 -- ---- members of what a list gives, with their places
 
 in_option : {A : Type 0} (o : Option A) (xs : List A) (x : A) → Member x (cons_option o xs) → (o ≡ Some x) ⊎ Member x xs

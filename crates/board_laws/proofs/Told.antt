@@ -1,24 +1,25 @@
 -- The laws in the words of their statements.
-use Rattle.std.proofs.Common.{◌≡◌, ◌≢◌, ℕ, suc, ◌<◌, Bool, true, false, not, List, [], ◌∷◌, ◌++◌, take, slice_get, Option, Some, None, option_map, option_and_then, option_to_list, length, is_some, ◌||◌, ◌&&◌, inl, inr, refl, sym, ap, ◌∙◌, subst, true≢false, eqb-true, append-nil, Decides}
-use Rattle.std.specs.List.{list_any}
-use Rattle.std.proofs.lemmas.Bool.{and_parts, not_from_false, false_from_ne_true}
+use Rattle.std.proofs.Common.{◌≡◌, ◌≢◌, ℕ, suc, Bool, true, false, not, List, [], ◌∷◌, ◌++◌, take, slice_get, find, cond, arith, Option, Some, None, option_map, option_and_then, option_to_list, length, is_some, ◌||◌, ◌&&◌, refl, sym, ap, ◌∙◌, subst, true≢false, eqb-true, append-nil, Decides}
+use Rattle.std.specs.List.{list_any, list_all}
+use Rattle.std.proofs.lemmas.Bool.{and_parts, and_from, not_from_false, false_from_ne_true}
 use Rattle.log_meaning.specs.Names.{Text, Name, same_name, is_among}
 use Rattle.log_meaning.specs.Log.{Edit, edited_name, is_present, text_of}
 use Rattle.log_meaning.specs.Append.{Made, append_answer}
 use Rattle.walk_meaning.specs.Walks.{Dependencies, is_ungrounded}
 use Rattle.walk_meaning.specs.Reach.{reach}
 use Rattle.walk_meaning.specs.Subject.{Subject, KeepsToReach, AnswersPresent}
-use Rattle.log_meaning.proofs.Members.{Member, any_none}
+use Rattle.log_meaning.proofs.Members.{Member, any_none, all_at, find_found}
 use Rattle.log_meaning.proofs.Order.{among_member, member_among, same_sound}
 use Rattle.board_meaning.specs.Events.{EditMade, Install, Entry, History, edit_of, edit_in, log_of, library_after, version_after, stamp_after}
-use Rattle.board_meaning.specs.Claims.{claim_at, is_open, Input, inputs_of, input_names, is_claim_of, inputs_after}
+use Rattle.board_meaning.specs.Claims.{claim_at, is_open, Input, inputs_of, inputs_by, input_names, is_claim_of, inputs_after, is_unchanged, first_changed}
 use Rattle.board_meaning.specs.Standing.{installed_claim, is_edited_after, is_unedited, stands, Stands}
 use Rattle.board_meaning.specs.Ready.{is_ready, least_ready}
-use Rattle.board_meaning.specs.Machine.{Job, IsInstalled, IsStale, install_reply, IsVerdict, told_by, report_reply, is_by, may_call, answers_of, job_after, claim_reply, IsAbsent, IsPending}
+use Rattle.board_meaning.specs.Machine.{Job, IsInstalled, IsStale, install_reply, IsVerdict, told_by, report_reply, is_by, may_call, answers_of, job_after, claim_reply, IsAbsent, IsPending, is_known, installed_by}
 use Rattle.board_meaning.specs.Legal.{MayFollow, IsLegal}
 use Rattle.board_laws.specs.HistoryLaws.{log_with}
+use Rattle.board_laws.specs.StandingLaws.{IsFirstChanged, IsToldVerdict}
 use Rattle.board_meaning.proofs.Histories.{log_last}
-use Rattle.board_meaning.proofs.Claiming.{names_are, stale_input, unedited_installed, installed_unedited}
+use Rattle.board_meaning.proofs.Claiming.{names_are, changed_later, unedited_installed, installed_unedited, installed_unchanged}
 use Rattle.board_laws.proofs.Legality.{legal_edit, event_install, follows_event, least_is_ready}
 use Rattle.board_laws.proofs.Standings.{answer_now, reach_now, ready_parts}
 use Rattle.log_meaning.proofs.Libraries.{library_ascending}
@@ -75,29 +76,87 @@ install_makes_told dependencies H e c n l f h =
     install_makes dependencies H l e n c (ap edit_of h) (ap installed_claim h)
     (and_parts (is_open H c) (is_by e.pass (slice_get H c)) (subst (λ z. may_call H e.pass z ≡ true) q.0 f.may)).0 q.1
 
-member_place : {A : Type 0} (xs : List A) (x : A) → Member x xs → (i : ℕ) × (slice_get xs i ≡ Some x)
-member_place [] x m = absurd m
-member_place (y ∷ xs) x (inl e) = (0, ap Some (sym e))
-member_place (y ∷ xs) x (inr m) = let q = member_place xs x m in (suc q.0, q.1)
+-- the first element that passes a test, with its place, in front of which none passes
+found_by : {A : Type 0} (p : A → Bool) (y : A) (ys : List A) (x : A) (b : Bool)
+    → (find (λ z. not (p z)) ys ≡ Some x → (i : ℕ) × (slice_get ys i ≡ Some x) × (list_all p (take i ys) ≡ true))
+    → p y ≡ b → cond (not b) (Some y) (find (λ z. not (p z)) ys) ≡ Some x → (i : ℕ) × (slice_get (y ∷ ys) i ≡ Some x) × (list_all p (take i (y ∷ ys)) ≡ true)
+found_by p y ys x true h t e = let q = h e in (suc q.0, q.1, and_from (p y) (list_all p (take q.0 ys)) t q.2)
+found_by p y ys x false h t e = (0, e, refl)
 
-pub stale_tells : (dependencies : Dependencies) (H : History) (c : ℕ) (m n : Name) (newer : ℕ) → claim_at H c ≡ Some m → install_reply dependencies H c ≡ IsStale n newer
-    → (newer ≡ stamp_after H n) × (i : ℕ) × (input : Input) × (slice_get (inputs_of dependencies H c) i ≡ Some input) × (input.name ≡ n) × (input.stamp < newer)
-stale_tells dependencies H c m n newer h r =
-    let q = stale_input dependencies H c m h n newer r in
-    let p = member_place (inputs_of dependencies H c) q.1 q.2 in
-    (q.0, p.0, q.1, p.1, q.3, q.4)
+found_place : {A : Type 0} (p : A → Bool) (xs : List A) (x : A) → find (λ y. not (p y)) xs ≡ Some x
+    → (i : ℕ) × (slice_get xs i ≡ Some x) × (list_all p (take i xs) ≡ true)
+found_place p [] x e = absurd (cc)
+found_place p (y ∷ ys) x e = found_by p y ys x (p y) (λ h. found_place p ys x h) refl e
+
+-- inputs of what is no claim are none
+claim_or_none : (dependencies : Dependencies) (H : History) (c : ℕ) (x : Input) → Member x (inputs_of dependencies H c) → (m : Name) × (claim_at H c ≡ Some m)
+unfolding inputs_of
+claim_or_none dependencies H c x i = by (claim_at H c) refl i
+  where
+    by : (o : Option Name) → claim_at H c ≡ o → Member x (inputs_by dependencies (take c H) o) → (m : Name) × (claim_at H c ≡ Some m)
+    by None e k = absurd k
+    by (Some m) e k = (m, e)
+
+pub stale_tells : (dependencies : Dependencies) (H : History) (c : ℕ) (n : Name) (newer : ℕ) → install_reply dependencies H c ≡ IsStale n newer → IsFirstChanged dependencies H c n newer
+unfolding install_reply first_changed
+stale_tells dependencies H c n newer r = by (find (λ (input : Input). not (is_unchanged H input)) (inputs_of dependencies H c)) refl r
+  where
+    by : (o : Option Input) → find (λ (input : Input). not (is_unchanged H input)) (inputs_of dependencies H c) ≡ o
+        → installed_by (option_map (λ (input : Input). record { name = input.name; stamp = stamp_after H input.name }) o) ≡ IsStale n newer
+        → IsFirstChanged dependencies H c n newer
+    by None e g = absurd (cc)
+    by (Some x) e g =
+        let at = found_place (is_unchanged H) (inputs_of dependencies H c) x e in
+        let found = find_found (λ (input : Input). not (is_unchanged H input)) (inputs_of dependencies H c) x e in
+        let claim = claim_or_none dependencies H c x found.0 in
+        let a : x.name ≡ n = cc in
+        let b : stamp_after H x.name ≡ newer = cc in
+        let later = changed_later dependencies H c claim.0 claim.1 x found.0 found.1 in
+        record {
+          place = at.0;
+          input = x;
+          stands_there = at.1;
+          named = a;
+          present = sym b ∙ ap (stamp_after H) a;
+          greater = omega (arith, b, later);
+          first = at.2;
+        }
+
+pub unchanged_decides : (dependencies : Dependencies) (H : History) (c : ℕ) → Decides (list_all (is_unchanged H) (inputs_of dependencies H c)) (install_reply dependencies H c ≡ IsInstalled)
+unfolding install_reply first_changed
+unchanged_decides dependencies H c = (λ all. by (find (λ (input : Input). not (is_unchanged H input)) (inputs_of dependencies H c)) refl all, installed_unchanged dependencies H c)
+  where
+    by : (o : Option Input) → find (λ (input : Input). not (is_unchanged H input)) (inputs_of dependencies H c) ≡ o → list_all (is_unchanged H) (inputs_of dependencies H c) ≡ true
+        → installed_by (option_map (λ (input : Input). record { name = input.name; stamp = stamp_after H input.name }) o) ≡ IsInstalled
+    by None e all = refl
+    by (Some x) e all =
+        let found = find_found (λ (input : Input). not (is_unchanged H input)) (inputs_of dependencies H c) x e in
+        absurd (true≢false (sym found.1 ∙ ap not (all_at (is_unchanged H) (inputs_of dependencies H c) x all found.0)))
 
 pub installed_decides : (dependencies : Dependencies) (H : History) (c : ℕ) (m : Name) → claim_at H c ≡ Some m → Decides (is_unedited dependencies H c) (install_reply dependencies H c ≡ IsInstalled)
 installed_decides dependencies H c m h = (unedited_installed dependencies H c m h, installed_unedited dependencies H c m h)
 
-pub report_tells : {Answer : Type 0} (subject : Subject Answer) (H : History) (n : Name) (answer : Answer) (version : ℕ) → report_reply subject H n ≡ IsVerdict answer version → subject.answer (library_after H) n ≡ Some answer
+pub report_tells : {Answer : Type 0} (subject : Subject Answer) (H : History) (n : Name) (answer : Answer) (version : ℕ)
+    → (report_reply subject H n ≡ IsVerdict answer version → IsToldVerdict subject H n answer version)
+    × (IsToldVerdict subject H n answer version → report_reply subject H n ≡ IsVerdict answer version)
 unfolding report_reply
-report_tells {Answer = Answer} subject H n answer version r = by (is_ungrounded subject.dependencies (library_after H) n || stands subject.dependencies H n) (subject.answer (library_after H) n) r
+report_tells {Answer = Answer} subject H n answer version = (
+  λ r. by (is_present (library_after H) n) (is_known subject.dependencies H n) (subject.answer (library_after H) n) refl refl refl r,
+  λ t. ap (λ (b : Bool). told_by (version_after H) b (is_known subject.dependencies H n) (subject.answer (library_after H) n)) t.present
+      ∙ ap (λ (b : Bool). told_by (version_after H) true b (subject.answer (library_after H) n)) t.known
+      ∙ ap (λ (o : Option Answer). told_by (version_after H) true true o) t.told
+      ∙ ap (λ (v : ℕ). IsVerdict answer v) (sym t.now),
+)
   where
-    by : (known : Bool) (o : Option Answer) → told_by (version_after H) known o ≡ IsVerdict answer version → o ≡ Some answer
-    by known None e = absurd (cc)
-    by true (Some a) e = let q : a ≡ answer = cc in ap Some q
-    by false (Some a) e = absurd (cc)
+    by : (present known : Bool) (o : Option Answer) → is_present (library_after H) n ≡ present → is_known subject.dependencies H n ≡ known → subject.answer (library_after H) n ≡ o
+        → told_by (version_after H) present known o ≡ IsVerdict answer version → IsToldVerdict subject H n answer version
+    by false known o p k a e = absurd (cc)
+    by true false o p k a e = absurd (cc)
+    by true true None p k a e = absurd (cc)
+    by true true (Some x) p k a e =
+        let same : x ≡ answer = cc in
+        let now : version_after H ≡ version = cc in
+        record { present = p; known = k; told = a ∙ ap Some same; now = sym now }
 
 -- ---- replies to claims and reports
 
@@ -120,15 +179,14 @@ claim_gives_job {Answer = Answer} subject H = by (least_ready subject.dependenci
 
 pub report_tells_others : {Answer : Type 0} (subject : Subject Answer) (H : History) (n : Name) → AnswersPresent subject
     → Decides (not (is_present (library_after H) n)) (report_reply subject H n ≡ IsAbsent (version_after H))
-    × Decides (is_present (library_after H) n && not (is_ungrounded subject.dependencies (library_after H) n || stands subject.dependencies H n)) (report_reply subject H n ≡ IsPending (version_after H))
+    × Decides (is_present (library_after H) n && not (is_known subject.dependencies H n)) (report_reply subject H n ≡ IsPending (version_after H))
 unfolding report_reply
 report_tells_others {Answer = Answer} subject H n a =
-    by (is_ungrounded subject.dependencies (library_after H) n || stands subject.dependencies H n) (subject.answer (library_after H) n) (is_present (library_after H) n) (a (library_after H) n (library_ascending (log_of H)))
+    by (is_known subject.dependencies H n) (subject.answer (library_after H) n) (is_present (library_after H) n) (a (library_after H) n (library_ascending (log_of H)))
   where
     by : (known : Bool) (o : Option Answer) (present : Bool) → is_some o ≡ present
-        → Decides (not present) (told_by (version_after H) known o ≡ IsAbsent (version_after H)) × Decides (present && not known) (told_by (version_after H) known o ≡ IsPending (version_after H))
+        → Decides (not present) (told_by (version_after H) present known o ≡ IsAbsent (version_after H)) × Decides (present && not known) (told_by (version_after H) present known o ≡ IsPending (version_after H))
     by known None true e = absurd (true≢false (sym e))
-    by known None false e = ((λ h. refl, λ h. refl), (λ h. absurd (true≢false (sym h)), λ h. absurd (cc)))
+    by known o false e = ((λ h. refl, λ h. refl), (λ h. absurd (true≢false (sym h)), λ h. absurd (cc)))
     by true (Some x) true e = ((λ h. absurd (true≢false (sym h)), λ h. absurd (cc)), (λ h. absurd (true≢false (sym h)), λ h. absurd (cc)))
     by false (Some x) true e = ((λ h. absurd (true≢false (sym h)), λ h. absurd (cc)), (λ h. refl, λ h. refl))
-    by known (Some x) false e = absurd (true≢false e)

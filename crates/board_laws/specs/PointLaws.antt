@@ -1,30 +1,52 @@
 -- Laws of the points of calls (this profile).
-use Rattle.std.specs.Prelude.{◌≡◌, ℕ, true, Some}
+use Rattle.std.specs.Prelude.{◌≡◌, ℕ, true, ◌++◌, take, Some}
 use Rattle.log_meaning.specs.Names.{Name}
 use Rattle.walk_meaning.specs.Walks.{Dependencies}
 use Rattle.walk_meaning.specs.Subject.{Subject}
 use Rattle.board_meaning.specs.Events.{History}
 use Rattle.board_meaning.specs.Claims.{claim_at}
-use Rattle.board_meaning.specs.Machine.{Job, job_of, claim_reply, ClaimCall, InstallCall, may_call, after_call}
+use Rattle.board_meaning.specs.Machine.{Job, job_of, claim_reply, ClaimCall, InstallCall, ReleaseCall, may_call, after_call}
 use Rattle.board_meaning.specs.Legal.{IsLegal}
-use Rattle.board_meaning.specs.Points.{IsPoint}
+use Rattle.board_meaning.specs.Points.{entries_of, IsPoint, BoardCall, Reply, added_by, Happens}
 
 -- Read: where no other pass has made an entry, what a pass has seen is the point.
 abbrev pub SeenIsPoint : Type 0
 SeenIsPoint =
     (dependencies : Dependencies) (seen : History) (pass : ℕ) → IsLegal dependencies seen → IsPoint dependencies seen pass seen
 
--- Read: a claim that a pass may end by what it has seen, it may end at the point: other passes do not end it.
+-- Read: a claim that a pass may end by what it has seen, by an install or a release, it may end so at the point: other passes
+-- do not end it.
 abbrev pub OthersEndNoClaim : Type 0
 OthersEndNoClaim =
     (dependencies : Dependencies) (seen : History) (pass : ℕ) (point : History) (claim : ℕ) → IsPoint dependencies seen pass point
-    → may_call seen pass (InstallCall claim) ≡ true → may_call point pass (InstallCall claim) ≡ true
+    → (may_call seen pass (InstallCall claim) ≡ true → may_call point pass (InstallCall claim) ≡ true)
+    × (may_call seen pass (ReleaseCall claim) ≡ true → may_call point pass (ReleaseCall claim) ≡ true)
 
--- Read: the job of a claim that the pass has seen is the same at the point.
+-- Read: the job of a claim that the pass has seen, and what stood before that claim, are the same at the point.
 abbrev pub PointKeepsJob : Type 0 → Type 0
 PointKeepsJob Answer =
     (subject : Subject Answer) (seen : History) (pass : ℕ) (point : History) (claim : ℕ) (name : Name) → IsPoint subject.dependencies seen pass point
-    → claim_at seen claim ≡ Some name → job_of subject point claim ≡ job_of subject seen claim
+    → claim_at seen claim ≡ Some name
+    → (job_of subject point claim ≡ job_of subject seen claim) × (take claim point ≡ take claim seen)
+
+-- Read: of a pass's own entries the point has just those that it has seen, in their order.
+abbrev pub PointHasOwnEntries : Type 0
+PointHasOwnEntries =
+    (dependencies : Dependencies) (seen : History) (pass : ℕ) (point : History) → IsPoint dependencies seen pass point
+    → entries_of pass point ≡ entries_of pass seen
+
+-- Read: after a call that happens at a point the pass has seen a legal history, which begins with what it had seen; and its
+-- own entries are those that it had made, and then the call's.
+pub record IsSeenAfter {Answer : Type 0} (subject : Subject Answer) (seen : History) (pass : ℕ) (call : BoardCall) (point after : History) : Type 0 where
+  pub legal : IsLegal subject.dependencies after
+  pub later : History
+  pub begins : after ≡ seen ++ later
+  pub own : entries_of pass after ≡ entries_of pass seen ++ added_by subject.dependencies point pass call
+
+abbrev pub CallsAreSeen : Type 0 → Type 0
+CallsAreSeen Answer =
+    (subject : Subject Answer) (seen : History) (pass : ℕ) (call : BoardCall) (reply : Reply Answer) (after : History)
+    → (happens : Happens subject seen pass call reply after) → IsSeenAfter subject seen pass call happens.point after
 
 -- Read: the pass that was handed a job by a claim may end that claim, and the job is that of the claim.
 abbrev pub JobsMayBeEnded : Type 0 → Type 0

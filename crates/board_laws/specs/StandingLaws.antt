@@ -1,16 +1,16 @@
 -- Laws of standing verdicts, of ready names and of installs (this profile).
 use Rattle.std.specs.Prelude.{◌≡◌, ◌≢◌, ℕ, ◌<◌, true, false, [], ◌∷◌, ◌++◌, ◌&&◌, ◌||◌, not, take, slice_get, Some, None, is_some, Decides}
 use Rattle.std.specs.List.{list_all}
-use Rattle.log_meaning.specs.Names.{Name, is_among}
+use Rattle.log_meaning.specs.Names.{Name, comes_before, is_among}
 use Rattle.log_meaning.specs.Log.{Edit, edited_name, is_present}
-use Rattle.walk_meaning.specs.Walks.{Dependencies, is_ungrounded, is_grounded}
+use Rattle.walk_meaning.specs.Walks.{Dependencies, is_grounded}
 use Rattle.walk_meaning.specs.Reach.{reach}
 use Rattle.walk_meaning.specs.Subject.{Subject, AnswersPresent, KeepsToReach}
 use Rattle.board_meaning.specs.Events.{EditMade, Install, Entry, History, edit_in, library_after, version_after, stamp_after}
 use Rattle.board_meaning.specs.Claims.{claim_at, open_claims, Input, inputs_of, input_names, is_unchanged, is_claim_of}
 use Rattle.board_meaning.specs.Standing.{installed_claim, is_unedited, stands, Stands}
 use Rattle.board_meaning.specs.Ready.{is_closed, is_ready, least_ready}
-use Rattle.board_meaning.specs.Machine.{IsInstalled, IsStale, install_reply, claim_reply, IsVerdict, IsPending, IsAbsent, report_reply}
+use Rattle.board_meaning.specs.Machine.{IsInstalled, IsStale, install_reply, claim_reply, IsVerdict, IsPending, IsAbsent, is_known, report_reply}
 use Rattle.board_meaning.specs.Legal.{MayFollow, IsLegal}
 
 -- Read: the test of standing verdicts decides what it means.
@@ -85,18 +85,35 @@ SomeNameIsReady =
     → is_grounded dependencies (library_after history) name ≡ true → stands dependencies history name ≡ false
     → open_claims history ≡ [] → is_some (least_ready dependencies history) ≡ true
 
--- Read: a claim is of a name that is ready before it.
-abbrev pub ClaimsAreOfReady : Type 0
-ClaimsAreOfReady =
+-- Read: a claim is of the least name that is ready before it.
+abbrev pub ClaimsAreOfLeastReady : Type 0
+ClaimsAreOfLeastReady =
     (dependencies : Dependencies) (history : History) (place : ℕ) (name : Name) → IsLegal dependencies history
-    → claim_at history place ≡ Some name → is_ready dependencies (take place history) name ≡ true
+    → claim_at history place ≡ Some name → least_ready dependencies (take place history) ≡ Some name
 
--- Read: a stale install tells the present stamp of an input, which is greater than the one that was used.
-abbrev pub StaleTellsPresentStamp : Type 0
-StaleTellsPresentStamp =
-    (dependencies : Dependencies) (history : History) (claim : ℕ) (of name : Name) (newer : ℕ) → claim_at history claim ≡ Some of
-    → install_reply dependencies history claim ≡ IsStale name newer
-    → (newer ≡ stamp_after history name) × (i : ℕ) × (input : Input) × (slice_get (inputs_of dependencies history claim) i ≡ Some input) × (input.name ≡ name) × (input.stamp < newer)
+-- Read: the least ready name is ready, and present names before it in byte order are not.
+abbrev pub LeastIsReady : Type 0
+LeastIsReady =
+    (dependencies : Dependencies) (history : History) (name : Name) → least_ready dependencies history ≡ Some name
+    → (is_ready dependencies history name ≡ true)
+    × ((other : Name) → comes_before other name ≡ true → is_ready dependencies history other ≡ false)
+
+-- Read: this input, at this place, is the first of the claim whose stamp has changed. The present stamp is greater than the
+-- one that was used.
+pub record IsFirstChanged (dependencies : Dependencies) (history : History) (claim : ℕ) (name : Name) (newer : ℕ) : Type 0 where
+  pub place : ℕ
+  pub input : Input
+  pub stands_there : slice_get (inputs_of dependencies history claim) place ≡ Some input
+  pub named : input.name ≡ name
+  pub present : newer ≡ stamp_after history name
+  pub greater : input.stamp < newer
+  pub first : list_all (is_unchanged history) (take place (inputs_of dependencies history claim)) ≡ true
+
+-- Read: a stale install tells the first input that has changed, with its present stamp.
+abbrev pub StaleTellsFirstChanged : Type 0
+StaleTellsFirstChanged =
+    (dependencies : Dependencies) (history : History) (claim : ℕ) (name : Name) (newer : ℕ)
+    → install_reply dependencies history claim ≡ IsStale name newer → IsFirstChanged dependencies history claim name newer
 
 -- Read: a verdict is installed exactly where no input of its claim was edited after it. Then every stamp is the one of
 -- the claim.
@@ -107,14 +124,23 @@ InstalledIsUnedited =
 
 abbrev pub InstalledIsUnchanged : Type 0
 InstalledIsUnchanged =
-    (dependencies : Dependencies) (history : History) (claim : ℕ) → install_reply dependencies history claim ≡ IsInstalled
-    → list_all (is_unchanged history) (inputs_of dependencies history claim) ≡ true
+    (dependencies : Dependencies) (history : History) (claim : ℕ)
+    → Decides (list_all (is_unchanged history) (inputs_of dependencies history claim)) (install_reply dependencies history claim ≡ IsInstalled)
 
--- Read: a report tells no other verdict than the answer at the present library.
+-- Read: a report that tells this verdict at this version: the name is present, its answer may be told, it is the answer at
+-- the present library, and the version is the present one.
+pub record IsToldVerdict {Answer : Type 0} (subject : Subject Answer) (history : History) (name : Name) (answer : Answer) (version : ℕ) : Type 0 where
+  pub present : is_present (library_after history) name ≡ true
+  pub known : is_known subject.dependencies history name ≡ true
+  pub told : subject.answer (library_after history) name ≡ Some answer
+  pub now : version ≡ version_after history
+
+-- Read: a report tells no other verdict, and where there is one to tell it tells it.
 abbrev pub ReportTellsAnswer : Type 0 → Type 0
 ReportTellsAnswer Answer =
     (subject : Subject Answer) (history : History) (name : Name) (answer : Answer) (version : ℕ)
-    → report_reply subject history name ≡ IsVerdict answer version → subject.answer (library_after history) name ≡ Some answer
+    → (report_reply subject history name ≡ IsVerdict answer version → IsToldVerdict subject history name answer version)
+    × (IsToldVerdict subject history name answer version → report_reply subject history name ≡ IsVerdict answer version)
 
 -- Read: a claim gives a job exactly where some name is ready.
 abbrev pub ClaimGivesJob : Type 0 → Type 0
@@ -126,4 +152,4 @@ abbrev pub ReportTellsOthers : Type 0 → Type 0
 ReportTellsOthers Answer =
     (subject : Subject Answer) (history : History) (name : Name) → AnswersPresent subject
     → Decides (not (is_present (library_after history) name)) (report_reply subject history name ≡ IsAbsent (version_after history))
-    × Decides (is_present (library_after history) name && not (is_ungrounded subject.dependencies (library_after history) name || stands subject.dependencies history name)) (report_reply subject history name ≡ IsPending (version_after history))
+    × Decides (is_present (library_after history) name && not (is_known subject.dependencies history name)) (report_reply subject history name ≡ IsPending (version_after history))

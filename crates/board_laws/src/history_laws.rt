@@ -1,6 +1,6 @@
 //! Legal histories, and the log that they determine.
 
-ghost use Rattle.board_laws.specs.HistoryLaws.{EmptyIsLegal, CallsKeepLegal, RunsKeepLegal, BeginningsAreLegal, EntriesDetermineLog, EditsWereMade, VersionsCountEdits, LegalLogsAreWithinLimits};
+ghost use Rattle.board_laws.specs.HistoryLaws.{EmptyIsLegal, CallsKeepLegal, RunsKeepLegal, BeginningsAreLegal, EntriesDetermineLog, EditsWereMade, VersionsCountEdits, LegalLogsAreWithinLimits, EditsAreAppended, OthersLeaveLog, EndsAreOfClaimants, StaleEntriesTellReply, InstallEntriesTellReply, ClosesAreOfFront};
 
 /// Whatever calls are made, by passes that may make them, the history is legal.
 pub fn law_legal()
@@ -16,4 +16,18 @@ pub fn law_log()
     ensures edits { EditsWereMade }
     ensures versions { VersionsCountEdits }
     ensures limits { LegalLogsAreWithinLimits }
+{}
+
+/// An edit call leaves the log that the log's rules give; another call leaves the log alone.
+pub fn law_steps()
+    ensures edits { EditsAreAppended }
+    ensures others { OthersLeaveLog }
+{}
+
+/// Who made an entry, and what it tells: claims end by their own passes, with the reply of the machine; pass 0 closes, once.
+pub fn law_entries()
+    ensures ends { EndsAreOfClaimants }
+    ensures stale { StaleEntriesTellReply }
+    ensures installed { InstallEntriesTellReply }
+    ensures closes { ClosesAreOfFront }
 {}

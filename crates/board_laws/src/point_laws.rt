@@ -1,15 +1,21 @@
 //! The points of calls through passes.
 
-ghost use Rattle.board_laws.specs.PointLaws.{SeenIsPoint, OthersEndNoClaim, PointKeepsJob, JobsMayBeEnded};
+ghost use Rattle.board_laws.specs.PointLaws.{SeenIsPoint, OthersEndNoClaim, PointHasOwnEntries, PointKeepsJob, JobsMayBeEnded, CallsAreSeen};
 
 /// What a pass has seen of its claims holds at the point of its call.
 pub fn law_points()
     ensures seen { SeenIsPoint }
     ensures claims { OthersEndNoClaim }
+    ensures own { PointHasOwnEntries }
 {}
 
 /// The job of a claim that a pass has seen is the same at the point, and the pass that was handed a job may end its claim.
 pub fn law_jobs<A>()
     ensures kept { PointKeepsJob A }
     ensures may_end { JobsMayBeEnded A }
+{}
+
+/// After a call that happens at a point the pass has seen a legal history, with its own entries in their order.
+pub fn law_calls<A>()
+    ensures { CallsAreSeen A }
 {}

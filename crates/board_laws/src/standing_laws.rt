@@ -1,6 +1,6 @@
 //! Standing verdicts, ready names and installs.
 
-ghost use Rattle.board_laws.specs.StandingLaws.{StandingIsDecided, StandingIsPresentAnswer, InputsArePresentReach, StandingIsGrounded, StandingRestsOnStanding, ReadyRestsOnStanding, EditLeavesStanding, InstallMakesStanding, OthersLeaveStanding, SomeNameIsReady, ClaimsAreOfReady, StaleTellsPresentStamp, InstalledIsUnedited, InstalledIsUnchanged, ReportTellsAnswer, ReportTellsOthers, ClaimGivesJob, InstallIsOfWaiting};
+ghost use Rattle.board_laws.specs.StandingLaws.{StandingIsDecided, StandingIsPresentAnswer, InputsArePresentReach, StandingIsGrounded, StandingRestsOnStanding, ReadyRestsOnStanding, LeastIsReady, EditLeavesStanding, InstallMakesStanding, OthersLeaveStanding, SomeNameIsReady, ClaimsAreOfLeastReady, StaleTellsFirstChanged, InstalledIsUnedited, InstalledIsUnchanged, ReportTellsAnswer, ReportTellsOthers, ClaimGivesJob, InstallIsOfWaiting};
 
 /// A standing verdict is the answer at the present library, and a report tells no other. A claim gives a job where a name is
 /// ready.
@@ -29,13 +29,14 @@ pub fn law_next_entry()
 /// Which names are ready.
 pub fn law_ready()
     ensures some { SomeNameIsReady }
-    ensures claims { ClaimsAreOfReady }
+    ensures least { LeastIsReady }
+    ensures claims { ClaimsAreOfLeastReady }
     ensures rests { ReadyRestsOnStanding }
 {}
 
 /// What an install finds: unchanged inputs, and a name without a standing verdict.
 pub fn law_install()
-    ensures stale { StaleTellsPresentStamp }
+    ensures stale { StaleTellsFirstChanged }
     ensures unedited { InstalledIsUnedited }
     ensures unchanged { InstalledIsUnchanged }
     ensures waiting { InstallIsOfWaiting }

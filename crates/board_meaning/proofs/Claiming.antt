@@ -12,7 +12,7 @@ use Rattle.log_meaning.proofs.Libraries.{stamp_past}
 use Rattle.board_meaning.specs.Events.{Event, EditMade, Claim, Install, Stale, Release, Close, Entry, History, edit_of, log_of, library_after, stamp_after}
 use Rattle.board_meaning.specs.Claims.{claimed_name, claim_at, Input, inputs_after, inputs_by, inputs_of, input_names, is_unchanged, first_changed, is_name}
 use Rattle.board_meaning.specs.Standing.{is_edit_of, is_edited, is_edited_after, is_unedited}
-use Rattle.board_meaning.specs.Machine.{IsInstalled, IsStale, installed_by, install_reply}
+use Rattle.board_meaning.specs.Machine.{IsInstalled, installed_by, install_reply}
 use Rattle.log_meaning.proofs.Places.{place_within, get_front, split_at}
 use Rattle.board_meaning.proofs.Histories.{unedited_text, unedited_stamp, edited_stamp}
 
@@ -167,31 +167,16 @@ module _ (dependencies : Dependencies) (H : History) (c : ℕ) (m : Name) (h : c
       by None e = refl
       by (Some x) e = let q = find_found (λ (input : Input). not (is_unchanged H input)) (inputs_of dependencies H c) x e in absurd (clash x q.0 q.1)
 
-  -- a stale install names an input with its present stamp, which is greater than the used one
-  pub stale_input : (n : Name) (newer : ℕ) → install_reply dependencies H c ≡ IsStale n newer
-      → (newer ≡ stamp_after H n) × (x : Input) × Member x (inputs_of dependencies H c) × (x.name ≡ n) × (x.stamp < newer)
-  unfolding install_reply first_changed
-  stale_input n newer r = by (find (λ (input : Input). not (is_unchanged H input)) (inputs_of dependencies H c)) refl r
+  -- the present stamp of an input that has changed is greater than the used one
+  pub changed_later : (x : Input) → Member x (inputs_of dependencies H c) → not (is_unchanged H x) ≡ true → x.stamp < stamp_after H x.name
+  changed_later x i u =
+      let a = stamp_later H c m h x.name (edited_input (is_edited_after H c x.name) u (changed_edited x i)) in
+      let b = input_stamp dependencies (take c H) m x (subst (Member x) (inputs_are H c m h dependencies) i) in
+      omega (arith, a, b)
     where
-      edited_input : (b : Bool) (x : Input) → not (is_unchanged H x) ≡ true → is_unchanged H x ≡ not b → b ≡ true
-      edited_input true x u e = refl
-      edited_input false x u e = absurd (true≢false (sym u ∙ ap not e))
-
-      later : (x : Input) → Member x (inputs_of dependencies H c) → not (is_unchanged H x) ≡ true → x.stamp < stamp_after H x.name
-      later x i u =
-          let a = stamp_later H c m h x.name (edited_input (is_edited_after H c x.name) x u (changed_edited x i)) in
-          let b = input_stamp dependencies (take c H) m x (subst (Member x) (inputs_are H c m h dependencies) i) in
-          omega (arith, a, b)
-
-      by : (o : Option Input) → find (λ (input : Input). not (is_unchanged H input)) (inputs_of dependencies H c) ≡ o → installed_by (option_map (λ (input : Input). record { name = input.name; stamp = stamp_after H input.name }) o) ≡ IsStale n newer
-          → (newer ≡ stamp_after H n) × (x : Input) × Member x (inputs_of dependencies H c) × (x.name ≡ n) × (x.stamp < newer)
-      by None e g = absurd (cc)
-      by (Some x) e g =
-          let q = find_found (λ (input : Input). not (is_unchanged H input)) (inputs_of dependencies H c) x e in
-          let a : x.name ≡ n = cc in
-          let b : stamp_after H x.name ≡ newer = cc in
-          let d = later x q.0 q.1 in
-          (sym b ∙ ap (stamp_after H) a, x, q.0, a, omega (arith, b, d))
+      edited_input : (b : Bool) → not (is_unchanged H x) ≡ true → is_unchanged H x ≡ not b → b ≡ true
+      edited_input true w e = refl
+      edited_input false w e = absurd (true≢false (sym w ∙ ap not e))
 
 pub installed_unchanged : (dependencies : Dependencies) (H : History) (c : ℕ) → install_reply dependencies H c ≡ IsInstalled → list_all (is_unchanged H) (inputs_of dependencies H c) ≡ true
 unfolding install_reply first_changed

@@ -34,6 +34,7 @@ ends_claim place (Stale claim name newer) = nat_eq place claim
 ends_claim place (Release claim) = nat_eq place claim
 ends_claim place Close = false
 
+-- Read: some entry ends the claim at this place.
 abbrev pub is_ended : History → ℕ → Bool
 is_ended history place = list_any (λ (entry : Entry). ends_claim place entry.event) history
 
@@ -56,7 +57,7 @@ unfoldable pub inputs_after : Dependencies → History → Name → List Input
 inputs_after dependencies history name =
     map (λ (other : Name). record { name = other; stamp = stamp_after history other }) (reach dependencies (library_after history) name)
 
--- Read: the inputs of a claim of this name, if there is one, which was made after this history.
+-- Read: the inputs of a claim of this name that was made after this history. Where no claim was made there are none.
 abbrev pub inputs_by : Dependencies → History → Option Name → List Input
 inputs_by dependencies before None = []
 inputs_by dependencies before (Some name) = inputs_after dependencies before name
@@ -65,6 +66,7 @@ inputs_by dependencies before (Some name) = inputs_after dependencies before nam
 unfoldable pub inputs_of : Dependencies → History → ℕ → List Input
 inputs_of dependencies history place = inputs_by dependencies (take place history) (claim_at history place)
 
+-- Read: the names of the inputs.
 abbrev pub input_names : List Input → List Name
 input_names inputs = map (λ (input : Input). input.name) inputs
 
@@ -82,6 +84,7 @@ abbrev pub is_name : Name → Option Name → Bool
 is_name name None = false
 is_name name (Some other) = same_name name other
 
+-- Read: a claim of this name stands at this place.
 abbrev pub is_claim_of : History → Name → ℕ → Bool
 is_claim_of history name place = is_name name (claim_at history place)
 

@@ -33,6 +33,7 @@ edit_of (Stale claim name newer) = None
 edit_of (Release claim) = None
 edit_of Close = None
 
+-- Read: the edit of the entry, if it is one.
 abbrev pub edit_in : Entry → Option Edit
 edit_in entry = edit_of entry.event
 
@@ -40,6 +41,7 @@ edit_in entry = edit_of entry.event
 unfoldable pub log_of : History → Log
 log_of history = filter_map edit_in history
 
+-- Read: the library and the version that the log leaves.
 abbrev pub library_after : History → Library
 library_after history = library_of (log_of history)
 

@@ -1,7 +1,7 @@
 -- The board as a machine: the reply and the entry of each call, from the history alone (this profile).
 use Rattle.std.specs.Prelude.{ℕ, Bool, true, false, List, ◌++◌, ◌&&◌, ◌||◌, not, map, take, length, filter, nat_eq, slice_get, Option, Some, None, option_map, option_and_then, option_to_list, if◌then◌else◌}
 use Rattle.log_meaning.specs.Names.{Name, Text, same_name}
-use Rattle.log_meaning.specs.Log.{Edit, Library, text_of}
+use Rattle.log_meaning.specs.Log.{Edit, Library, text_of, is_present}
 use Rattle.log_meaning.specs.Append.{Edited, Made, Same, Absent, Full, TooLong, TooMany, append_answer}
 use Rattle.walk_meaning.specs.Walks.{Dependencies, is_grounded, is_ungrounded}
 use Rattle.walk_meaning.specs.Reach.{reach}
@@ -11,11 +11,15 @@ use Rattle.board_meaning.specs.Claims.{Input, claim_at, is_open, inputs_after, i
 use Rattle.board_meaning.specs.Standing.{stands}
 use Rattle.board_meaning.specs.Ready.{is_closed, least_ready}
 
+-- Read: the subject's answer of a name, if the library has the name.
+abbrev pub present_answer : {Answer : Type 0} → Subject Answer → Library → Name → Option Answer
+present_answer subject library name = if is_present library name then subject.answer library name else None
+
 -- Read: the subject's answers of the reach of a name, the name itself left out, in byte order. A name that is absent has
 -- none.
 unfoldable pub answers_of : {Answer : Type 0} → Subject Answer → Library → Name → List (Name × Option Answer)
 answers_of subject library name =
-    map (λ (other : Name). (other, subject.answer library other)) (filter (λ (other : Name). not (same_name name other)) (reach subject.dependencies library name))
+    map (λ (other : Name). (other, present_answer subject library other)) (filter (λ (other : Name). not (same_name name other)) (reach subject.dependencies library name))
 
 -- Read: what a worker is handed: the place of its claim, the name and its text, the inputs with their stamps, and the
 -- answers of the reach.
@@ -48,6 +52,7 @@ pub data Installed : Type 0 where
   IsInstalled : Installed
   IsStale : Name → ℕ → Installed
 
+-- Read: installed where no input has changed.
 abbrev pub installed_by : Option Input → Installed
 installed_by None = IsInstalled
 installed_by (Some input) = IsStale input.name input.stamp
@@ -62,16 +67,23 @@ pub data Told (Answer : Type 0) : Type 0 where
   IsPending : ℕ → Told Answer
   IsAbsent : ℕ → Told Answer
 
--- Read: what is told by an answer, if there is one, and by whether it may be told.
-abbrev pub told_by : {Answer : Type 0} → ℕ → Bool → Option Answer → Told Answer
-told_by version known None = IsAbsent version
-told_by version known (Some answer) = if known then IsVerdict answer version else IsPending version
+-- Read: what is told of a name by whether it is present, whether its answer may be told, and the answer. A subject answers
+-- of each present name; where one did not, the verdict would be to come.
+abbrev pub told_by : {Answer : Type 0} → ℕ → (present known : Bool) → Option Answer → Told Answer
+told_by version false known answer = IsAbsent version
+told_by version true false answer = IsPending version
+told_by version true true None = IsPending version
+told_by version true true (Some answer) = IsVerdict answer version
 
--- Read: the reply to a report. The answer of a present name is told where the name is ungrounded or has a standing
--- verdict.
+-- Read: the answer of this name may be told: it is ungrounded, or has a standing verdict.
+abbrev pub is_known : Dependencies → History → Name → Bool
+is_known dependencies history name =
+    is_ungrounded dependencies (library_after history) name || stands dependencies history name
+
+-- Read: the reply to a report: that the name is absent; or its verdict, where that may be told; else that it is to come.
 unfoldable pub report_reply : {Answer : Type 0} → Subject Answer → History → Name → Told Answer
 report_reply subject history name =
-    told_by (version_after history) (is_ungrounded subject.dependencies (library_after history) name || stands subject.dependencies history name) (subject.answer (library_after history) name)
+    told_by (version_after history) (is_present (library_after history) name) (is_known subject.dependencies history name) (subject.answer (library_after history) name)
 
 -- Read: the answers of the reach of a grounded name with a standing verdict.
 unfoldable pub answers_reply : {Answer : Type 0} → Subject Answer → History → Name → Option (List (Name × Option Answer))
@@ -87,6 +99,7 @@ pub data Call : Type 0 where
   ReleaseCall : ℕ → Call
   CloseCall : Call
 
+-- Read: the event of an edit that was answered so: one that was made.
 abbrev pub edit_event : Edit → Edited → Option Event
 edit_event edit (Made version) = Some (EditMade edit)
 edit_event edit (Same version) = None
@@ -95,6 +108,7 @@ edit_event edit Full = None
 edit_event edit TooLong = None
 edit_event edit TooMany = None
 
+-- Read: the event of an install of this claim that was replied to so.
 abbrev pub install_event : ℕ → Installed → Event
 install_event place IsInstalled = Install place
 install_event place (IsStale name newer) = Stale place name newer

@@ -8,6 +8,7 @@ use Rattle.board_meaning.specs.Events.{Event, EditMade, Claim, Install, Stale, R
 use Rattle.board_meaning.specs.Claims.{has_current_claim}
 use Rattle.board_meaning.specs.Standing.{stands}
 
+-- Read: the event is the close.
 abbrev pub is_close : Event → Bool
 is_close (EditMade edit) = false
 is_close (Claim name) = false

@@ -20,6 +20,7 @@ installed_claim Close = None
 unfoldable pub installed_claims : History → List ℕ
 installed_claims history = filter_map (λ (entry : Entry). installed_claim entry.event) history
 
+-- Read: the edit, if there is one, is of this name.
 abbrev pub is_edit_of : Name → Option Edit → Bool
 is_edit_of name None = false
 is_edit_of name (Some edit) = same_name name (edited_name edit)

@@ -7,6 +7,7 @@ pub data Edit : Type 0 where
   Put : Name → Text → Edit
   Drop : Name → Edit
 
+-- Read: the name that the edit is of.
 abbrev pub edited_name : Edit → Name
 edited_name (Put name text) = name
 edited_name (Drop name) = name
@@ -20,11 +21,12 @@ pub record Module : Type 0 where
   pub name : Name
   pub text : Text
 
--- Read: modules in byte order of their names, each name once. Two libraries that give the same names the same texts are
--- one list.
+-- Read: a list of modules. A library has them in byte order of their names, each name once (`IsLibrary`), so that two
+-- libraries which give the same names the same texts are one list.
 abbrev pub Library : Type 0
 Library = List Module
 
+-- Read: the names of the modules, in order.
 abbrev pub names_of : Library → List Name
 names_of library = map (λ (own : Module). own.name) library
 
@@ -44,6 +46,7 @@ with_module name text (other ∷ library) =
 unfoldable pub without_module : Name → Library → Library
 without_module name library = filter (λ (own : Module). not (same_name name own.name)) library
 
+-- Read: the library after the edit.
 abbrev pub edited : Library → Edit → Library
 edited library (Put name text) = with_module name text library
 edited library (Drop name) = without_module name library

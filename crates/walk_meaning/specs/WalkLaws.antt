@@ -9,9 +9,9 @@ use Rattle.walk_meaning.specs.Reach.{IsReached, reach, AgreesOn}
 abbrev pub WalksOn : Dependencies → Library → Name → ℕ → Type 0
 WalksOn dependencies library name more = (rest : List Name) × IsWalk dependencies library name rest × (length rest ≡ more)
 
--- Read: the names that walk on are those at which such a walk begins.
-abbrev pub WalkingCountsWalks : Type 0
-WalkingCountsWalks =
+-- Read: the list of names that walk on has those at which such a walk begins, and no others.
+abbrev pub WalkingListsWalks : Type 0
+WalkingListsWalks =
     (dependencies : Dependencies) (library : Library) (more : ℕ) (name : Name)
     → Decides (is_among (walking dependencies library more) name) (WalksOn dependencies library name more)
 

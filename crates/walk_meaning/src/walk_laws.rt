@@ -1,10 +1,10 @@
 //! Walks, grounded names and the reach.
 
-ghost use Rattle.walk_meaning.specs.WalkLaws.{WalkingCountsWalks, UngroundedIsDecided, UngroundedWalksOn, GroundedRestsOnGrounded, UngroundedRestsOnUngrounded, ReachIsReached, ReachIsAscending, ReachDecidesItself, ReachDecidesGrounds};
+ghost use Rattle.walk_meaning.specs.WalkLaws.{WalkingListsWalks, UngroundedIsDecided, UngroundedWalksOn, GroundedRestsOnGrounded, UngroundedRestsOnUngrounded, ReachIsReached, ReachIsAscending, ReachDecidesItself, ReachDecidesGrounds};
 
 /// Walks are counted, and a walk with more names than the library goes on for ever.
 pub fn law_walks()
-    ensures counted { WalkingCountsWalks }
+    ensures counted { WalkingListsWalks }
     ensures ungrounded { UngroundedIsDecided }
     ensures for_ever { UngroundedWalksOn }
 {}
