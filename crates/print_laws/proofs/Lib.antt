@@ -1,0 +1,10 @@
+pub mod LaidOut
+pub mod Writable
+pub mod WellWritten
+pub mod LaidExpressions
+pub mod SpellingParts
+pub mod SpelledExpressions
+pub mod BareItems
+pub mod LaidModules
+pub mod SpelledModules
+pub mod Printed

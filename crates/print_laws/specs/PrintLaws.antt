@@ -1,0 +1,47 @@
+-- What is printed spells the tree (this profile).
+use Rattle.std.specs.Prelude.{◌≡◌, false, List, ℕ}
+use Rattle.text_meaning.specs.Tokens.{Token}
+use Rattle.text_meaning.specs.Cut.{Tokens, IsLexed}
+use Rattle.text_meaning.specs.Trees.{Expr, Module}
+use Rattle.text_meaning.specs.Grammar.{SpellsModule}
+use Rattle.text_meaning.specs.Nesting.{module_nesting}
+use Rattle.text_meaning.specs.Reading.{ModuleText, ModuleTree, Read, any_too_deep, with_end, Reads, TextSpellsModule, TextSpellsExpr}
+use Rattle.text_meaning.specs.UpToSpans.{IsSameModule, IsSameExpr}
+use Rattle.print_laws.specs.PrintedModules.{module_text, expr_text}
+
+-- Some text spells the module, up to spans; some text spells the expression, up to spans.
+pub record IsSpelledModule (m : Module) : Type 0 where
+  pub text : List ℕ
+  pub tree : Module
+  pub spells : TextSpellsModule text tree
+  pub same : IsSameModule tree m
+
+pub record IsSpelledExpr (e : Expr) : Type 0 where
+  pub text : List ℕ
+  pub tree : Expr
+  pub spells : TextSpellsExpr text tree
+  pub same : IsSameExpr tree e
+
+-- This text spells the module, up to spans; and where nothing in it stands deeper than 500, it is read as that tree.
+pub record SpellsBack (text : List ℕ) (m : Module) : Type 0 where
+  pub tokens : List Token
+  pub end : ℕ
+  pub tree : Module
+  pub lexed : IsLexed text (Tokens tokens end)
+  pub spells : SpellsModule (with_end tokens end) tree
+  pub same : IsSameModule tree m
+  pub reads : any_too_deep (module_nesting spells) ≡ false → Reads ModuleText text (Read (ModuleTree tree))
+
+-- This text spells the expression and nothing else, up to spans.
+pub record SpellsBackExpr (text : List ℕ) (e : Expr) : Type 0 where
+  pub tree : Expr
+  pub spells : TextSpellsExpr text tree
+  pub same : IsSameExpr tree e
+
+-- A module that some text spells is printed as a text that spells it, and is read again as that module.
+abbrev pub PrintedModulesAreRead : Type 0
+PrintedModulesAreRead = (m : Module) → IsSpelledModule m → SpellsBack (module_text m) m
+
+-- An expression that some text spells is printed as a text that spells it.
+abbrev pub PrintedExpressionsSpell : Type 0
+PrintedExpressionsSpell = (e : Expr) → IsSpelledExpr e → SpellsBackExpr (expr_text e) e
