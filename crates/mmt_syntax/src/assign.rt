@@ -3,6 +3,7 @@ ghost use Rattle.std.specs.Prelude.{◌≡◌, ◌↔◌, ◌≤◌, ◌∷◌, 
 ghost use Rattle.std.specs.Option.{option_copied};
 
 use crate::{Expr, Morph, Written};
+use lf_terms::Memory;
 use std::alloc::Global;
 use std::marker::Model;
 
@@ -41,6 +42,15 @@ impl Assigns {
         Assigns {
             items: Vec::new(alloc),
         }
+    }
+
+    /// Adds an assignment at the end, or lets it go for want of memory.
+    pub fn add(&mut self, item: Assign) -> Result<(), Memory>
+        ensures ok { OnOk result (self.new ≡ self.old ++ item ∷ []) }
+        ensures err { OnErr result (self.new ≡ self.old) }
+    {
+        self.items.push(item)?;
+        Ok(())
     }
 
     /// Adds an assignment at the end, or hands it back for want of memory.

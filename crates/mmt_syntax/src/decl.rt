@@ -5,7 +5,7 @@ ghost use Rattle.mmt_syntax.specs.Labels.{label_of};
 ghost use Rattle.mmt_syntax.specs.Readings.{read_decl};
 
 use crate::{Assigns, Expr, Written};
-use lf_terms::Path;
+use lf_terms::{Memory, Path};
 use std::alloc::Global;
 use std::marker::Model;
 
@@ -56,6 +56,15 @@ impl Decls {
         Decls {
             items: Vec::new(alloc),
         }
+    }
+
+    /// Adds a declaration at the end, or lets it go for want of memory.
+    pub fn add(&mut self, item: Decl) -> Result<(), Memory>
+        ensures ok { OnOk result (self.new ≡ self.old ++ item ∷ []) }
+        ensures err { OnErr result (self.new ≡ self.old) }
+    {
+        self.items.push(item)?;
+        Ok(())
     }
 
     /// Adds a declaration at the end, or hands it back for want of memory.

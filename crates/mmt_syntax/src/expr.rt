@@ -3,7 +3,7 @@ ghost use Rattle.std.specs.Prelude.{◌≡◌, ◌↔◌, ◌≤◌, ◌∷◌, 
 ghost use Rattle.std.specs.Option.{option_copied};
 ghost use Rattle.mmt_syntax.specs.Readings.{expressions_of};
 
-use lf_terms::{Name, Path, Span};
+use lf_terms::{Memory, Name, Path, Span};
 use std::alloc::Global;
 
 /// The variable of a binder: its name, or `_`.
@@ -68,6 +68,15 @@ impl Exprs {
         Exprs {
             items: Vec::new(alloc),
         }
+    }
+
+    /// Adds an expression at the end, or lets it go for want of memory.
+    pub fn add(&mut self, item: Expr) -> Result<(), Memory>
+        ensures ok { OnOk result (expressions_of self.new ≡ expressions_of self.old ++ item ∷ []) }
+        ensures err { OnErr result (expressions_of self.new ≡ expressions_of self.old) }
+    {
+        self.items.push(item)?;
+        Ok(())
     }
 
     /// Adds an expression at the end, or hands it back for want of memory.

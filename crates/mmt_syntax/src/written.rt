@@ -2,7 +2,7 @@
 ghost use Rattle.std.specs.Prelude.{◌≡◌, ◌↔◌, ◌≤◌, ◌∷◌, ◌++◌, [], length, slice_get, IfErr, OnErr, OnOk, IsNone};
 ghost use Rattle.std.specs.Option.{option_copied};
 
-use lf_terms::{Path, Span};
+use lf_terms::{Memory, Path, Span};
 use std::alloc::Global;
 use std::marker::Model;
 
@@ -36,6 +36,15 @@ impl Words {
         Words {
             items: Vec::new(alloc),
         }
+    }
+
+    /// Adds a word at the end, or lets it go for want of memory.
+    pub fn add(&mut self, item: Written) -> Result<(), Memory>
+        ensures ok { OnOk result (self.new ≡ self.old ++ item ∷ []) }
+        ensures err { OnErr result (self.new ≡ self.old) }
+    {
+        self.items.push(item)?;
+        Ok(())
     }
 
     /// Adds a word at the end, or hands it back for want of memory.
