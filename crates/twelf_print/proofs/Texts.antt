@@ -1,0 +1,266 @@
+-- The text of an expression, from those of its parts.
+use Rattle.std.proofs.Common.{◌≡◌, ℕ, zero, suc, ◌+◌, ◌<◌, Bool, true, false, not, ◌&&◌, ◌||◌, cond, List, [], ◌∷◌, ◌++◌, take, length, slice_index_or, codes, refl, sym, ap, ap₂, ◌∙◌, subst, append_assoc, append-nil, map, fold, arith}
+use Rattle.std.specs.Prelude.{Some, None, flat_map, if◌then◌else◌}
+use Rattle.std.proofs.lemmas.List.{take_more}
+use Rattle.std.specs.declared.boxed.Box.{Box}
+use Rattle.std.specs.declared.alloc.Global.{Global}
+use Rattle.text_meaning.specs.Tokens.{Path, spelled, dotted}
+use Rattle.text_meaning.specs.Trees as trees
+use Rattle.lf_terms.specs.declared.path.Path as code
+use Rattle.mmt_syntax.specs.Readings.{read_span, read_node, read_binder, read_expr, as_arguments, read_arguments, expressions_of}
+use Rattle.mmt_syntax.specs.declared.expr.Binder.{Binder}
+use Rattle.mmt_syntax.specs.declared.expr.Expr.{Expr}
+use Rattle.mmt_syntax.specs.declared.expr.Exprs.{Exprs}
+use Rattle.mmt_syntax.specs.declared.expr.Node.TheVariants as nodes
+use Rattle.mmt_syntax.proofs.ReadingEquations.{read_expr_is, read_node_ty, read_node_name, read_node_app, read_node_pi, read_node_lam, read_node_typed_lam, read_node_arrow, read_node_back}
+use Rattle.print_laws.specs.PrintedItems.{Gap, tight, space, Item, path_item, type_item, colon_item, arrow_item, back_item, left_brace, right_brace, left_bracket, right_bracket, left_paren, right_paren, text_of}
+use Rattle.print_laws.specs.PrintedExpressions.{is_word, is_binding, is_operand, is_last_operand, is_back, binder_bytes, binder_item, enclosed, placed, expr_items, args_items}
+use Rattle.print_laws.proofs.LaidOut.{text_append}
+use Rattle.twelf_print.specs.Places.{opening, closing, inner_gap, inner_free}
+
+-- ---- pieces that are written one after another
+
+-- a second piece behind a first
+pub written_then : (o xs ys : List ℕ) {p q : List ℕ} → p ≡ o ++ xs → q ≡ p ++ ys → q ≡ o ++ (xs ++ ys)
+written_then o xs ys e f = f ∙ ap (λ t. t ++ ys) e ∙ append_assoc o xs ys
+
+-- the text of one item with more behind it
+pub item_then : (i : Item) (items : List Item) → text_of (i ∷ items) ≡ (i.bytes ++ i.gap) ++ text_of items
+unfolding text_of
+item_then i items = sym (append_assoc i.bytes i.gap (text_of items))
+
+pub one_item : (i : Item) → text_of (i ∷ []) ≡ i.bytes ++ i.gap
+unfolding text_of
+one_item i = ap (λ t. i.bytes ++ t) (append-nil i.gap)
+
+-- an expression in its place
+placed_text : (bare free : Bool) (e : trees.Expr) (gap : Gap)
+    → opening bare ++ (text_of (expr_items (inner_free bare free) e (inner_gap bare gap)) ++ closing bare gap) ≡ text_of (placed bare (expr_items free e gap) (expr_items true e tight) gap)
+placed_text true free e gap = append-nil (text_of (expr_items free e gap))
+placed_text false free e gap =
+    ap (λ t. codes "(" ++ t) (ap (λ t. text_of (expr_items true e tight) ++ t) (sym (one_item (right_paren gap))) ∙ sym (text_append (expr_items true e tight) (right_paren gap ∷ [])))
+    ∙ sym (item_then left_paren (expr_items true e tight ++ (right_paren gap ∷ [])))
+
+-- what the three calls write
+pub placed_written : (o : List ℕ) {p q r : List ℕ} (bare test free : Bool) (e : trees.Expr) (gap : Gap) → bare ≡ test
+    → p ≡ o ++ opening bare → q ≡ p ++ text_of (expr_items (inner_free bare free) e (inner_gap bare gap)) → r ≡ q ++ closing bare gap
+    → r ≡ o ++ text_of (placed test (expr_items free e gap) (expr_items true e tight) gap)
+placed_written o bare test free e gap same a b c =
+    let inside : List ℕ = text_of (expr_items (inner_free bare free) e (inner_gap bare gap)) in
+    written_then o (opening bare ++ inside) (closing bare gap) (written_then o (opening bare) inside a b) c
+    ∙ ap (λ t. o ++ t) (append_assoc (opening bare) inside (closing bare gap)
+    ∙ placed_text bare free e gap ∙ ap (λ (t : Bool). text_of (placed t (expr_items free e gap) (expr_items true e tight) gap)) same)
+
+pub always_free : (bare : Bool) → true ≡ inner_free bare true
+always_free true = refl
+always_free false = refl
+
+-- the same of a value that is reached twice
+pub place_written : (o : List ℕ) {p q r : List ℕ} (bare : Bool) (test : trees.Expr → Bool) (free inside : Bool) (tested printed v : Expr) (gap behind : Gap)
+    → bare ≡ test (read_expr tested) → tested ≡ v → printed ≡ v → inside ≡ inner_free bare free → behind ≡ inner_gap bare gap
+    → p ≡ o ++ opening bare → q ≡ p ++ text_of (expr_items inside (read_expr printed) behind) → r ≡ q ++ closing bare gap
+    → r ≡ o ++ text_of (placed (test (read_expr v)) (expr_items free (read_expr v) gap) (expr_items true (read_expr v) tight) gap)
+place_written o {p} {q} {r} bare test free inside tested printed v gap behind same d1 d2 f g a b c =
+    placed_written o bare (test (read_expr v)) free (read_expr v) gap (same ∙ ap (λ e. test (read_expr e)) d1) a
+    (b ∙ ap (λ t. p ++ t) (ap (λ (i : Bool). text_of (expr_items i (read_expr printed) behind)) f ∙ ap (λ e. text_of (expr_items (inner_free bare free) (read_expr e) behind)) d2 ∙ ap (λ h. text_of (expr_items (inner_free bare free) (read_expr v) h)) g)) c
+
+pub or_none : (a b : Bool) → a ≡ (a || (false && b))
+or_none true b = refl
+or_none false b = refl
+
+-- what was written of a value that is reached
+pub moved : {x y : Expr} (p : List ℕ) {q : List ℕ} (f : Expr → List ℕ) → x ≡ y → q ≡ p ++ f x → q ≡ p ++ f y
+moved p f e h = h ∙ ap (λ z. p ++ f z) e
+
+-- ---- the forms
+
+pub ty_text : (e : Expr) (free : Bool) (gap : Gap) → e.node ≡ nodes.Ty → codes "type" ++ gap ≡ text_of (expr_items free (read_expr e) gap)
+unfolding expr_items
+ty_text e free gap h =
+    sym (ap (λ t. text_of (expr_items free t gap)) (read_expr_is e ∙ ap (λ n. read_node n (read_span e.span)) h ∙ read_node_ty (read_span e.span)) ∙ one_item (type_item gap))
+
+pub name_text : (e : Expr) (p : code.Path) (free : Bool) (gap : Gap) → e.node ≡ nodes.Name p → spelled p ++ gap ≡ text_of (expr_items free (read_expr e) gap)
+unfolding expr_items
+name_text e p free gap h =
+    sym (ap (λ t. text_of (expr_items free t gap)) (read_expr_is e ∙ ap (λ n. read_node n (read_span e.span)) h ∙ read_node_name p (read_span e.span)) ∙ one_item (path_item p gap))
+
+pub app_text : (e : Expr) (h : Box Expr Global) (es : Exprs) (free : Bool) (gap : Gap) → e.node ≡ nodes.App h es
+    → text_of (placed (is_word (read_expr h.value)) (expr_items true (read_expr h.value) space) (expr_items true (read_expr h.value) tight) space) ++ text_of (args_items free (read_arguments (expressions_of es)) gap)
+    ≡ text_of (expr_items free (read_expr e) gap)
+unfolding expr_items
+app_text e h es free gap k =
+    sym (ap (λ t. text_of (expr_items free t gap)) (read_expr_is e ∙ ap (λ n. read_node n (read_span e.span)) k ∙ read_node_app h es (read_span e.span))
+    ∙ text_append (placed (is_word (read_expr h.value)) (expr_items true (read_expr h.value) space) (expr_items true (read_expr h.value) tight) space) (args_items free (read_arguments (expressions_of es)) gap))
+
+-- `{x : A} B` in the pieces that are written
+pub pi_text : (e : Expr) (x : Binder) (a b : Box Expr Global) (free : Bool) (gap : Gap) → e.node ≡ nodes.Pi x a b
+    → ((((codes "{" ++ (binder_bytes (read_binder x) ++ space)) ++ codes ": ") ++ text_of (expr_items true (read_expr a.value) tight)) ++ codes "} ") ++ text_of (expr_items true (read_expr b.value) gap)
+    ≡ text_of (expr_items free (read_expr e) gap)
+unfolding expr_items text_of
+pi_text e x a b free gap k =
+    let A : List Item = expr_items true (read_expr a.value) tight in
+    let B : List Item = expr_items true (read_expr b.value) gap in
+    let read = ap (λ t. text_of (expr_items free t gap)) (read_expr_is e ∙ ap (λ n. read_node n (read_span e.span)) k ∙ read_node_pi x a b (read_span e.span)) in
+    let parts : text_of (A ++ (right_brace space ∷ B)) ≡ text_of A ++ (codes "} " ++ text_of B) = text_append A (right_brace space ∷ B) in
+    append_assoc (((codes "{" ++ (binder_bytes (read_binder x) ++ space)) ++ codes ": ") ++ text_of A) (codes "} ") (text_of B)
+    ∙ append_assoc ((codes "{" ++ (binder_bytes (read_binder x) ++ space)) ++ codes ": ") (text_of A) (codes "} " ++ text_of B)
+    ∙ ap (λ t. ((codes "{" ++ (binder_bytes (read_binder x) ++ space)) ++ codes ": ") ++ t) (sym parts)
+    ∙ append_assoc (codes "{" ++ (binder_bytes (read_binder x) ++ space)) (codes ": ") (text_of (A ++ (right_brace space ∷ B)))
+    ∙ ap (λ t. codes "{" ++ t) (append_assoc (binder_bytes (read_binder x)) space (codes ": " ++ text_of (A ++ (right_brace space ∷ B))))
+    ∙ sym read
+
+pub typed_lam_text : (e : Expr) (x : Binder) (a b : Box Expr Global) (free : Bool) (gap : Gap) → e.node ≡ nodes.Lam x (Some a) b
+    → ((((codes "[" ++ (binder_bytes (read_binder x) ++ space)) ++ codes ": ") ++ text_of (expr_items true (read_expr a.value) tight)) ++ codes "] ") ++ text_of (expr_items true (read_expr b.value) gap)
+    ≡ text_of (expr_items free (read_expr e) gap)
+unfolding expr_items text_of
+typed_lam_text e x a b free gap k =
+    let A : List Item = expr_items true (read_expr a.value) tight in
+    let B : List Item = expr_items true (read_expr b.value) gap in
+    let read = ap (λ t. text_of (expr_items free t gap)) (read_expr_is e ∙ ap (λ n. read_node n (read_span e.span)) k ∙ read_node_typed_lam x a b (read_span e.span)) in
+    let parts : text_of (A ++ (right_bracket space ∷ B)) ≡ text_of A ++ (codes "] " ++ text_of B) = text_append A (right_bracket space ∷ B) in
+    append_assoc (((codes "[" ++ (binder_bytes (read_binder x) ++ space)) ++ codes ": ") ++ text_of A) (codes "] ") (text_of B)
+    ∙ append_assoc ((codes "[" ++ (binder_bytes (read_binder x) ++ space)) ++ codes ": ") (text_of A) (codes "] " ++ text_of B)
+    ∙ ap (λ t. ((codes "[" ++ (binder_bytes (read_binder x) ++ space)) ++ codes ": ") ++ t) (sym parts)
+    ∙ append_assoc (codes "[" ++ (binder_bytes (read_binder x) ++ space)) (codes ": ") (text_of (A ++ (right_bracket space ∷ B)))
+    ∙ ap (λ t. codes "[" ++ t) (append_assoc (binder_bytes (read_binder x)) space (codes ": " ++ text_of (A ++ (right_bracket space ∷ B))))
+    ∙ sym read
+
+pub lam_text : (e : Expr) (x : Binder) (b : Box Expr Global) (free : Bool) (gap : Gap) → e.node ≡ nodes.Lam x None b
+    → ((codes "[" ++ (binder_bytes (read_binder x) ++ tight)) ++ codes "] ") ++ text_of (expr_items true (read_expr b.value) gap) ≡ text_of (expr_items free (read_expr e) gap)
+unfolding expr_items text_of
+lam_text e x b free gap k =
+    let B : List Item = expr_items true (read_expr b.value) gap in
+    let read = ap (λ t. text_of (expr_items free t gap)) (read_expr_is e ∙ ap (λ n. read_node n (read_span e.span)) k ∙ read_node_lam x b (read_span e.span)) in
+    append_assoc (codes "[" ++ (binder_bytes (read_binder x) ++ tight)) (codes "] ") (text_of B)
+    ∙ ap (λ t. codes "[" ++ t) (append_assoc (binder_bytes (read_binder x)) tight (codes "] " ++ text_of B))
+    ∙ sym read
+
+pub arrow_text : (e : Expr) (a b : Box Expr Global) (free : Bool) (gap : Gap) → e.node ≡ nodes.Arrow a b
+    → (text_of (placed (is_operand (read_expr a.value)) (expr_items false (read_expr a.value) space) (expr_items true (read_expr a.value) tight) space) ++ codes "-> ")
+    ++ text_of (placed (if is_back (read_expr b.value) then false else true) (expr_items true (read_expr b.value) gap) (expr_items true (read_expr b.value) tight) gap)
+    ≡ text_of (expr_items free (read_expr e) gap)
+unfolding expr_items text_of
+arrow_text e a b free gap k =
+    let A : List Item = placed (is_operand (read_expr a.value)) (expr_items false (read_expr a.value) space) (expr_items true (read_expr a.value) tight) space in
+    let B : List Item = placed (if is_back (read_expr b.value) then false else true) (expr_items true (read_expr b.value) gap) (expr_items true (read_expr b.value) tight) gap in
+    append_assoc (text_of A) (codes "-> ") (text_of B) ∙ sym (text_append A (arrow_item ∷ B))
+    ∙ sym (ap (λ t. text_of (expr_items free t gap)) (read_expr_is e ∙ ap (λ n. read_node n (read_span e.span)) k ∙ read_node_arrow a b (read_span e.span)))
+
+pub back_text : (e : Expr) (b a : Box Expr Global) (free : Bool) (gap : Gap) → e.node ≡ nodes.Back b a
+    → (text_of (placed (is_operand (read_expr b.value) || is_back (read_expr b.value)) (expr_items false (read_expr b.value) space) (expr_items true (read_expr b.value) tight) space) ++ codes "<- ")
+    ++ text_of (placed (if free then is_last_operand (read_expr a.value) else is_operand (read_expr a.value)) (expr_items free (read_expr a.value) gap) (expr_items true (read_expr a.value) tight) gap)
+    ≡ text_of (expr_items free (read_expr e) gap)
+unfolding expr_items text_of
+back_text e b a free gap k =
+    let B : List Item = placed (is_operand (read_expr b.value) || is_back (read_expr b.value)) (expr_items false (read_expr b.value) space) (expr_items true (read_expr b.value) tight) space in
+    let A : List Item = placed (if free then is_last_operand (read_expr a.value) else is_operand (read_expr a.value)) (expr_items free (read_expr a.value) gap) (expr_items true (read_expr a.value) tight) gap in
+    append_assoc (text_of B) (codes "<- ") (text_of A) ∙ sym (text_append B (back_item ∷ A))
+    ∙ sym (ap (λ t. text_of (expr_items free t gap)) (read_expr_is e ∙ ap (λ n. read_node n (read_span e.span)) k ∙ read_node_back b a (read_span e.span)))
+
+-- ---- rows
+
+-- one element more of the front of a list
+pub next_taken : {A : Type 0} (xs : List A) (i : ℕ) (x : A) → x ≡ slice_index_or xs i x → i < length xs → take (i + 1) xs ≡ take i xs ++ (x ∷ [])
+next_taken xs i x e h = take_more xs i x h ∙ ap (λ z. take i xs ++ (z ∷ [])) (sym e)
+
+-- arguments with one more behind them
+pub read_last : (es : List Expr) (e : Expr) → read_arguments (es ++ (e ∷ [])) ≡ trees.ThenArg (read_arguments es) (read_expr e)
+read_last es e = from es trees.NoArgs
+  where
+    from : (xs : List Expr) (done : trees.Exprs) → fold trees.ThenArg done (map read_expr (xs ++ (e ∷ []))) ≡ trees.ThenArg (fold trees.ThenArg done (map read_expr xs)) (read_expr e)
+    from [] done = refl
+    from (x ∷ xs) done = from xs (trees.ThenArg done (read_expr x))
+
+-- the text of arguments with one more behind them
+pub args_text : (es : List Expr) (e : Expr) (free : Bool) (gap : Gap)
+    → text_of (args_items false (read_arguments es) space) ++ text_of (placed (is_word (read_expr e) || (free && is_binding (read_expr e))) (expr_items true (read_expr e) gap) (expr_items true (read_expr e) tight) gap)
+    ≡ text_of (args_items free (read_arguments (es ++ (e ∷ []))) gap)
+unfolding expr_items
+args_text es e free gap =
+    sym (ap (λ xs. text_of (args_items free xs gap)) (read_last es e)
+    ∙ text_append (args_items false (read_arguments es) space) (placed (is_word (read_expr e) || (free && is_binding (read_expr e))) (expr_items true (read_expr e) gap) (expr_items true (read_expr e) tight) gap))
+
+-- the names of a path so far, with one more
+pub dotted_next : (names : Path) (i : ℕ) (n : List ℕ) → n ≡ slice_index_or names i n → i < length names → dotted (take (i + 1) names) ≡ dotted (take i names) ++ (46 ∷ n)
+dotted_next names i n e h = ap dotted (next_taken names i n e h) ∙ dotted_last (take i names) n
+  where
+    dotted_last : (xs : Path) (n : List ℕ) → dotted (xs ++ (n ∷ [])) ≡ dotted xs ++ (46 ∷ n)
+    dotted_last [] n = ap (λ t. 46 ∷ t) (append-nil n)
+    dotted_last (x ∷ xs) n = ap (λ t. 46 ∷ (x ++ t)) (dotted_last xs n) ∙ ap (λ t. 46 ∷ t) (sym (append_assoc x (dotted xs) (46 ∷ n)))
+
+-- ---- what the arms write
+
+pub pi_written : (o : List ℕ) {p1 p2 p3 p4 p5 p6 : List ℕ} (e : Expr) (x : Binder) (a b : Box Expr Global) (free : Bool) (gap : Gap) → e.node ≡ nodes.Pi x a b
+    → p1 ≡ o ++ codes "{" → p2 ≡ p1 ++ (binder_bytes (read_binder x) ++ space) → p3 ≡ p2 ++ codes ": " → p4 ≡ p3 ++ text_of (expr_items true (read_expr a.value) tight)
+    → p5 ≡ p4 ++ codes "} " → p6 ≡ p5 ++ text_of (expr_items true (read_expr b.value) gap) → p6 ≡ o ++ text_of (expr_items free (read_expr e) gap)
+pi_written o e x a b free gap k q1 q2 q3 q4 q5 q6 =
+    let t2 : List ℕ = codes "{" ++ (binder_bytes (read_binder x) ++ space) in
+    let A : List ℕ = text_of (expr_items true (read_expr a.value) tight) in
+    let B : List ℕ = text_of (expr_items true (read_expr b.value) gap) in
+    written_then o (((t2 ++ codes ": ") ++ A) ++ codes "} ") B
+    (written_then o ((t2 ++ codes ": ") ++ A) (codes "} ") (written_then o (t2 ++ codes ": ") A (written_then o t2 (codes ": ") (written_then o (codes "{") (binder_bytes (read_binder x) ++ space) q1 q2) q3) q4) q5) q6
+    ∙ ap (λ t. o ++ t) (pi_text e x a b free gap k)
+
+pub typed_lam_written : (o : List ℕ) {p1 p2 p3 p4 p5 p6 : List ℕ} (e : Expr) (x : Binder) (a b : Box Expr Global) (free : Bool) (gap : Gap) → e.node ≡ nodes.Lam x (Some a) b
+    → p1 ≡ o ++ codes "[" → p2 ≡ p1 ++ (binder_bytes (read_binder x) ++ space) → p3 ≡ p2 ++ codes ": " → p4 ≡ p3 ++ text_of (expr_items true (read_expr a.value) tight)
+    → p5 ≡ p4 ++ codes "] " → p6 ≡ p5 ++ text_of (expr_items true (read_expr b.value) gap) → p6 ≡ o ++ text_of (expr_items free (read_expr e) gap)
+typed_lam_written o e x a b free gap k q1 q2 q3 q4 q5 q6 =
+    let t2 : List ℕ = codes "[" ++ (binder_bytes (read_binder x) ++ space) in
+    let A : List ℕ = text_of (expr_items true (read_expr a.value) tight) in
+    let B : List ℕ = text_of (expr_items true (read_expr b.value) gap) in
+    written_then o (((t2 ++ codes ": ") ++ A) ++ codes "] ") B
+    (written_then o ((t2 ++ codes ": ") ++ A) (codes "] ") (written_then o (t2 ++ codes ": ") A (written_then o t2 (codes ": ") (written_then o (codes "[") (binder_bytes (read_binder x) ++ space) q1 q2) q3) q4) q5) q6
+    ∙ ap (λ t. o ++ t) (typed_lam_text e x a b free gap k)
+
+pub lam_written : (o : List ℕ) {p1 p2 p3 p4 : List ℕ} (e : Expr) (x : Binder) (b : Box Expr Global) (free : Bool) (gap : Gap) → e.node ≡ nodes.Lam x None b
+    → p1 ≡ o ++ codes "[" → p2 ≡ p1 ++ (binder_bytes (read_binder x) ++ tight) → p3 ≡ p2 ++ codes "] " → p4 ≡ p3 ++ text_of (expr_items true (read_expr b.value) gap)
+    → p4 ≡ o ++ text_of (expr_items free (read_expr e) gap)
+lam_written o e x b free gap k q1 q2 q3 q4 =
+    let t2 : List ℕ = codes "[" ++ (binder_bytes (read_binder x) ++ tight) in
+    written_then o (t2 ++ codes "] ") (text_of (expr_items true (read_expr b.value) gap)) (written_then o t2 (codes "] ") (written_then o (codes "[") (binder_bytes (read_binder x) ++ tight) q1 q2) q3) q4
+    ∙ ap (λ t. o ++ t) (lam_text e x b free gap k)
+
+pub app_written : (o : List ℕ) {p q : List ℕ} (e : Expr) (h : Box Expr Global) (es : Exprs) (free : Bool) (gap : Gap) → e.node ≡ nodes.App h es
+    → p ≡ o ++ text_of (placed (is_word (read_expr h.value)) (expr_items true (read_expr h.value) space) (expr_items true (read_expr h.value) tight) space)
+    → q ≡ p ++ text_of (args_items free (read_arguments (expressions_of es)) gap) → q ≡ o ++ text_of (expr_items free (read_expr e) gap)
+app_written o e h es free gap k a b =
+    written_then o (text_of (placed (is_word (read_expr h.value)) (expr_items true (read_expr h.value) space) (expr_items true (read_expr h.value) tight) space)) (text_of (args_items free (read_arguments (expressions_of es)) gap)) a b
+    ∙ ap (λ t. o ++ t) (app_text e h es free gap k)
+
+pub arrow_written : (o : List ℕ) {p q r : List ℕ} (e : Expr) (a b : Box Expr Global) (free : Bool) (gap : Gap) → e.node ≡ nodes.Arrow a b
+    → p ≡ o ++ text_of (placed (is_operand (read_expr a.value)) (expr_items false (read_expr a.value) space) (expr_items true (read_expr a.value) tight) space)
+    → q ≡ p ++ codes "-> "
+    → r ≡ q ++ text_of (placed (if is_back (read_expr b.value) then false else true) (expr_items true (read_expr b.value) gap) (expr_items true (read_expr b.value) tight) gap)
+    → r ≡ o ++ text_of (expr_items free (read_expr e) gap)
+arrow_written o e a b free gap k f g h =
+    let A : List ℕ = text_of (placed (is_operand (read_expr a.value)) (expr_items false (read_expr a.value) space) (expr_items true (read_expr a.value) tight) space) in
+    let B : List ℕ = text_of (placed (if is_back (read_expr b.value) then false else true) (expr_items true (read_expr b.value) gap) (expr_items true (read_expr b.value) tight) gap) in
+    written_then o (A ++ codes "-> ") B (written_then o A (codes "-> ") f g) h ∙ ap (λ t. o ++ t) (arrow_text e a b free gap k)
+
+pub back_written : (o : List ℕ) {p q r : List ℕ} (e : Expr) (b a : Box Expr Global) (free : Bool) (gap : Gap) → e.node ≡ nodes.Back b a
+    → p ≡ o ++ text_of (placed (is_operand (read_expr b.value) || is_back (read_expr b.value)) (expr_items false (read_expr b.value) space) (expr_items true (read_expr b.value) tight) space)
+    → q ≡ p ++ codes "<- "
+    → r ≡ q ++ text_of (placed (if free then is_last_operand (read_expr a.value) else is_operand (read_expr a.value)) (expr_items free (read_expr a.value) gap) (expr_items true (read_expr a.value) tight) gap)
+    → r ≡ o ++ text_of (expr_items free (read_expr e) gap)
+back_written o e b a free gap k f g h =
+    let B : List ℕ = text_of (placed (is_operand (read_expr b.value) || is_back (read_expr b.value)) (expr_items false (read_expr b.value) space) (expr_items true (read_expr b.value) tight) space) in
+    let A : List ℕ = text_of (placed (if free then is_last_operand (read_expr a.value) else is_operand (read_expr a.value)) (expr_items free (read_expr a.value) gap) (expr_items true (read_expr a.value) tight) gap) in
+    written_then o (B ++ codes "<- ") A (written_then o B (codes "<- ") f g) h ∙ ap (λ t. o ++ t) (back_text e b a free gap k)
+
+-- arguments so far, with one more
+pub args_written : (o : List ℕ) {p q : List ℕ} (done all : List Expr) (e : Expr) (free : Bool) (gap : Gap) → all ≡ done ++ (e ∷ [])
+    → p ≡ o ++ text_of (args_items false (read_arguments done) space)
+    → q ≡ p ++ text_of (placed (is_word (read_expr e) || (free && is_binding (read_expr e))) (expr_items true (read_expr e) gap) (expr_items true (read_expr e) tight) gap)
+    → q ≡ o ++ text_of (args_items free (read_arguments all) gap)
+args_written o done all e free gap same a b =
+    written_then o (text_of (args_items false (read_arguments done) space)) (text_of (placed (is_word (read_expr e) || (free && is_binding (read_expr e))) (expr_items true (read_expr e) gap) (expr_items true (read_expr e) tight) gap)) a b
+    ∙ ap (λ t. o ++ t) (args_text done e free gap ∙ ap (λ es. text_of (args_items free (read_arguments es) gap)) (sym same))
+
+-- no arguments
+pub args_none : (o : List ℕ) (slice es : List Expr) (free : Bool) (gap : Gap) → slice ≡ es → length slice ≡ 0 → o ≡ o ++ text_of (args_items free (read_arguments es) gap)
+unfolding text_of args_items
+args_none o slice es free gap same h = by es (ap (λ xs. length xs) (sym same) ∙ h)
+  where
+    by : (xs : List Expr) → length xs ≡ 0 → o ≡ o ++ text_of (args_items free (read_arguments xs) gap)
+    by [] e = sym (append-nil o)
+    by (x ∷ xs) e = absurd (omega arith)
