@@ -1,0 +1,4 @@
+pub mod Answered
+pub mod Arguments
+pub mod Declarations
+pub mod Environments
