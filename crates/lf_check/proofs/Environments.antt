@@ -3,7 +3,7 @@ use Rattle.std.proofs.Common.{◌≡◌, ℕ, suc, List, [], ◌∷◌, ◌++◌
 use Rattle.std.specs.Prelude.{slice_get}
 use Rattle.std.specs.Option.{option_copied, option_map}
 use Rattle.std.proofs.lemmas.Option.{slice_get-map}
-use Rattle.std.proofs.lemmas.List.{reverse-append}
+use Rattle.std.proofs.lemmas.List.{map-append, reverse-append}
 use Rattle.lf_meaning.specs.Terms.{Context}
 use Rattle.lf_terms.specs.Readings.{read_context, read_family}
 use Rattle.lf_terms.specs.declared.fam.Fam.{Fam}
@@ -18,10 +18,6 @@ read_given ctx = ap read_variables (sym (variables.rolls-Given ctx)) ∙ fold-ro
 
 pub read_bound : (family : Bor Fam) (outer : Bor Variables) → read_variables (variables.Bound family outer) ≡ read_family family.now ∷ read_variables outer.now
 read_bound family outer = ap read_variables (sym (variables.rolls-Bound family outer)) ∙ fold-roll-Variables Context read_variables_layer (opened.Bound family outer)
-
-map-append : {A B : Type 0} (f : A → B) (xs ys : List A) → map f (xs ++ ys) ≡ map f xs ++ map f ys
-map-append f [] ys = refl
-map-append f (x ∷ xs) ys = ap (λ zs. f x ∷ zs) (map-append f xs ys)
 
 map-reverse : {A B : Type 0} (f : A → B) (xs : List A) → map f (reverse xs) ≡ reverse (map f xs)
 map-reverse f [] = refl

@@ -1,5 +1,7 @@
 -- What the answers of this crate say, in the words of the definitions.
-use Rattle.std.specs.Prelude.{◌≡◌, Option, Some, None, Result, Ok, Err, IfSome, MatchOption, ⊤}
+use Rattle.std.specs.Prelude.{◌≡◌, Option, Some, None, Result, Ok, Err, IfSome, MatchOption, slice_get, take, ⊤}
+use Rattle.lf_meaning.specs.Signatures.{Declaration, Signature}
+use Rattle.lf_meaning.specs.Judgements.{IsDeclaration, IsSignature}
 use Rattle.lf_meaning.specs.Faults.{Fault, BadDeclaration}
 use Rattle.lf_meaning.specs.Faults as meant
 use Rattle.lf_check.specs.declared.faults.LfFault.{LfFault}
@@ -44,3 +46,8 @@ AnswersSignature (Err e) first = IsFirstBad e first
 abbrev pub RefutesSignature : SigFault → Type 0 → Type 0
 RefutesSignature (bad.Bad index e) P = P → ⊥
 RefutesSignature bad.Memory P = ⊤
+
+-- The declarations before the bad one are well typed, and it is none over them. Want of memory says nothing.
+abbrev pub IsBadOf : SigFault → Signature → Type 0
+IsBadOf (bad.Bad index e) sig = IsSignature (take index sig) × (d : Declaration) × (slice_get sig index ≡ Some d) × (IsDeclaration (take index sig) d → ⊥)
+IsBadOf bad.Memory sig = ⊤

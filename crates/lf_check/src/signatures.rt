@@ -5,7 +5,7 @@ ghost use Rattle.lf_meaning.specs.Judgements.{IsSignature};
 ghost use Rattle.lf_meaning.specs.Faults.{BadDeclaration, Fault, bad_at, class_fault, declaration_fault, family_fault, same_fault, signature_fault, value_fault};
 ghost use Rattle.lf_meaning.specs.Signatures.{class_of};
 ghost use Rattle.lf_terms.specs.Readings.{read_class, read_constant, read_declaration, read_family, read_kind, read_signature, read_value};
-ghost use Rattle.lf_check.specs.Answers.{AnswersSignature, IsFirstBad, RefutesSignature};
+ghost use Rattle.lf_check.specs.Answers.{AnswersSignature, IsBadOf, IsFirstBad, RefutesSignature};
 ghost use Rattle.lf_check.specs.Environments.{context_over, signature_over};
 ghost use Rattle.lf_check.specs.Stops.{Checked, Stops};
 
@@ -24,6 +24,7 @@ pub fn check_sig(alloc: Global, sig: &FlatSig) -> Result<(), SigFault>
     ensures answer { AnswersSignature result (signature_fault (read_signature sig.now)) }
     ensures accepted { OnOk result (IsSignature (read_signature sig.now)) }
     ensures refused { IfErr result (λ fault. RefutesSignature fault (IsSignature (read_signature sig.now))) }
+    ensures first { IfErr result (λ fault. IsBadOf fault (read_signature sig.now)) }
 {
     for index in 0..sig.len() {
         if let Some(decl) = sig.at(index) {
