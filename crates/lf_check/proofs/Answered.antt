@@ -53,9 +53,12 @@ got (x ∷ xs) y ys = got xs y ys
 bad_over : (before after sig : Signature) (d : Declaration) (index : ℕ) (fault : Fault) → sig ≡ before ++ (d ∷ after) → index ≡ length before → IsSignature before → declaration_fault before d ≡ Some fault
     → IsSignature (take index sig) × (c : Declaration) × (slice_get sig index ≡ Some c) × (IsDeclaration (take index sig) c → ⊥)
 bad_over before after sig d index fault split place typed is =
-    let front : take index sig ≡ before = ap₂ take place split ∙ taken before (d ∷ after) in
-    (subst IsSignature (sym front) typed, d, ap₂ slice_get split place ∙ got before d after,
-     λ h. absurd (let none : declaration_fault before d ≡ None = declaration_complete before d (subst (λ s. IsDeclaration s d) front h) in cc))
+    let front : take index sig ≡ before = ap₂ take place split ∙ taken before (d ∷ after) in (
+      subst IsSignature (sym front) typed,
+      d,
+      ap₂ slice_get split place ∙ got before d after,
+      λ h. absurd (let none : declaration_fault before d ≡ None = declaration_complete before d (subst (λ s. IsDeclaration s d) front h) in cc),
+    )
 
 pub is_bad_of : (sig : Signature) (e : SigFault) → IsFirstBad e (signature_fault sig) → IsBadOf e sig
 is_bad_of sig bad.Memory h = tt

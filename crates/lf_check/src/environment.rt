@@ -114,10 +114,12 @@ impl<'a> Environment<'a> {
     pub(crate) fn class(&self, name: &QName) -> Option<&Class>
         ensures { option_map (λ k. read_class k.now) result ≡ class_of (signature_over self.now) (read_constant name.now) }
     {
-        match self.declaration(name) {
-            Some(FlatDecl {
-                class, value: None, ..
-            }) => Some(class),
+        match self.declaration(name)? {
+            FlatDecl {
+                class,
+                value: None,
+                ..
+            } => Some(class),
             _ => None,
         }
     }

@@ -88,18 +88,11 @@ fn applied(alloc: Global, argument: &Obj, domain: &Fam, body: &Kind) -> Result<B
     ensures { IfOk result (λ k. read_kind k.value ≡ substitute_kind (read_object argument.now) (erasure.erase (read_family domain.now)) 0 (read_kind body.now)) }
 {
     let simple = Box::new(alloc, erase(alloc, domain)?)?;
-    Ok(Box::new(
-        alloc,
-        subst_kind(alloc, argument, &simple, 0, body)?,
-    )?)
+    Ok(Box::new(alloc, subst_kind(alloc, argument, &simple, 0, body)?)?)
 }
 
 /// The kind of a family constant.
-fn constant_kind(
-    alloc: Global,
-    env: &Environment<'_>,
-    constant: &QName,
-) -> Result<Box<Kind>, Stop>
+fn constant_kind(alloc: Global, env: &Environment<'_>, constant: &QName) -> Result<Box<Kind>, Stop>
     ensures { Found (λ k. read_kind k.value) result (family_constant_answer (class_of (signature_over env.now) (read_constant constant.now))) }
 {
     match env.class(constant) {

@@ -81,10 +81,7 @@ fn applied(alloc: Global, argument: &Obj, domain: &Fam, body: &Fam) -> Result<Bo
     ensures { IfOk result (λ a. read_family a.value ≡ substitute_family (read_object argument.now) (erasure.erase (read_family domain.now)) 0 (read_family body.now)) }
 {
     let simple = Box::new(alloc, erase(alloc, domain)?)?;
-    Ok(Box::new(
-        alloc,
-        subst_fam(alloc, argument, &simple, 0, body)?,
-    )?)
+    Ok(Box::new(alloc, subst_fam(alloc, argument, &simple, 0, body)?)?)
 }
 
 /// The family of a head without arguments.
@@ -109,11 +106,7 @@ fn variable_family(alloc: Global, env: &Environment<'_>, index: u32) -> Result<B
 }
 
 /// The family of a constant.
-fn constant_family(
-    alloc: Global,
-    env: &Environment<'_>,
-    constant: &QName,
-) -> Result<Box<Fam>, Stop>
+fn constant_family(alloc: Global, env: &Environment<'_>, constant: &QName) -> Result<Box<Fam>, Stop>
     ensures { Found (λ a. read_family a.value) result (constant_answer (class_of (signature_over env.now) (read_constant constant.now))) }
 {
     match env.class(constant) {

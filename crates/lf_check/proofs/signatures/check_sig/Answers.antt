@@ -29,10 +29,11 @@ returns-in-Err-clause-first c = is_bad_of (read_signature c.args.sig.now) c.in_d
 pub loop-index-preserved : goal.loop-index-preserved
 loop-index-preserved c =
     elim c.match-at.branch [
-      in-Some+in_default-check_declaration w ↦
-        let there : slice_get c.args.sig.now c.loop-index.index ≡ Some w.in-Some.decl.now = sym w.in-Some.ensures.item in
-        goes_on c.args.sig.now c.loop-index.index w.in-Some.decl.now there (signature_fault (read_signature c.args.sig.now)) c.loop-index.invariant w.in_default-check_declaration.ensures
-    | in_default w ↦ absurd (omega (arith, c.len-index-end.ensures.len, w.in_default.ensures.none.0 refl)) ]
+      | in-Some+in_default-check_declaration w ↦
+          let there : slice_get c.args.sig.now c.loop-index.index ≡ Some w.in-Some.decl.now = sym w.in-Some.ensures.item in
+          goes_on c.args.sig.now c.loop-index.index w.in-Some.decl.now there (signature_fault (read_signature c.args.sig.now)) c.loop-index.invariant w.in_default-check_declaration.ensures
+      | in_default w ↦ absurd (omega (arith, c.len-index-end.ensures.len, w.in_default.ensures.none.0 refl))
+    ]
 
 pub returns-clause-accepted : goal.returns-clause-accepted
 returns-clause-accepted c =
