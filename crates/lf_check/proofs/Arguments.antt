@@ -1,8 +1,8 @@
 -- A head takes its arguments one by one.
-use Rattle.std.proofs.Common.{◌≡◌, ℕ, suc, ◌+◌, ◌<◌, ◌≤◌, List, [], ◌∷◌, map, drop, length, get_or, Option, Some, None, Result, Ok, Err, refl, sym, ap, ◌∙◌}
+use Rattle.std.proofs.Common.{◌≡◌, ℕ, suc, ◌+◌, ◌<◌, List, [], ◌∷◌, drop, length, get_or, Option, Some, None, Result, Ok, Err, refl, sym, ap, ◌∙◌}
 use Rattle.std.specs.Prelude.{IfSome}
 use Rattle.std.proofs.Math.Seq.{drop-cons}
-use Rattle.lf_meaning.specs.Terms.{Constant, Object, Atomic, Family, AtFamily, AtomicFamily, FamilyCon, Kind, Ty, Context, apply_all, family_apply_all, argument_count}
+use Rattle.lf_meaning.specs.Terms.{Constant, Object, Family, AtFamily, AtomicFamily, FamilyCon, Kind, Ty, Context, apply_all, family_apply_all, argument_count}
 use Rattle.lf_meaning.specs.Signatures.{Signature}
 use Rattle.lf_meaning.specs.Faults.{Fault, NotAFunction, synthesised, synthesised_kind, application_answer, family_application_answer, object_fault}
 use Rattle.lf_meaning.specs.SpineSynthesis.{arguments_answer, family_arguments_answer}

@@ -8,7 +8,7 @@ use Rattle.std.proofs.lemmas.Option.{slice_get_past}
 use Rattle.std.proofs.lemmas.Bool.{ltb-true, ltb-false}
 use Rattle.lf_meaning.specs.Signatures.{same_constant, declaration_of}
 use Rattle.lf_terms.specs.Readings.{read_constant, read_declaration, read_signature}
-use Rattle.lf_terms.specs.Tables.{declared, place_of}
+use Rattle.lf_terms.specs.Tables.{place_of}
 use Rattle.lf_terms.specs.declared.flat_decl.FlatDecl.{FlatDecl}
 use Rattle.lf_terms.specs.declared.qname.QName.{QName}
 use Rattle.lf_terms.proofs.Lookup.{declared_read}

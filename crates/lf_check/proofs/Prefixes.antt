@@ -1,15 +1,12 @@
 -- A signature checked declaration by declaration.
-use Rattle.std.proofs.Common.{◌≡◌, ℕ, suc, ◌+◌, ◌<◌, ◌≤◌, List, [], ◌∷◌, ◌++◌, length, map, take, drop, get_or, Option, Some, None, refl, sym, ap, ap₂, ◌∙◌, arith, add-one}
+use Rattle.std.proofs.Common.{◌≡◌, ℕ, suc, ◌+◌, ◌<◌, ◌≤◌, List, [], ◌∷◌, ◌++◌, length, take, drop, Option, Some, None, sym, ap, ap₂, ◌∙◌, arith, add-one}
 use Rattle.std.specs.Prelude.{slice_get}
 use Rattle.std.proofs.Math.Seq.{drop-cons}
 use Rattle.std.proofs.lemmas.List.{take_more, length-take-le, length-map, map-append, drop_all}
 use Rattle.std.proofs.lemmas.Option.{slice_get_within, get_or_from_slice_get}
-use Rattle.lf_meaning.specs.Signatures.{Signature}
-use Rattle.lf_meaning.specs.Faults.{Fault, BadDeclaration, bad_at, declaration_fault, signature_fault_after}
+use Rattle.lf_meaning.specs.Faults.{BadDeclaration, bad_at, declaration_fault, signature_fault_after}
 use Rattle.lf_terms.specs.Readings.{read_declaration, read_signature}
 use Rattle.lf_terms.specs.declared.flat_decl.FlatDecl.{FlatDecl}
-use Rattle.lf_check.specs.Answers.{IsFirstBad}
-use Rattle.lf_check.specs.declared.faults.SigFault.{SigFault}
 
 module _ (decls : List FlatDecl) (i : ℕ) (d : FlatDecl) (there : slice_get decls i ≡ Some d) where
   within : i < length decls

@@ -19,4 +19,4 @@ mod judgement_tests;
 #[cfg(test)]
 mod signature_tests;
 #[cfg(test)]
-mod test_terms;
+mod test_texts;

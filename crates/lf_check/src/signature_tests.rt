@@ -1,379 +1,192 @@
-//! Flat signatures, each with ample memory. An object or family that is written `f x` takes its arguments from the stack.
+//! Flat signatures, each with ample memory.
 
-use crate::test_terms::Step::{Con, Fam, Lam, Pi, PiKind, Ty, Var};
-use crate::test_terms::{Step, abbreviate, declare, define, same, stands, vectors};
+use crate::test_texts::{is_fault, signature, with_line};
 use crate::{SigFault, check_sig};
 use lf_terms::FlatSig;
 use std::alloc::Global;
 use std::test::Fail;
 
+pub(crate) const VECTORS: &str = "\
+nat : type
+z : .nat
+s : .nat .nat pi
+vec : .nat type pi
+nil : z .vec/1
+cons : .nat .nat #1 .vec/1 #2 s/1 .vec/1 pi pi pi";
+
 /// Whether the first bad declaration is that one, with that fault.
-fn is_bad(alloc: Global, sig: &FlatSig, index: usize, name: &str, place: &[u32]) -> bool {
+fn is_bad(alloc: Global, sig: &FlatSig, index: usize, wanted: &str) -> Result<bool, Fail> {
     match check_sig(alloc, sig) {
-        Err(SigFault::Bad { index: at, fault }) => at == index && stands(&fault, name, place),
-        _ => false,
+        Err(SigFault::Bad { index: at, fault }) => {
+            Ok(at == index && is_fault(alloc, &fault, wanted)?)
+        }
+        _ => Ok(false),
     }
 }
 
-/// Whether vectors, and then one further constant with that class, have their first fault in that constant.
-fn bad_class(alloc: Global, class: &[Step], name: &str, place: &[u32]) -> Result<bool, Fail> {
-    let mut sig = vectors(alloc)?;
-    declare(alloc, &mut sig, "d", class)?;
-    Ok(is_bad(alloc, &sig, 6, name, place))
-}
-
-/// The same of a constant with that value.
-fn bad_value(
-    alloc: Global,
-    class: &[Step],
-    value: &[Step],
-    name: &str,
-    place: &[u32],
-) -> Result<bool, Fail> {
-    let mut sig = vectors(alloc)?;
-    define(alloc, &mut sig, "d", class, value)?;
-    Ok(is_bad(alloc, &sig, 6, name, place))
-}
-
-/// Whether vectors and one further constant with that value are well typed.
-fn good_value(alloc: Global, class: &[Step], value: &[Step]) -> Result<bool, Fail> {
-    let mut sig = vectors(alloc)?;
-    define(alloc, &mut sig, "d", class, value)?;
-    Ok(check_sig(alloc, &sig).is_ok())
+/// Whether each line, which has a declaration and behind ` ? ` what is wanted of it after the declarations of the text, is
+/// answered so: `ok`, or a fault of that declaration.
+fn answered(alloc: Global, text: &str, lines: &str) -> Result<bool, Fail> {
+    for line in lines.lines() {
+        let (declaration, wanted) = line.split_once(" ? ").ok_or("nothing is wanted")?;
+        let sig = with_line(alloc, text, declaration)?;
+        let holds = if wanted == "ok" {
+            check_sig(alloc, &sig).is_ok()
+        } else {
+            is_bad(alloc, &sig, text.lines().count(), wanted)?
+        };
+        if !holds {
+            return Ok(false);
+        }
+    }
+    Ok(true)
 }
 
 #[test]
-fn a_function_at_its_own_domain_is_a_mismatch(rt: HostRuntime) -> Result<(), Fail> {
+fn a_function_at_its_own_domain(rt: HostRuntime) -> Result<(), Fail> {
     let alloc = rt.alloc();
-    let mut sig = FlatSig::new(alloc);
-    declare(alloc, &mut sig, "a", &[Ty])?;
-    declare(alloc, &mut sig, "f", &[Fam("a", 0), Fam("a", 0), Pi])?;
-    define(
-        alloc,
-        &mut sig,
-        "c",
-        &[Fam("a", 0)],
-        &[Con("f", 0), Con("f", 1)],
-    )?;
-    assert!(rt; is_bad(alloc, &sig, 2, "mismatch", &[1, 2]));
+    let first_order = signature(alloc, "a : type\nf : .a .a pi\nc : .a = f f/1")?;
+    assert!(rt; is_bad(alloc, &first_order, 2, "mismatch 1 2")?);
+    let second_order = signature(alloc, "a : type\nf : .a .a pi .a pi\nc : .a = f f/1")?;
+    assert!(rt; is_bad(alloc, &second_order, 2, "not-canonical 1 2")?);
     Ok(())
 }
 
-#[test]
-fn a_bare_function_at_a_product_is_not_canonical(rt: HostRuntime) -> Result<(), Fail> {
-    let alloc = rt.alloc();
-    let mut sig = FlatSig::new(alloc);
-    declare(alloc, &mut sig, "a", &[Ty])?;
-    let class = [Fam("a", 0), Fam("a", 0), Pi, Fam("a", 0), Pi];
-    declare(alloc, &mut sig, "f", &class)?;
-    define(
-        alloc,
-        &mut sig,
-        "c",
-        &[Fam("a", 0)],
-        &[Con("f", 0), Con("f", 1)],
-    )?;
-    assert!(rt; is_bad(alloc, &sig, 2, "not canonical", &[1, 2]));
-    Ok(())
-}
-
-/// First-order logic.
-fn logic(alloc: Global) -> Result<FlatSig, Fail> {
-    let mut sig = FlatSig::new(alloc);
-    declare(alloc, &mut sig, "i", &[Ty])?;
-    declare(alloc, &mut sig, "o", &[Ty])?;
-    declare(alloc, &mut sig, "pf", &[Fam("o", 0), Ty, PiKind])?;
-    let eq = [Fam("i", 0), Fam("i", 0), Fam("o", 0), Pi, Pi];
-    declare(alloc, &mut sig, "eq", &eq)?;
-    let all = [Fam("i", 0), Fam("o", 0), Pi, Fam("o", 0), Pi];
-    declare(alloc, &mut sig, "all", &all)?;
-    Ok(sig)
-}
+const MONOID: &str = "\
+i : type
+o : type
+pf : .o type pi
+eq : .i .i .o pi pi
+all : .i .o pi .o pi
+op : .i .i .i pi pi
+e : .i
+left : .i e #0 op/2 #0 eq/2 .pf/1 pi
+right : .i #0 e op/2 #0 eq/2 .pf/1 pi";
 
 #[test]
-fn a_monoid_over_first_order_logic_is_well_typed(rt: HostRuntime) -> Result<(), Fail> {
+fn a_monoid_over_first_order_logic(rt: HostRuntime) -> Result<(), Fail> {
     let alloc = rt.alloc();
-    let mut sig = logic(alloc)?;
-    let op = [Fam("i", 0), Fam("i", 0), Fam("i", 0), Pi, Pi];
-    declare(alloc, &mut sig, "op", &op)?;
-    declare(alloc, &mut sig, "e", &[Fam("i", 0)])?;
-    let left = [
-        Fam("i", 0),
-        Con("e", 0),
-        Var(0, 0),
-        Con("op", 2),
-        Var(0, 0),
-        Con("eq", 2),
-        Fam("pf", 1),
-        Pi,
-    ];
-    declare(alloc, &mut sig, "left", &left)?;
-    let right = [
-        Fam("i", 0),
-        Var(0, 0),
-        Con("e", 0),
-        Con("op", 2),
-        Var(0, 0),
-        Con("eq", 2),
-        Fam("pf", 1),
-        Pi,
-    ];
-    declare(alloc, &mut sig, "right", &right)?;
+    let sig = signature(alloc, MONOID)?;
     assert_eq!(rt; sig.len(), 9);
     assert!(rt; check_sig(alloc, &sig).is_ok());
     Ok(())
 }
 
+const LISTS: &str = "\
+one : z s/1 .vec/1 = z z nil cons/3 ? ok
+of-another-length : z .vec/1 = z z nil cons/3 ? mismatch 1
+tail-of-another-length : z s/1 .vec/1 = z s/1 z nil cons/3 ? mismatch 1 4
+longer : .nat #0 s/1 .vec/1 #1 s/1 s/1 .vec/1 pi pi = #1 s/1 #1 #0 cons/3 lam lam ? ok";
+
 #[test]
 fn vectors_over_naturals(rt: HostRuntime) -> Result<(), Fail> {
-    let alloc = rt.alloc();
-    let one = [Con("z", 0), Con("s", 1), Fam("vec", 1)];
-    let list = [Con("z", 0), Con("z", 0), Con("nil", 0), Con("cons", 3)];
-    assert!(rt; good_value(alloc, &one, &list)?, "a vector of one element");
-    let none = [Con("z", 0), Fam("vec", 1)];
-    assert!(rt;
-        bad_value(alloc, &none, &list, "mismatch", &[1])?,
-        "its length is another"
-    );
-    let longer = [
-        Con("z", 0),
-        Con("s", 1),
-        Con("z", 0),
-        Con("nil", 0),
-        Con("cons", 3),
-    ];
-    assert!(rt;
-        bad_value(alloc, &one, &longer, "mismatch", &[1, 4])?,
-        "the tail's length is another"
-    );
+    assert!(rt; answered(rt.alloc(), VECTORS, LISTS)?);
     Ok(())
 }
 
-/// Vectors, and equality of naturals with its proofs.
-fn equality(alloc: Global) -> Result<FlatSig, Fail> {
-    let mut sig = vectors(alloc)?;
-    let eq = [Fam("nat", 0), Fam("nat", 0), Ty, PiKind, PiKind];
-    declare(alloc, &mut sig, "eq", &eq)?;
-    let refl = [Fam("nat", 0), Var(0, 0), Var(0, 0), Fam("eq", 2), Pi];
-    declare(alloc, &mut sig, "refl", &refl)?;
-    let sym = [
-        Fam("nat", 0),
-        Fam("nat", 0),
-        Var(1, 0),
-        Var(0, 0),
-        Fam("eq", 2),
-        Var(1, 0),
-        Var(2, 0),
-        Fam("eq", 2),
-        Pi,
-        Pi,
-        Pi,
-    ];
-    declare(alloc, &mut sig, "sym", &sym)?;
-    Ok(sig)
-}
+const EQUALITY: &str = "\
+nat : type
+z : .nat
+s : .nat .nat pi
+eq : .nat .nat type pi pi
+refl : .nat #0 #0 .eq/2 pi
+sym : .nat .nat #1 #0 .eq/2 #1 #2 .eq/2 pi pi pi
+step : .nat .nat #1 #0 .eq/2 #2 s/1 #1 s/1 .eq/2 pi pi pi";
+
+const PROOFS: &str = "\
+turned : .nat #0 #0 .eq/2 pi = #0 #0 #0 refl/1 sym/3 lam ? ok
+of-ones : z s/1 z s/1 .eq/2 = z z z refl/1 step/3 ? ok
+of-another : z z s/1 .eq/2 = z refl/1 ? mismatch 1
+from-another : z z s/1 .eq/2 = z s/1 z z refl/1 sym/3 ? mismatch 1 4";
 
 #[test]
 fn equality_proofs(rt: HostRuntime) -> Result<(), Fail> {
-    let alloc = rt.alloc();
-    let mut sig = equality(alloc)?;
-    let reflexive = [Fam("nat", 0), Var(0, 0), Var(0, 0), Fam("eq", 2), Pi];
-    let twice = [
-        Var(0, 0),
-        Var(0, 0),
-        Var(0, 0),
-        Con("refl", 1),
-        Con("sym", 3),
-        Lam,
-    ];
-    define(alloc, &mut sig, "p", &reflexive, &twice)?;
-    assert!(rt; check_sig(alloc, &sig).is_ok());
-    let wrong = [Con("z", 0), Con("z", 0), Con("s", 1), Fam("eq", 2)];
-    define(alloc, &mut sig, "q", &wrong, &[Con("z", 0), Con("refl", 1)])?;
-    assert!(rt; is_bad(alloc, &sig, 10, "mismatch", &[1]));
+    assert!(rt; answered(rt.alloc(), EQUALITY, PROOFS)?);
     Ok(())
 }
 
+const CLASSES: &str = "\
+unknown : .nat q .vec/1 pi ? unknown-constant 0 1 2
+past-the-context : .nat #1 .vec/1 pi ? unknown-constant 0 1 2
+applied : .nat z .nat/1 pi ? not-a-function 0 1 2
+short : .vec .nat pi .nat pi ? not-canonical 0 0 0
+object : .nat .s pi ? level 0 1
+length : .nat nil .vec/1 type pi pi ? mismatch 0 1 0 2";
+
+const OBJECTS: &str = "\
+good : .nat .nat pi = #0 s/1 lam ? ok
+past-the-context : .nat .nat pi = #1 s/1 lam ? unknown-constant 1 0 2
+applied : .nat = z z/1 s/1 ? not-a-function 1 2 2
+bare : .nat .nat pi = s ? not-canonical 1
+lambda : .nat = #0 lam s/1 ? mismatch 1 2
+family : .nat = nat s/1 ? level 1 2";
+
 #[test]
-fn faults_of_classes(rt: HostRuntime) -> Result<(), Fail> {
+fn faults_at_their_places(rt: HostRuntime) -> Result<(), Fail> {
     let alloc = rt.alloc();
-    let unknown = [Fam("nat", 0), Con("q", 0), Fam("vec", 1), Pi];
-    assert!(rt; bad_class(alloc, &unknown, "unknown constant", &[0, 1, 2])?);
-    let past = [Fam("nat", 0), Var(1, 0), Fam("vec", 1), Pi];
-    assert!(rt; bad_class(alloc, &past, "unknown constant", &[0, 1, 2])?);
-    let applied = [Fam("nat", 0), Con("z", 0), Fam("nat", 1), Pi];
-    assert!(rt; bad_class(alloc, &applied, "not a function", &[0, 1, 2])?);
-    let short = [Fam("vec", 0), Fam("nat", 0), Pi, Fam("nat", 0), Pi];
-    assert!(rt; bad_class(alloc, &short, "not canonical", &[0, 0, 0])?);
-    let object = [Fam("nat", 0), Fam("s", 0), Pi];
-    assert!(rt; bad_class(alloc, &object, "level", &[0, 1])?);
-    let index = [
-        Fam("nat", 0),
-        Con("nil", 0),
-        Fam("vec", 1),
-        Ty,
-        PiKind,
-        PiKind,
-    ];
-    assert!(rt; bad_class(alloc, &index, "mismatch", &[0, 1, 0, 2])?);
+    assert!(rt; answered(alloc, VECTORS, CLASSES)?);
+    assert!(rt; answered(alloc, VECTORS, OBJECTS)?);
     Ok(())
 }
 
-#[test]
-fn faults_of_objects(rt: HostRuntime) -> Result<(), Fail> {
-    let alloc = rt.alloc();
-    let nat = [Fam("nat", 0)];
-    let step = [Fam("nat", 0), Fam("nat", 0), Pi];
-    let past = [Var(1, 0), Con("s", 1), Lam];
-    assert!(rt; bad_value(alloc, &step, &past, "unknown constant", &[1, 0, 2])?);
-    let applied = [Con("z", 0), Con("z", 1), Con("s", 1)];
-    assert!(rt; bad_value(alloc, &nat, &applied, "not a function", &[1, 2, 2])?);
-    let level = [Con("nat", 0), Con("s", 1)];
-    assert!(rt; bad_value(alloc, &nat, &level, "level", &[1, 2])?);
-    let lambda = [Var(0, 0), Lam, Con("s", 1)];
-    assert!(rt; bad_value(alloc, &nat, &lambda, "mismatch", &[1, 2])?);
-    assert!(rt; good_value(alloc, &step, &[Var(0, 0), Con("s", 1), Lam])?);
-    assert!(rt; bad_value(alloc, &step, &[Con("s", 0)], "not canonical", &[1])?);
-    Ok(())
-}
+const TWO_FAULTS: &str = "\
+domain-before-body : .q .r pi ? unknown-constant 0 0
+class-before-value : .vec = q ? not-canonical 0
+argument-before-the-next : z s/1 .vec/1 = nil q nil cons/3 ? mismatch 1 2
+head-before-arguments : .nat = q r/1 ? unknown-constant 1
+arguments-before-family : .nat .nat pi = q s/1 ? unknown-constant 1 2";
 
 #[test]
 fn the_first_of_two_faults(rt: HostRuntime) -> Result<(), Fail> {
     let alloc = rt.alloc();
-    let both = [Fam("q", 0), Fam("r", 0), Pi];
-    assert!(rt;
-        bad_class(alloc, &both, "unknown constant", &[0, 0])?,
-        "a domain before a body"
-    );
-    let value = [Con("q", 0)];
-    assert!(rt;
-        bad_value(alloc, &[Fam("vec", 0)], &value, "not canonical", &[0])?,
-        "a class before a value"
-    );
-    let arguments = [Con("nil", 0), Con("q", 0), Con("nil", 0), Con("cons", 3)];
-    let one = [Con("z", 0), Con("s", 1), Fam("vec", 1)];
-    assert!(rt;
-        bad_value(alloc, &one, &arguments, "mismatch", &[1, 2])?,
-        "an argument before the next"
-    );
-    let head = [Con("q", 0), Con("r", 1)];
-    assert!(rt;
-        bad_value(alloc, &one, &head, "unknown constant", &[1])?,
-        "a head before its arguments"
-    );
-    let spine = [Con("q", 0), Con("s", 1)];
-    let step = [Fam("nat", 0), Fam("nat", 0), Pi];
-    assert!(rt;
-        bad_value(alloc, &step, &spine, "unknown constant", &[1, 2])?,
-        "arguments before the family"
-    );
+    assert!(rt; answered(alloc, VECTORS, TWO_FAULTS)?);
+    let two = signature(alloc, "a : type\nb : .q\nc : .r")?;
+    assert!(rt; is_bad(alloc, &two, 1, "unknown-constant 0")?);
     Ok(())
 }
+
+const DEFINED: &str = "\
+nat : type
+z : .nat
+s : .nat .nat pi
+vec : .nat type pi
+one : .nat = z s/1";
+
+const MENTIONS: &str = "\
+two : .nat = one s/1 ? unknown-constant 1 2
+ones : one .vec/1 ? unknown-constant 0 2
+ein : .nat = same one ? unknown-constant 1
+zero : .nat = same z ? ok
+natural : type = same nat ? ok
+nothing : .nat = same q ? unknown-constant 1
+family : .nat = same nat ? level 1
+object : type = same z ? level 1
+function : .nat = same s ? mismatch 1
+indexed : type = same vec ? mismatch 1";
 
 #[test]
 fn constants_are_the_undefined_ones_before(rt: HostRuntime) -> Result<(), Fail> {
     let alloc = rt.alloc();
-    let mut sig = vectors(alloc)?;
-    let nat = [Fam("nat", 0)];
-    define(alloc, &mut sig, "one", &nat, &[Con("z", 0), Con("s", 1)])?;
-    assert!(rt; check_sig(alloc, &sig).is_ok());
-    define(alloc, &mut sig, "two", &nat, &[Con("one", 0), Con("s", 1)])?;
-    assert!(rt;
-        is_bad(alloc, &sig, 7, "unknown constant", &[1, 2]),
-        "a defined constant"
-    );
-    let mut early = FlatSig::new(alloc);
-    declare(alloc, &mut early, "c", &[Fam("a", 0)])?;
-    declare(alloc, &mut early, "a", &[Ty])?;
-    assert!(rt;
-        is_bad(alloc, &early, 0, "unknown constant", &[0]),
-        "a later constant"
-    );
-    let mut own = FlatSig::new(alloc);
-    declare(alloc, &mut own, "a", &[Fam("a", 0), Ty, PiKind])?;
-    assert!(rt;
-        is_bad(alloc, &own, 0, "unknown constant", &[0, 0]),
-        "the constant itself"
-    );
+    assert!(rt; answered(alloc, DEFINED, MENTIONS)?);
+    let later = signature(alloc, "c : .a\na : type")?;
+    assert!(rt; is_bad(alloc, &later, 0, "unknown-constant 0")?);
+    let itself = signature(alloc, "a : .a type pi")?;
+    assert!(rt; is_bad(alloc, &itself, 0, "unknown-constant 0 0")?);
     Ok(())
 }
 
-/// The first fault of a further constant that is the same as another one.
-fn bad_same(alloc: Global, class: &[Step], other: &str, name: &str) -> Result<bool, Fail> {
-    let mut sig = vectors(alloc)?;
-    define(
-        alloc,
-        &mut sig,
-        "one",
-        &[Fam("nat", 0)],
-        &[Con("z", 0), Con("s", 1)],
-    )?;
-    same(alloc, &mut sig, "d", class, other)?;
-    Ok(is_bad(alloc, &sig, 7, name, &[1]))
-}
-
-#[test]
-fn the_same_constant(rt: HostRuntime) -> Result<(), Fail> {
-    let alloc = rt.alloc();
-    let mut sig = vectors(alloc)?;
-    same(alloc, &mut sig, "zero", &[Fam("nat", 0)], "z")?;
-    same(alloc, &mut sig, "natural", &[Ty], "nat")?;
-    assert!(rt; check_sig(alloc, &sig).is_ok());
-    assert!(rt; bad_same(alloc, &[Fam("nat", 0)], "q", "unknown constant")?);
-    assert!(rt; bad_same(alloc, &[Fam("nat", 0)], "one", "unknown constant")?);
-    assert!(rt; bad_same(alloc, &[Fam("nat", 0)], "nat", "level")?);
-    assert!(rt; bad_same(alloc, &[Ty], "z", "level")?);
-    assert!(rt; bad_same(alloc, &[Fam("nat", 0)], "s", "mismatch")?);
-    assert!(rt; bad_same(alloc, &[Ty], "vec", "mismatch")?);
-    Ok(())
-}
-
-/// The first fault of a further constant with a family as its value.
-fn bad_family(
-    alloc: Global,
-    class: &[Step],
-    binders: u32,
-    body: &[Step],
-    name: &str,
-    place: &[u32],
-) -> Result<bool, Fail> {
-    let mut sig = vectors(alloc)?;
-    abbreviate(alloc, &mut sig, "d", class, binders, body)?;
-    Ok(is_bad(alloc, &sig, 6, name, place))
-}
+const FAMILIES: &str = "\
+ones : type = under 0 z s/1 .vec/1 ? ok
+good : .nat #0 .vec/1 type pi pi = under 2 #1 .vec/1 ? ok
+fewer-binders : .nat #0 .vec/1 type pi pi = under 1 #0 .vec/1 ? mismatch 1
+more-binders : .nat #0 .vec/1 type pi pi = under 3 #0 .vec/1 ? mismatch 1
+body : .nat #0 .vec/1 type pi pi = under 2 #0 .vec/1 ? mismatch 1 2
+past-the-binders : .nat #0 .vec/1 type pi pi = under 2 #2 .vec/1 ? unknown-constant 1 2
+family : .nat = under 0 .nat ? level 1
+object : type = z ? level 1";
 
 #[test]
 fn families_as_values(rt: HostRuntime) -> Result<(), Fail> {
-    let alloc = rt.alloc();
-    let two = [Fam("nat", 0), Var(0, 0), Fam("vec", 1), Ty, PiKind, PiKind];
-    let mut sig = vectors(alloc)?;
-    abbreviate(alloc, &mut sig, "d", &two, 2, &[Var(1, 0), Fam("vec", 1)])?;
-    assert!(rt; check_sig(alloc, &sig).is_ok());
-    let body = [Var(0, 0), Fam("vec", 1)];
-    assert!(rt;
-        bad_family(alloc, &two, 1, &body, "mismatch", &[1])?,
-        "fewer binders"
-    );
-    assert!(rt;
-        bad_family(alloc, &two, 3, &body, "mismatch", &[1])?,
-        "more binders"
-    );
-    assert!(rt;
-        bad_family(alloc, &two, 2, &body, "mismatch", &[1, 2])?,
-        "the body's fault"
-    );
-    let past = [Var(2, 0), Fam("vec", 1)];
-    assert!(rt;
-        bad_family(alloc, &two, 2, &past, "unknown constant", &[1, 2])?,
-        "a variable past the binders"
-    );
-    assert!(rt;
-        bad_family(alloc, &[Fam("nat", 0)], 0, &[Fam("nat", 0)], "level", &[1])?,
-        "a family at a family"
-    );
-    assert!(rt;
-        bad_value(alloc, &[Ty], &[Con("z", 0)], "level", &[1])?,
-        "an object at a kind"
-    );
+    assert!(rt; answered(rt.alloc(), VECTORS, FAMILIES)?);
     Ok(())
 }

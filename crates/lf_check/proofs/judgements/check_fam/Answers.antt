@@ -1,4 +1,3 @@
-use Rattle.std.proofs.Common.{Ok}
 use Rattle.lf_meaning.specs.Judgements.{IsFamily}
 use Rattle.lf_meaning.specs.Faults.{family_fault}
 use Rattle.lf_metatheory.proofs.Faultless.{family_sound, family_complete}

@@ -1,4 +1,3 @@
-use Rattle.std.proofs.Common.{Ok}
 use Rattle.lf_meaning.specs.Judgements.{IsKind}
 use Rattle.lf_meaning.specs.Faults.{kind_fault}
 use Rattle.lf_metatheory.proofs.Faultless.{kind_sound, kind_complete}

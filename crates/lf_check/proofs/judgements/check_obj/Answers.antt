@@ -1,4 +1,3 @@
-use Rattle.std.proofs.Common.{Ok}
 use Rattle.lf_meaning.specs.Judgements.{Checks}
 use Rattle.lf_meaning.specs.Faults.{object_fault}
 use Rattle.lf_metatheory.proofs.Faultless.{object_sound, object_complete}

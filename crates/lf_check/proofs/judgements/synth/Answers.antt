@@ -1,4 +1,4 @@
-use Rattle.std.proofs.Common.{◌≡◌, Ok, Err, ap, sym, ◌∙◌}
+use Rattle.std.proofs.Common.{◌≡◌, Ok, Err}
 use Rattle.std.specs.Prelude.{IfSome}
 use Rattle.lf_meaning.specs.Terms.{apply_all}
 use Rattle.lf_meaning.specs.Judgements.{Synthesises}

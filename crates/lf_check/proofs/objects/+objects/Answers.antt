@@ -1,4 +1,4 @@
-use Rattle.std.proofs.Common.{◌≡◌, Ok, Some, refl, ap, ◌∙◌}
+use Rattle.std.proofs.Common.{Ok, Some, refl, ap, ◌∙◌}
 use Rattle.std.proofs.lemmas.Result.{err_from_is_err_and}
 use Rattle.lf_meaning.specs.Terms.{apply_all, family_apply_all, FamilyCon}
 use Rattle.lf_meaning.specs.Faults.{synthesised, object_fault, here, NotAFunction}
