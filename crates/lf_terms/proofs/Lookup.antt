@@ -1,6 +1,7 @@
 -- Look-up by name in the tables.
-use Rattle.std.specs.Prelude.{slice_get}
-use Rattle.std.proofs.Common.{◌≡◌, ℕ, zero, suc, Bool, true, false, cond, List, [], ◌∷◌, ◌++◌, map, Option, Some, None, is_some, refl, ap}
+use Rattle.std.specs.Prelude.{slice_get, position, not, length}
+use Rattle.std.specs.List.{prefix_len}
+use Rattle.std.proofs.Common.{◌≡◌, ℕ, zero, suc, ◌+◌, Bool, true, false, cond, List, [], ◌∷◌, ◌++◌, map, Option, Some, None, is_some, refl, ap}
 use Rattle.std.specs.Option.{option_map}
 use Rattle.std.specs.Ordering.{on}
 use Rattle.std.specs.List.{AllByRecursion, IsDistinct}
@@ -64,6 +65,17 @@ pub item_declared : (es : List (Named × Unit {0})) (i : ℕ) → option_map (λ
 item_declared [] i = refl
 item_declared (e ∷ es) zero = refl
 item_declared (e ∷ es) (suc i) = item_declared es i
+
+skipped : (test : FlatDecl → Bool) (es : List (Named × Unit {0})) → prefix_len (λ e. not (test e.decl)) (keys_of es) ≡ prefix_len (λ d. not (test d)) (decls_of es)
+skipped test [] = refl
+skipped test (e ∷ es) = ap (λ n. cond (not (test e.0.decl)) (1 + n) 0) (skipped test es)
+
+counted : (es : List (Named × Unit {0})) → length (keys_of es) ≡ length (decls_of es)
+counted [] = refl
+counted (e ∷ es) = ap suc (counted es)
+
+pub place_declared : (test : FlatDecl → Bool) (es : List (Named × Unit {0})) → position (λ e. test e.decl) (keys_of es) ≡ position test (decls_of es)
+place_declared test es = rw (skipped test es, counted es) refl
 
 -- What is not found is nothing.
 pub found_nothing : {X : Type 0} (found : Option X) → is_some found ≡ false → found ≡ None

@@ -1,5 +1,5 @@
 -- Look-up by name in flat signatures and in maps of constants (this profile).
-use Rattle.std.specs.Prelude.{List, Option, map}
+use Rattle.std.specs.Prelude.{ℕ, List, Option, map, position}
 use Rattle.std.specs.List.{find, IsDistinct}
 use Rattle.std.specs.Map.{keys_of, lookup}
 use Rattle.lf_meaning.specs.Terms.{Constant}
@@ -24,6 +24,10 @@ HasDistinctNames decls = IsDistinct same_constant (declared_names decls)
 -- The declaration of that name.
 abbrev pub declared : List FlatDecl → QName → Option FlatDecl
 declared decls name = find (λ d. same_constant (read_constant name) (read_constant d.name)) decls
+
+-- The index of that declaration.
+abbrev pub place_of : List FlatDecl → QName → Option ℕ
+place_of decls name = position (λ d. same_constant (read_constant name) (read_constant d.name)) decls
 
 -- What a refused push hands back.
 abbrev pub handed_back : PushFault → FlatDecl

@@ -8,7 +8,7 @@ ghost use Rattle.std.proofs.lemmas.Cmp.{on_equiv};
 ghost use Rattle.lf_meaning.specs.Signatures.{declaration_of};
 ghost use Rattle.lf_terms.specs.SameName.{same_qname, same_qname_equiv, same_qname_sound};
 ghost use Rattle.lf_terms.specs.Readings.{read_constant, read_declaration, read_signature};
-ghost use Rattle.lf_terms.specs.Tables.{declared, handed_back, HasDistinctNames};
+ghost use Rattle.lf_terms.specs.Tables.{declared, handed_back, place_of, HasDistinctNames};
 ghost use Rattle.lf_terms.specs.declared.flat_sig.PushFault.TheVariants.{Twice};
 
 use crate::{FlatDecl, QName};
@@ -122,6 +122,13 @@ impl FlatSig {
             Some((named, _)) => Some(&named.decl),
             None => None,
         }
+    }
+
+    /// The index of the declaration of a name, counted from 0. It takes constant time.
+    pub fn place(&self, name: &QName) -> Option<usize>
+        ensures { result ≡ place_of self.now name.now }
+    {
+        self.decls.get_index_of(name)
     }
 
     /// The declaration at an index. None exactly where the index is past the end.

@@ -29,6 +29,13 @@ impl TermPath {
         }
     }
 
+    /// The path of the numbers of a vector, in order. It takes no memory.
+    pub fn from_vec(items: Vec<u32>) -> Self
+        ensures { result ≡ items.items }
+    {
+        TermPath { items }
+    }
+
     /// Adds a number at the end, or hands it back for want of memory.
     pub fn push(&mut self, item: u32) -> Result<(), u32>
         ensures ok { OnOk result (self.new ≡ self.old ++ item ∷ []) }

@@ -1,0 +1,38 @@
+-- The families of variables.
+use Rattle.std.proofs.Common.{◌≡◌, ℕ, suc, List, [], ◌∷◌, ◌++◌, map, reverse, Option, Some, None, Bor, refl, sym, ap, ◌∙◌}
+use Rattle.std.specs.Prelude.{slice_get}
+use Rattle.std.specs.Option.{option_copied, option_map}
+use Rattle.std.proofs.lemmas.Option.{slice_get-map}
+use Rattle.std.proofs.lemmas.List.{map-append, reverse-append}
+use Rattle.lf_meaning.specs.Terms.{Context}
+use Rattle.lf_terms.specs.Readings.{read_context, read_family}
+use Rattle.lf_terms.specs.declared.fam.Fam.{Fam}
+use Rattle.lf_check.specs.Environments.{read_variables, read_variables_layer}
+use Rattle.lf_check.specs.declared.environment.Variables.{Variables}
+use Rattle.lf_check.specs.declared.environment.Variables.TheOpen as opened
+use Rattle.lf_check.specs.declared.environment.Variables.TheVariants as variables
+use Rattle.lf_check.specs.declared.environment.Variables.TheFolds.{fold-roll-Variables}
+
+pub read_given : (ctx : Bor (List Fam)) → read_variables (variables.Given ctx) ≡ read_context ctx.now
+read_given ctx = ap read_variables (sym (variables.rolls-Given ctx)) ∙ fold-roll-Variables Context read_variables_layer (opened.Given ctx)
+
+pub read_bound : (family : Bor Fam) (outer : Bor Variables) → read_variables (variables.Bound family outer) ≡ read_family family.now ∷ read_variables outer.now
+read_bound family outer = ap read_variables (sym (variables.rolls-Bound family outer)) ∙ fold-roll-Variables Context read_variables_layer (opened.Bound family outer)
+
+map-reverse : {A B : Type 0} (f : A → B) (xs : List A) → map f (reverse xs) ≡ reverse (map f xs)
+map-reverse f [] = refl
+map-reverse f (x ∷ xs) =
+    ap (map f) (reverse-append (x ∷ []) xs) ∙ map-append f (reverse xs) (x ∷ []) ∙ ap (λ ys. ys ++ f x ∷ []) (map-reverse f xs) ∙ sym (reverse-append (f x ∷ []) (map f xs))
+
+-- the family at an index that is counted from the end
+pub family_given : (families : List Fam) (i : ℕ) → option_map read_family (slice_get (reverse families) i) ≡ slice_get (read_context families) i
+family_given families i = sym (slice_get-map read_family (reverse families) i) ∙ ap (λ xs. slice_get xs i) (map-reverse read_family families)
+
+-- behind a binder
+pub family_bound : (family : Bor Fam) (outer : Bor Variables) (i j : ℕ) → i ≡ suc j → slice_get (read_variables outer.now) j ≡ slice_get (read_variables (variables.Bound family outer)) i
+family_bound family outer i j e = sym (ap (λ xs. slice_get xs i) (read_bound family outer) ∙ ap (slice_get (read_family family.now ∷ read_variables outer.now)) e)
+
+-- what is read off what a reference points to
+pub copied_read : {A B : Type 0} (f : A → B) (found : Option (Bor A)) → option_map (λ r. f r.now) found ≡ option_map f (option_copied found)
+copied_read f None = refl
+copied_read f (Some r) = refl
