@@ -22,3 +22,6 @@ pub use morph::Morph;
 pub use origin::{Origin, Origins};
 pub use place::{Place, place_of};
 pub use written::{Words, Written};
+
+#[cfg(test)]
+mod tests;

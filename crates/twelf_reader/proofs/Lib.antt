@@ -1,0 +1,4 @@
+pub mod SignCases
+pub mod Moves
+pub mod Frames
+pub mod Readings

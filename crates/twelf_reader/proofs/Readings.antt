@@ -1,0 +1,45 @@
+-- From the machine's answer to what a text is read as.
+use Rattle.std.specs.Prelude.{IfOk, IfErr, Result, Ok, Err}
+use Rattle.std.proofs.Common.{◌≡◌, ℕ, List, refl, sym, subst}
+use Rattle.text_meaning.specs.Tokens.{Token}
+use Rattle.text_meaning.specs.Cut.{Tokens, NotUtf8, OpenComment, IsLexed}
+use Rattle.text_meaning.specs.Reading.{Target, Answer, Syntax, Reads, with_end}
+use Rattle.text_meaning.specs.Parsing.{answer_on, start, parse}
+use Rattle.text_laws.specs.ReadingLaws.{read}
+use Rattle.text_laws.proofs.OneAnswer.{one_answer, one_reading}
+use Rattle.twelf_reader.specs.Going.{Fails, Goes}
+use Rattle.twelf_reader.specs.Answers.{IsFaultOf}
+use Rattle.twelf_reader.specs.declared.fault.ReadFault.{ReadFault}
+use Rattle.twelf_reader.specs.declared.fault.ReadFault.TheVariants as faults
+
+pub read_as : (target : Target) (text : List ℕ) (ts : List Token) (end : ℕ) → IsLexed text (Tokens ts end) → answer_on (start target) (with_end ts end) ≡ read target text
+unfolding parse
+read_as target text ts end h = (one_reading target text).only (answer_on (start target) (with_end ts end)) (Tokens ts end, h, (one_answer target ts end).is_answer)
+
+pub not_utf8 : (target : Target) (text : List ℕ) (at : ℕ) → IsLexed text (NotUtf8 at) → read target text ≡ Syntax at
+not_utf8 target text at h = sym ((one_reading target text).only (Syntax at) (NotUtf8 at, h, refl))
+
+pub open_comment : (target : Target) (text : List ℕ) (at : ℕ) → IsLexed text (OpenComment at) → read target text ≡ Syntax at
+open_comment target text at h = sym ((one_reading target text).only (Syntax at) (OpenComment at, h, refl))
+
+-- ---- the clauses of the two calls
+
+pub fails_reads : (target : Target) (text : List ℕ) (f : ReadFault) → Fails f (read target text) → IsFaultOf target text f
+fails_reads target text (faults.Syntax at) h = subst (Reads target text) h (one_reading target text).is_read
+fails_reads target text (faults.TooDeep at) h = subst (Reads target text) h (one_reading target text).is_read
+fails_reads target text (faults.Unsupported at) h = subst (Reads target text) h (one_reading target text).is_read
+fails_reads target text faults.Memory h = tt
+
+pub ok_reads : {X : Type 0} (target : Target) (text : List ℕ) (r : Result X ReadFault) (f : X → Answer) → Goes (read target text) r f → IfOk r (λ x. Reads target text (f x))
+ok_reads target text (Ok x) f h = subst (Reads target text) h (one_reading target text).is_read
+ok_reads target text (Err e) f h = tt
+
+pub fault_reads : {X : Type 0} (target : Target) (text : List ℕ) (r : Result X ReadFault) (f : X → Answer) → Goes (read target text) r f → IfErr r (λ e. IsFaultOf target text e)
+fault_reads target text (Ok x) f h = tt
+fault_reads target text (Err e) f h = fails_reads target text e h
+
+pub only_reads : {X : Type 0} (target : Target) (text : List ℕ) (r : Result X ReadFault) (f : X → Answer) → Goes (read target text) r f → (answer : Answer) → Reads target text answer → Goes answer r f
+only_reads target text r f h answer g = subst (λ a. Goes a r f) (sym ((one_reading target text).only answer g)) h
+
+pub only_fails : (target : Target) (text : List ℕ) (f : ReadFault) → Fails f (read target text) → (answer : Answer) → Reads target text answer → Fails f answer
+only_fails target text f h answer g = subst (Fails f) (sym ((one_reading target text).only answer g)) h

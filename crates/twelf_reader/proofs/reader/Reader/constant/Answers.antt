@@ -1,0 +1,47 @@
+use Rattle.std.proofs.Common.{◌++◌, [], ◌∷◌, refl, sym, ap, ap₂, ◌∙◌}
+use Rattle.std.specs.Option.{option_map}
+use Rattle.std.proofs.lemmas.Result.{err_from_is_err_and}
+use Rattle.text_meaning.specs.Tokens.{ColonSign, ident}
+use Rattle.text_meaning.specs.Trees.{ConstDecl}
+use Rattle.text_meaning.specs.Parsing.{AtDecl, ClassOf, Ends, Expect, answer_on, at_expr}
+use Rattle.mmt_syntax.specs.Dependencies.{first_name}
+use Rattle.mmt_syntax.specs.Readings.{read_expr, read_span, read_written}
+use Rattle.twelf_reader.specs.Left.{left}
+use Rattle.twelf_reader.specs.Going.{simple_of}
+use Rattle.twelf_reader.proofs.Moves.{failed, took}
+use Rattle.twelf_reader.proofs.reader.Reader.constant.Goals as goal
+
+pub returns-in_err-expect-clause-goes : goal.returns-in_err-expect-clause-goes
+returns-in_err-expect-clause-goes c = λ sig ds.
+    let name = c.in_ok-name.name in
+    let class = at_expr 1 (Ends (ClassOf sig ds (simple_of name))) in
+    let taken = took (AtDecl sig ds) (Expect ColonSign class) (ident (read_span name.span) (first_name name.path ∷ [])) (left c.args.self.now) (left c.take_simple.new.self) c.in_ok-name.ensures.takes refl refl refl in
+    let p = err_from_is_err_and c.from_residual-in_err-expect.result c.from_residual-in_err-expect.ensures.1 in
+    rw (p.1, p.2) (failed c.in_err-expect.field-0.0 taken (c.in_err-expect.ensures.goes class refl))
+
+pub returns-in_err-class-clause-goes : goal.returns-in_err-class-clause-goes
+returns-in_err-class-clause-goes c = λ sig ds.
+    let name = c.in_ok-name.name in
+    let class = at_expr 1 (Ends (ClassOf sig ds (simple_of name))) in
+    let taken = took (AtDecl sig ds) (Expect ColonSign class) (ident (read_span name.span) (first_name name.path ∷ [])) (left c.args.self.now) (left c.take_simple.new.self) c.in_ok-name.ensures.takes refl refl refl in
+    let p = err_from_is_err_and c.from_residual-in_err-class.result c.from_residual-in_err-class.ensures.1 in
+    rw (p.1, p.2) (failed c.in_err-class.field-0.0 (taken ∙ c.in_ok-expect.ensures.goes class refl) (c.in_err-class.ensures.goes (ClassOf sig ds (simple_of name))))
+
+pub returns-in_err-value-clause-goes : goal.returns-in_err-value-clause-goes
+returns-in_err-value-clause-goes c = λ sig ds.
+    let name = c.in_ok-name.name in
+    let class = at_expr 1 (Ends (ClassOf sig ds (simple_of name))) in
+    let taken = took (AtDecl sig ds) (Expect ColonSign class) (ident (read_span name.span) (first_name name.path ∷ [])) (left c.args.self.now) (left c.take_simple.new.self) c.in_ok-name.ensures.takes refl refl refl in
+    let p = err_from_is_err_and c.from_residual-in_err-value.result c.from_residual-in_err-value.ensures.1 in
+    rw (p.1, p.2) (failed c.in_err-value.field-0.0 (taken ∙ c.in_ok-expect.ensures.goes class refl ∙ c.in_ok-class.ensures.goes (ClassOf sig ds (simple_of name)))
+    (c.in_err-value.ensures.goes sig ds (simple_of name) (read_expr c.in_ok-class.class.value)))
+
+pub returns-clause-goes : goal.returns-clause-goes
+returns-clause-goes c = λ sig ds.
+    let name = c.in_ok-name.name in
+    let class = at_expr 1 (Ends (ClassOf sig ds (simple_of name))) in
+    let taken = took (AtDecl sig ds) (Expect ColonSign class) (ident (read_span name.span) (first_name name.path ∷ [])) (left c.args.self.now) (left c.take_simple.new.self) c.in_ok-name.ensures.takes refl refl refl in
+    let came = taken ∙ c.in_ok-expect.ensures.goes class refl ∙ c.in_ok-class.ensures.goes (ClassOf sig ds (simple_of name)) ∙ c.in_ok-value.ensures.goes sig ds (simple_of name) (read_expr c.in_ok-class.class.value) in
+    came
+    ∙ ap₂ (λ n v. answer_on (AtDecl sig (ds ++ (ConstDecl n (read_expr c.in_ok-class.class.value) v ∷ []))) (left c.value.new.self)) c.in_ok-name.ensures.one (sym c.unboxed.ensures)
+    ∙ ap (λ e. answer_on (AtDecl sig (ds ++ (ConstDecl (read_written name) (read_expr e) (option_map read_expr c.unboxed.result) ∷ []))) (left c.value.new.self)) (sym c.into_inner.ensures)

@@ -1,0 +1,92 @@
+//! Tokens that must come.
+ghost use Rattle.std.specs.Prelude.{◌≡◌, ◌∷◌, ◌<◌, ◌≤◌, [], List, false, length, IfOk, OnOk};
+ghost use Rattle.text_meaning.specs.Tokens.{Mark, EndSign, DotSign};
+ghost use Rattle.text_meaning.specs.Trees as trees;
+ghost use Rattle.text_meaning.specs.Reading.{Tree, Read};
+ghost use Rattle.text_meaning.specs.Parsing.{State, Whole, Expect, ExpectName, ExpectPath, MoreWords, Simple, answer_on, as_written, at_morph, is_refused};
+ghost use Rattle.mmt_syntax.specs.Readings.{read_morph, read_written};
+ghost use Rattle.twelf_reader.specs.Signs.{is_sign, read_sign};
+ghost use Rattle.twelf_reader.specs.Left.{left};
+ghost use Rattle.twelf_reader.specs.Going.{Goes, simple_of};
+
+use crate::ReadFault;
+use crate::reader::Reader;
+use crate::refusing::Spot;
+use crate::sign::Sign;
+use lf_terms::Memory;
+use mmt_syntax::{Morph, Words, Written};
+
+impl<'a> Reader<'a> {
+    /// Takes this sign, which must come.
+    pub(crate) fn expect(&mut self, mark: Sign) -> Result<(), ReadFault>
+        requires { is_sign (read_sign mark) (Mark EndSign) ≡ false }
+        ensures goes { (next : State) → is_refused next ≡ false → Goes (answer_on (Expect (read_sign mark) next) (left self.old)) result (λ _. answer_on next (left self.new)) }
+        ensures less { OnOk result (length (left self.new) < length (left self.old)) }
+    {
+        if !self.sees(mark) {
+            return Err(self.refuse(Spot::Elsewhere));
+        }
+        self.take(mark);
+        Ok(())
+    }
+
+    /// The end of the input must come.
+    pub(crate) fn finish(&self) -> Result<(), ReadFault>
+        ensures { (tree : Tree) → Goes (answer_on (Expect EndSign (Whole tree)) (left self.now)) result (λ _. Read tree) }
+    {
+        match self.tokens.split_first() {
+            None => Ok(()),
+            Some(_) => Err(self.refuse(Spot::Elsewhere)),
+        }
+    }
+
+    /// Takes an identifier of one name, which must come.
+    pub(crate) fn name(&mut self) -> Result<Written, ReadFault>
+        ensures goes { (f : Simple → State) → ((x : Simple) → is_refused (f x) ≡ false) → Goes (answer_on (ExpectName f) (left self.old)) result (λ word. answer_on (f (simple_of word)) (left self.new)) }
+        ensures less { OnOk result (length (left self.new) < length (left self.old)) }
+        ensures one { IfOk result (λ word. as_written (simple_of word) ≡ read_written word) }
+    {
+        if !self.sees_name() {
+            return Err(self.refuse(Spot::Elsewhere));
+        }
+        let word = self.take_simple()?;
+        Ok(word)
+    }
+
+    /// Takes an identifier, which must come.
+    pub(crate) fn path(&mut self) -> Result<Written, ReadFault>
+        ensures goes { (f : trees.Written → State) → ((w : trees.Written) → is_refused (f w) ≡ false) → Goes (answer_on (ExpectPath f) (left self.old)) result (λ word. answer_on (f (read_written word)) (left self.new)) }
+        ensures less { OnOk result (length (left self.new) < length (left self.old)) }
+    {
+        if !self.sees_path() {
+            return Err(self.refuse(Spot::Elsewhere));
+        }
+        let word = self.take_path()?;
+        Ok(word)
+    }
+
+    /// The words of a morphism, and the dot behind them.
+    pub(crate) fn morph(&mut self) -> Result<Morph, ReadFault>
+        ensures goes { (done : List trees.Written → State) → ((ws : List trees.Written) → is_refused (done ws) ≡ false) → Goes (answer_on (at_morph done) (left self.old)) result (λ m. answer_on (done (read_morph m)) (left self.new)) }
+        ensures less { OnOk result (length (left self.new) < length (left self.old)) }
+    {
+        let first = self.path()?;
+        let morph = self.words(first)?;
+        self.expect(Sign::Dot)?;
+        Ok(morph)
+    }
+
+    /// A word and those that follow it.
+    fn words(&mut self, first: Written) -> Result<Morph, Memory>
+        ensures goes { IfOk result (λ m. (done : List trees.Written → State) → answer_on (MoreWords (read_written first ∷ []) done) (left self.old) ≡ answer_on (Expect DotSign (done (read_morph m))) (left self.new)) }
+        ensures less { OnOk result (length (left self.new) ≤ length (left self.old)) }
+    {
+        let mut words = Words::new(self.alloc);
+        words.add(first)?;
+        while self.sees_path() {
+            let word = self.take_path()?;
+            words.add(word)?;
+        }
+        Ok(Morph { words })
+    }
+}

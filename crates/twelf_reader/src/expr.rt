@@ -1,0 +1,104 @@
+//! Expressions, read by one loop over a stack of what is open, so that their depth takes no call stack.
+ghost use Rattle.std.specs.Prelude.{◌≡◌, ◌<◌, ◌≤◌, false, None, length, IfOk, OnOk};
+ghost use Rattle.text_meaning.specs.Tokens.{LeftBrace, LeftBracket, LeftParen, TypeWord};
+ghost use Rattle.text_meaning.specs.Parsing.{Ends, Purpose, Waiting, answer_on, at_expr, purpose_ends};
+ghost use Rattle.twelf_reader.specs.Signs.{is_path, is_sign};
+ghost use Rattle.mmt_syntax.specs.Readings.{read_expr};
+ghost use Rattle.twelf_reader.specs.Left.{left, next_kind};
+ghost use Rattle.twelf_reader.specs.Going.{Goes, answer_with};
+ghost use Rattle.twelf_reader.specs.Frames.{Turned, stands};
+
+use crate::ReadFault;
+use crate::frame::{Brace, Operand, Spelled, Stack};
+use crate::level::Level;
+use crate::reader::Reader;
+use crate::sign::Sign;
+use mmt_syntax::{Expr, Node};
+
+impl<'a> Reader<'a> {
+    /// An expression of a declaration, an assignment or a judgement. The token behind it is left.
+    pub(crate) fn expr(&mut self) -> Result<Box<Expr>, ReadFault>
+        ensures goes { (p : Purpose) → Goes (answer_on (at_expr 1 (Ends p)) (left self.old)) result (λ e. answer_with (λ t. purpose_ends p (read_expr e.value) t.kind) (left self.new)) }
+        ensures less { OnOk result (length (left self.new) ≤ length (left self.old)) }
+    {
+        let mut stack = Stack {
+            frames: Vec::new(self.alloc),
+            operand: Operand::first(Level::first()),
+        };
+        'turns: loop {
+            if let Some(whole) = self.turn(&mut stack)? {
+                return Ok(whole.tree);
+            }
+        }
+    }
+
+    /// Takes the next token into the operand, or goes on behind the operand, which ends before it. An expression comes
+    /// where it is whole and nothing in the stack waits for it.
+    fn turn(&mut self, stack: &mut Stack) -> Result<Option<Spelled>, ReadFault>
+        ensures goes { (k : Waiting) → Turned (answer_on (stands stack.old k) (left self.old)) result k stack.new (left self.new) }
+        ensures less { IfOk result (λ turn. turn ≡ None → length (left self.new) < length (left self.old)) }
+        ensures within { OnOk result (length (left self.new) ≤ length (left self.old)) }
+    {
+        if self.sees_path() {
+            let word = self.take_path()?;
+            stack
+                .operand
+                .add_node(self.alloc, word.span, Node::Name(word.path))?;
+            return Ok(None);
+        }
+        if self.sees(Sign::TypeWord) {
+            let span = self.take(Sign::TypeWord);
+            stack.operand.add_node(self.alloc, span, Node::Ty)?;
+            return Ok(None);
+        }
+        self.bracket(stack)
+    }
+
+    /// The same where the next token is no atom by itself.
+    fn bracket(&mut self, stack: &mut Stack) -> Result<Option<Spelled>, ReadFault>
+        requires path { is_path (next_kind (left self.old)) ≡ false }
+        requires word { is_sign TypeWord (next_kind (left self.old)) ≡ false }
+        ensures goes { (k : Waiting) → Turned (answer_on (stands stack.old k) (left self.old)) result k stack.new (left self.new) }
+        ensures less { IfOk result (λ turn. turn ≡ None → length (left self.new) < length (left self.old)) }
+        ensures within { OnOk result (length (left self.new) ≤ length (left self.old)) }
+    {
+        if self.sees(Sign::LParen) {
+            let opening = self.take(Sign::LParen);
+            self.open_parens(stack, opening)?;
+            return Ok(None);
+        }
+        if self.sees(Sign::LBrace) {
+            let opening = self.take(Sign::LBrace);
+            self.binder(stack, Brace::Curly, opening)?;
+            return Ok(None);
+        }
+        if self.sees(Sign::LBracket) {
+            let opening = self.take(Sign::LBracket);
+            self.binder(stack, Brace::Square, opening)?;
+            return Ok(None);
+        }
+        self.operator(stack)
+    }
+
+    /// The same where the next token begins neither an atom nor a binder.
+    fn operator(&mut self, stack: &mut Stack) -> Result<Option<Spelled>, ReadFault>
+        requires path { is_path (next_kind (left self.old)) ≡ false }
+        requires word { is_sign TypeWord (next_kind (left self.old)) ≡ false }
+        requires parens { is_sign LeftParen (next_kind (left self.old)) ≡ false }
+        requires brace { is_sign LeftBrace (next_kind (left self.old)) ≡ false }
+        requires square { is_sign LeftBracket (next_kind (left self.old)) ≡ false }
+        ensures goes { (k : Waiting) → Turned (answer_on (stands stack.old k) (left self.old)) result k stack.new (left self.new) }
+        ensures less { IfOk result (λ turn. turn ≡ None → length (left self.new) < length (left self.old)) }
+        ensures within { OnOk result (length (left self.new) ≤ length (left self.old)) }
+    {
+        if self.sees(Sign::Arrow) {
+            self.arrow(stack)?;
+            return Ok(None);
+        }
+        if self.sees(Sign::BackArrow) {
+            self.back_arrow(stack)?;
+            return Ok(None);
+        }
+        self.end_operand(stack)
+    }
+}
