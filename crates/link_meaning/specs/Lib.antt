@@ -1,0 +1,6 @@
+pub mod Refusals
+pub mod Assignments
+pub mod Coverings
+pub mod Passes
+pub mod Induced
+pub mod Equations
