@@ -4,3 +4,4 @@ pub mod Coverings
 pub mod Passes
 pub mod Induced
 pub mod Equations
+pub mod LinkLaws

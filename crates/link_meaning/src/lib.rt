@@ -2,3 +2,5 @@
 //! induces. The definitions stand in `specs/`, one topic a file. There is no code: each function here does nothing, and its
 //! contract is a law.
 #![tactic(auto)]
+
+pub mod link_laws;
