@@ -4,3 +4,4 @@ pub mod Following
 pub mod Covered
 pub mod Valued
 pub mod Linked
+pub mod Reading

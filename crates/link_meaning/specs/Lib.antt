@@ -1,5 +1,6 @@
 pub mod Refusals
 pub mod Assignments
+pub mod AssignmentsRead
 pub mod Coverings
 pub mod Passes
 pub mod Induced

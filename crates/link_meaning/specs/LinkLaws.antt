@@ -5,6 +5,7 @@ use Rattle.library_meaning.specs.Faces.{theory_of}
 use Rattle.library_meaning.specs.Coherence.{IsCoherent}
 use Rattle.text_meaning.specs.Trees.{Assign}
 use Rattle.link_meaning.specs.Assignments.{Setting, Assigned, read_assigns}
+use Rattle.link_meaning.specs.AssignmentsRead.{AssignsRead}
 use Rattle.link_meaning.specs.Passes.{assigned_map, link_map}
 use Rattle.link_meaning.specs.Equations.{MeetsEquations}
 
@@ -25,8 +26,14 @@ OneMapMeetsEquations =
     (setting : Setting) (assigned : List Assigned) (along other : HeadMap) → IsSettled setting
     → MeetsEquations setting assigned along → MeetsEquations setting assigned other → along ≡ other
 
+-- Read: the assignments are read as what they give, and as nothing else.
+abbrev pub AssignmentsAreRead : Type 0
+AssignmentsAreRead =
+    (setting : Setting) (assigns : List Assign) (assigned : List Assigned)
+    → (read_assigns setting [] assigns ≡ Ok assigned) ↔ AssignsRead setting [] assigns assigned
+
 -- Read: a link has a map exactly where its assignments give something, and the map meets the equations of that.
 abbrev pub LinkMapMeetsEquations : Type 0
 LinkMapMeetsEquations =
     (setting : Setting) (assigns : List Assign) (along : HeadMap) → IsSettled setting
-    → (link_map setting assigns ≡ Ok along) ↔ ((assigned : List Assigned) × (read_assigns setting [] assigns ≡ Ok assigned) × MeetsEquations setting assigned along)
+    → (link_map setting assigns ≡ Ok along) ↔ ((assigned : List Assigned) × AssignsRead setting [] assigns assigned × MeetsEquations setting assigned along)
