@@ -56,13 +56,17 @@ own_local : (locals : Locals) (index : ℕ) (o : Option Local) (family : Family)
 own_local locals index None family e h = absurd (cc)
 own_local locals index (Some own) family e h = (own, e, some_same h)
 
-module _ (scope : Scope) (ok : ScopeHolds scope) where
-  abbrev signature : Signature
-  signature = scope_signature scope
+-- what a signature knows of a declaration
+pub record DeclaredHolds (signature : Signature) (d : Declaration) : Type 0 where
+  pub class : class_of signature d.name ≡ undefined_class d.value d.class
+  pub class_holds : ClassHolds signature d.class
+  pub value_holds : OptionalValueHolds signature d.class d.value
 
+-- over a signature that knows all declarations of the scope
+module _ (scope : Scope) (signature : Signature) (declared_holds : (d : Declaration) → Member d (scope_signature scope) → DeclaredHolds signature d) where
   -- ---- names
 
-  declared_member : (variables : Variables) (path : Path) (d : Declaration) → StandsFor scope variables path (Declared d) → Member d signature
+  declared_member : (variables : Variables) (path : Path) (d : Declaration) → StandsFor scope variables path (Declared d) → Member d (scope_signature scope)
   declared_member variables path d (ByOwn f o) = append_right (own_parts scope.environment scope.includes) scope.own d (find_found (has_path path) scope.own d o).0
   declared_member variables path d (ByQualified f n q) =
       append_left (own_parts scope.environment scope.includes) scope.own d
@@ -71,16 +75,6 @@ module _ (scope : Scope) (ok : ScopeHolds scope) where
       let h = o.here in
       append_left (own_parts scope.environment scope.includes) scope.own d
       (flat_map_in (own_part scope.environment) scope.includes h.theory d (place_member scope.includes o.place h.theory h.found) (find_found (has_path path) (own_part scope.environment h.theory) d h.has).0)
-
-  pub record DeclaredHolds (d : Declaration) : Type 0 where
-    pub class : class_of signature d.name ≡ undefined_class d.value d.class
-    pub class_holds : ClassHolds signature d.class
-    pub value_holds : OptionalValueHolds signature d.class d.value
-
-  pub declared_holds : (d : Declaration) → Member d signature → DeclaredHolds d
-  declared_holds d m =
-      let p = place_of signature d m in
-      record { class = class_in signature ok.once p.0 d p.1; class_holds = class_at signature ok.declarations p.0 d p.1; value_holds = value_at signature ok.declarations p.0 d p.1 }
 
   head_of_class : (v : ℕ) (d : Declaration) (class : Class) (value : Option Value) → class_of signature d.name ≡ undefined_class value class → ClassHolds signature class → OptionalValueHolds signature class value → HeadHolds signature v (class_head d.name class value)
   head_of_class v d (FamilyClass a) None e h g = ((a, e), family_anywhere signature a v h)
@@ -237,17 +231,22 @@ module _ (scope : Scope) (ok : ScopeHolds scope) where
   value_holds (ArrowExpr span domain body) class value h s = built_holds (ArrowExpr span domain body) class value h s
   value_holds (BackExpr span body domain) class value h s = built_holds (BackExpr span body domain) class value h s
 
+pub scope_declared : (scope : Scope) → ScopeHolds scope → (d : Declaration) → Member d (scope_signature scope) → DeclaredHolds (scope_signature scope) d
+scope_declared scope ok d m =
+    let p = place_of (scope_signature scope) d m in
+    record { class = class_in (scope_signature scope) ok.once p.0 d p.1; class_holds = class_at (scope_signature scope) ok.declarations p.0 d p.1; value_holds = value_at (scope_signature scope) ok.declarations p.0 d p.1 }
+
 pub standing_object_holds : StandingObjectHolds
-standing_object_holds scope locals e family object ok l f s = object_holds scope ok e locals family object l f s
+standing_object_holds scope locals e family object ok l f s = object_holds scope (scope_signature scope) (scope_declared scope ok) e locals family object l f s
 
 pub standing_family_holds : StandingFamilyHolds
-standing_family_holds scope locals e family ok l s = family_holds scope ok e locals family l s
+standing_family_holds scope locals e family ok l s = family_holds scope (scope_signature scope) (scope_declared scope ok) e locals family l s
 
 pub standing_kind_holds : StandingKindHolds
-standing_kind_holds scope locals e kind ok l s = kind_holds scope ok e locals kind l s
+standing_kind_holds scope locals e kind ok l s = kind_holds scope (scope_signature scope) (scope_declared scope ok) e locals kind l s
 
 pub standing_class_holds : StandingClassHolds
-standing_class_holds scope e class ok s = class_holds scope ok e class s
+standing_class_holds scope e class ok s = class_holds scope (scope_signature scope) (scope_declared scope ok) e class s
 
 pub standing_value_holds : StandingValueHolds
-standing_value_holds scope e class value ok h s = value_holds scope ok e class value h s
+standing_value_holds scope e class value ok h s = value_holds scope (scope_signature scope) (scope_declared scope ok) e class value h s

@@ -170,12 +170,12 @@ module _ (from to : Signature) (along : HeadMap) (into : MapsInto from to along)
 
 -- ---- coherent maps
 
-record Placed (from : Signature) (along : HeadMap) (c : Constant) (d : Declaration) : Type 0 where
-  place : ℕ
-  mapping : Mapping
-  declared : slice_get from place ≡ Some d
-  mapped : slice_get along place ≡ Some mapping
-  image : image_of along c ≡ Some mapping.image
+pub record Placed (from : Signature) (along : HeadMap) (c : Constant) (d : Declaration) : Type 0 where
+  pub place : ℕ
+  pub mapping : Mapping
+  pub declared : slice_get from place ≡ Some d
+  pub mapped : slice_get along place ≡ Some mapping
+  pub image : image_of along c ≡ Some mapping.image
 
 first_same : {A : Type 0} {x y : A} {xs ys : List A} → x ∷ xs ≡ y ∷ ys → x ≡ y
 first_same h = cc
@@ -191,7 +191,7 @@ module _ (c : Constant) (d : Declaration) where
       let p = f h in
       record { place = suc p.place; mapping = p.mapping; declared = p.declared; mapped = p.mapped; image = ap (λ b. cond b (Some m.image) (image_of ms c)) e ∙ p.image }
 
-  placed_in : (from : Signature) (along : HeadMap) → mapped_names along ≡ declared_names from → declaration_of from c ≡ Some d → Placed from along c d
+  pub placed_in : (from : Signature) (along : HeadMap) → mapped_names along ≡ declared_names from → declaration_of from c ≡ Some d → Placed from along c d
   placed_in [] along e h = absurd (cc)
   placed_in (x ∷ xs) [] e h = absurd (cc)
   placed_in (x ∷ xs) (m ∷ ms) e h =

@@ -68,7 +68,7 @@ module _ (setting : Setting) (assigned : List Assigned) (settled : IsSettled set
   abbrev flat : Signature
   flat = flat_of setting.environment setting.domain
 
-  own_by : (d : Declaration) (theory : Name) → d.name.theory ≡ theory → theory ≢ setting.domain → is_own setting d ≡ false
+  pub own_by : (d : Declaration) (theory : Name) → d.name.theory ≡ theory → theory ≢ setting.domain → is_own setting d ≡ false
   own_by d theory e n = by (is_own setting d) refl
     where
       by : (b : Bool) → is_own setting d ≡ b → b ≡ false
@@ -76,7 +76,7 @@ module _ (setting : Setting) (assigned : List Assigned) (settled : IsSettled set
       by false h = refl
 
   -- a constant that is not the domain's own is one of an included theory
-  included_in : (d : Declaration) → Member d flat → is_own setting d ≡ false → Member d.name.theory (included_theories setting) × Member d (own_part setting.environment d.name.theory)
+  pub included_in : (d : Declaration) → Member d flat → is_own setting d ≡ false → Member d.name.theory (included_theories setting) × Member d (own_part setting.environment d.name.theory)
   included_in d m o = ⊎_elim from_included from_own (in_append (own_parts setting.environment (included_theories setting)) (own_part setting.environment setting.domain) d m)
     where
       from_included : Member d (own_parts setting.environment (included_theories setting)) → Member d.name.theory (included_theories setting) × Member d (own_part setting.environment d.name.theory)

@@ -24,11 +24,15 @@ some_mapped : {A B : Type 0} (f : A → B) (o : Option A) → is_some (option_ma
 some_mapped f None = refl
 some_mapped f (Some x) = refl
 
-pub present_names_have_verdicts : PresentNamesHaveVerdicts
+-- whether there is a verdict is whether there is a text, for any list of modules
+pub verdict_exactly : (library : Library) (name : Name) → is_some (verdict_of library name) ≡ is_some (text_of library name)
 unfolding verdict_of verdicts
-present_names_have_verdicts library name ordered =
+verdict_exactly library name =
     ap is_some (round_gives library (ungrounded_names library) (length library) name)
     ∙ some_mapped (judged_under library (ungrounded_names library) (rounds library (ungrounded_names library) (length library)) name) (text_of library name)
+
+pub present_names_have_verdicts : PresentNamesHaveVerdicts
+present_names_have_verdicts library name ordered = verdict_exactly library name
 
 -- ---- grounded names
 

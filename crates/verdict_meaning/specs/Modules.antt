@@ -32,11 +32,12 @@ abbrev pub scope_in : Environment → TheoryFace → Scope
 scope_in environment face = record { own = face.own; includes = face.includes; environment = environment }
 
 -- Read: a constant or a structure declared above has the name.
-abbrev pub is_used : TheoryFace → Path → Bool
-is_used here path = is_some (own_at here.own path) || is_some (structure_of here.structures (first_name path))
+abbrev pub is_used : TheoryFace → Name → Bool
+is_used here name = is_some (own_at here.own (name ∷ [])) || is_some (structure_of here.structures name)
 
+-- Read: a declared name is one name.
 abbrev pub unused_test : TheoryFace → Written → Outcome ⊤
-unused_test here name = demand (not (is_used here name.path)) name.span Rule.DuplicateName name.path
+unused_test here name = demand (not (is_used here (first_name name.path))) name.span Rule.DuplicateName name.path
 
 -- Read: the value of a declaration that has one.
 abbrev pub declared_value : Scope → Path → Class → Option Expr → Outcome (Option Value)
@@ -45,9 +46,9 @@ declared_value scope label class (Some expression) = do
   value ← labelled label (expand_value scope expression class)
   Ok (Some value)
 
-abbrev pub with_constant : TheoryFace → Path → Class → Option Value → TheoryFace
-with_constant here path class value =
-    record here { own = here.own ++ record { name = record { theory = here.name; path = path }; class = class; value = value } ∷ [] }
+abbrev pub with_constant : TheoryFace → Name → Class → Option Value → TheoryFace
+with_constant here name class value =
+    record here { own = here.own ++ record { name = record { theory = here.name; path = name ∷ [] }; class = class; value = value } ∷ [] }
 
 -- Read: a structure of the theory that is being built, over what stands before it.
 abbrev pub structure_setting : Environment → TheoryFace → Written → Name → Setting
@@ -72,7 +73,7 @@ declare environment here (ConstDecl name class value) = do
   _ ← unused_test here name
   class' ← labelled name.path (expand_class (scope_in environment here) class)
   value' ← declared_value (scope_in environment here) name.path class' value
-  Ok (with_constant here name.path class' value')
+  Ok (with_constant here (first_name name.path) class' value')
 declare environment here (StructDecl name domain assigns) = do
   _ ← unused_test here name
   _ ← module_test environment name.path domain
