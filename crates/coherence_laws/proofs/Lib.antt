@@ -1,9 +1,3 @@
-pub mod Onces
-pub mod WordsHold
-pub mod ImagesHold
-pub mod AssignedHold
-pub mod LinksHold
-pub mod InducedHold
 pub mod TheoriesHold
 pub mod ModulesHold
 pub mod Transfer

@@ -34,12 +34,13 @@ use Rattle.holding_laws.specs.HoldingLaws.{Grows}
 use Rattle.holding_laws.specs.ExpansionHolds.{scope_signature, ScopeHolds}
 use Rattle.holding_laws.proofs.Declared.{place_of}
 use Rattle.holding_laws.proofs.Expanding.{standing_class_holds, standing_value_holds}
-use Rattle.coherence_laws.proofs.Onces.{place_member, Once, once_names, member_grows, HoldAfter, declarations_after}
-use Rattle.coherence_laws.proofs.WordsHold.{target_of, StructuresHold, HereHolds, theory_at, flat_once, included_grows, included_members, accepted_target}
-use Rattle.coherence_laws.proofs.ImagesHold.{SettingHolds}
-use Rattle.coherence_laws.proofs.AssignedHold.{items_hold}
-use Rattle.coherence_laws.proofs.LinksHold.{map_holds, added_all}
-use Rattle.coherence_laws.proofs.InducedHold.{nothing_added, added_is_induced, induced_members}
+use Rattle.link_coherence_laws.proofs.Onces.{place_member, Once, once_names, member_grows, HoldAfter, declarations_after}
+use Rattle.link_coherence_laws.specs.LinkTargets.{target_of, StructuresHold, HereHolds}
+use Rattle.link_coherence_laws.proofs.WordsHold.{theory_at, flat_once, included_grows, included_members, accepted_target}
+use Rattle.link_coherence_laws.proofs.ImagesHold.{SettingHolds}
+use Rattle.link_coherence_laws.proofs.AssignedHold.{items_hold}
+use Rattle.link_coherence_laws.proofs.LinksHold.{map_holds, added_all}
+use Rattle.link_coherence_laws.proofs.InducedHold.{nothing_added, added_is_induced, induced_members}
 use Rattle.coherence_laws.proofs.TheoriesHold.{no_structure, here_once, here_holds, inclusion_step, constant_step, structure_step}
 
 -- ---- tests

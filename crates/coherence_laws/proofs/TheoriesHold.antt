@@ -20,10 +20,10 @@ use Rattle.link_meaning.specs.Induced.{induced, with_structure}
 use Rattle.link_meaning.proofs.Linked.{own_named}
 use Rattle.holding_laws.specs.HoldingLaws.{Grows}
 use Rattle.holding_laws.proofs.Declared.{place_of, front_grows}
-use Rattle.coherence_laws.proofs.Onces.{place_member, Once, once_append, once_names, names_once, once_right, member_grows, member_declared, HoldAfter, hold_append, hold_more, after_declarations, declarations_after, own_is_once, closure_once, closure_holds}
-use Rattle.coherence_laws.proofs.WordsHold.{map_grows, includes_closed, includes_theories, theory_at}
-use Rattle.coherence_laws.proofs.ImagesHold.{SettingHolds}
-use Rattle.coherence_laws.proofs.InducedHold.{InducedFrom}
+use Rattle.link_coherence_laws.proofs.Onces.{place_member, Once, once_append, once_names, names_once, once_right, member_grows, member_declared, HoldAfter, hold_append, hold_more, after_declarations, declarations_after, own_is_once, closure_once, closure_holds}
+use Rattle.link_coherence_laws.proofs.WordsHold.{map_grows, includes_closed, includes_theories, theory_at}
+use Rattle.link_coherence_laws.proofs.ImagesHold.{SettingHolds}
+use Rattle.link_coherence_laws.proofs.InducedHold.{InducedFrom}
 
 same_path_itself : (path : Path) → pointwise same_name path path ≡ true
 same_path_itself [] = refl

@@ -7,8 +7,8 @@ use Rattle.log_meaning.proofs.Order.{member_among}
 use Rattle.library_meaning.specs.Faces.{TheoryFace, ViewFace, IsAbsent, theory_face, Environment, theory_of, includes_of, own_of, own_part, own_parts, flat_signature, flat_of}
 use Rattle.library_meaning.specs.Closure.{sees}
 use Rattle.library_meaning.specs.Coherence.{AreTheories, IsClosure, DeclarationsHold, IsCoherentMap, IsCoherentTheory, IsCoherentView, IsCoherent}
-use Rattle.coherence_laws.proofs.Onces.{place_member}
-use Rattle.coherence_laws.proofs.WordsHold.{includes_theories}
+use Rattle.link_coherence_laws.proofs.Onces.{place_member}
+use Rattle.link_coherence_laws.proofs.WordsHold.{includes_theories}
 
 -- what is known in the first is known in the second
 abbrev pub Extends : Environment → Environment → Type 0

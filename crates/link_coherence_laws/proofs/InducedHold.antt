@@ -18,10 +18,10 @@ use Rattle.link_meaning.specs.Induced.{induced_with, induced_from, induced}
 use Rattle.link_meaning.proofs.Covered.{in_filter_map}
 use Rattle.link_meaning.proofs.Linked.{own_named, own_by, includes_other}
 use Rattle.holding_laws.proofs.Translating.{placed_in}
-use Rattle.coherence_laws.proofs.Onces.{place_member, Once, once_names, member_declared}
-use Rattle.coherence_laws.proofs.WordsHold.{flat_once}
-use Rattle.coherence_laws.proofs.ImagesHold.{SettingHolds}
-use Rattle.coherence_laws.proofs.LinksHold.{added_by, added_all}
+use Rattle.link_coherence_laws.proofs.Onces.{place_member, Once, once_names, member_declared}
+use Rattle.link_coherence_laws.proofs.WordsHold.{flat_once}
+use Rattle.link_coherence_laws.proofs.ImagesHold.{SettingHolds}
+use Rattle.link_coherence_laws.proofs.LinksHold.{added_by, added_all}
 
 abbrev Imaged : HeadMap → Signature → HeadMap → Type 0
 Imaged along [] ms = ⊤

@@ -32,10 +32,10 @@ use Rattle.holding_laws.proofs.Growing.{class_grows, value_grows, optional_grows
 use Rattle.holding_laws.proofs.Declared.{place_of, front_grows, class_in, class_at, value_at}
 use Rattle.holding_laws.proofs.Expanding.{DeclaredHolds}
 use Rattle.holding_laws.proofs.Translating.{coherent_maps_into, class_translated, value_translated, translated_alike, value_at_alike, alike_through, alike_back}
-use Rattle.coherence_laws.proofs.Onces.{place_member, Apart, Once, once_append, once_names, once_apart, member_declared, HoldAfter, after_declarations, hold_append}
-use Rattle.coherence_laws.proofs.WordsHold.{map_grows, theory_at, flat_once, includes_theories}
-use Rattle.coherence_laws.proofs.ImagesHold.{SettingHolds, covering_holds, alike_itself}
-use Rattle.coherence_laws.proofs.AssignedHold.{reached_holds, ItemHolds, Due, Held, Copied, alike_due, own_due}
+use Rattle.link_coherence_laws.proofs.Onces.{place_member, Apart, Once, once_append, once_names, once_apart, member_declared, HoldAfter, after_declarations, hold_append}
+use Rattle.link_coherence_laws.proofs.WordsHold.{map_grows, theory_at, flat_once, includes_theories}
+use Rattle.link_coherence_laws.proofs.ImagesHold.{SettingHolds, covering_holds, alike_itself}
+use Rattle.link_coherence_laws.proofs.AssignedHold.{reached_holds, ItemHolds, Due, Held, Copied, alike_due, own_due}
 
 -- ---- one more mapping
 

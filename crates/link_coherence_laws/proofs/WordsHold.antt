@@ -17,28 +17,8 @@ use Rattle.holding_laws.specs.HoldingLaws.{Grows}
 use Rattle.holding_laws.proofs.Growing.{class_grows, value_grows}
 use Rattle.holding_laws.proofs.Translating.{composition_is_coherent}
 use Rattle.holding_laws.proofs.Declared.{place_of}
-use Rattle.coherence_laws.proofs.Onces.{Once, once_append, member_grows, own_is_once, closure_once}
-
--- ---- targets of links
-
-abbrev pub target_of : Environment → Option TheoryFace → Name → Signature
-target_of environment None name = flat_of environment name
-target_of environment (Some face) name = cond (same_name face.name name) (flat_signature environment face) (flat_of environment name)
-
--- structures with coherent maps into a signature
-abbrev pub StructuresHold : Environment → List StructureFace → Signature → Type 0
-StructuresHold environment structures target =
-    (i : ℕ) (structure : StructureFace) → slice_get structures i ≡ Some structure
-    → (is_some (theory_of environment structure.domain) ≡ true) × IsCoherentMap (flat_of environment structure.domain) target structure.map
-
--- the theory that is being built is not known, and has structures that hold
-pub record HereHolds (environment : Environment) (here : Option TheoryFace) : Type 0 where
-  pub absent : (face : TheoryFace) → here ≡ Some face → environment face.name ≡ IsAbsent
-  pub structures : (face : TheoryFace) → here ≡ Some face → StructuresHold environment face.structures (flat_signature environment face)
-
-pub record LinkHolds (environment : Environment) (here : Option TheoryFace) (link : Link) : Type 0 where
-  pub domain : is_some (theory_of environment link.domain) ≡ true
-  pub map_is : IsCoherentMap (flat_of environment link.domain) (target_of environment here link.codomain) link.map
+use Rattle.link_coherence_laws.specs.LinkTargets.{target_of, StructuresHold, HereHolds, LinkHolds}
+use Rattle.link_coherence_laws.proofs.Onces.{Once, once_append, member_grows, own_is_once, closure_once}
 
 pub map_grows : (from to more : Signature) (along : HeadMap) → Grows to more → IsCoherentMap from to along → IsCoherentMap from more along
 map_grows from to more along g k =

@@ -24,8 +24,9 @@ use Rattle.holding_laws.specs.ExpansionHolds.{scope_signature}
 use Rattle.holding_laws.proofs.Growing.{value_grows}
 use Rattle.holding_laws.proofs.Declared.{place_of, class_in, value_at}
 use Rattle.holding_laws.proofs.Translating.{placed_in, alike_through}
-use Rattle.coherence_laws.proofs.Onces.{Once, once_names, declaration_member, member_declared, HoldAfter, own_is_once}
-use Rattle.coherence_laws.proofs.WordsHold.{target_of, HereHolds, LinkHolds, theory_at, flat_once, included_grows, included_members, includes_closed, includes_theories, accepted_target, structure_member}
+use Rattle.link_coherence_laws.proofs.Onces.{Once, once_names, declaration_member, member_declared, HoldAfter, own_is_once}
+use Rattle.link_coherence_laws.specs.LinkTargets.{target_of, HereHolds, LinkHolds}
+use Rattle.link_coherence_laws.proofs.WordsHold.{theory_at, flat_once, included_grows, included_members, includes_closed, includes_theories, accepted_target, structure_member}
 
 -- a value that holds, at a class alike to that of a declaration
 pub record AlikeHolds (signature : Signature) (d : Declaration) (value : Value) : Type 0 where

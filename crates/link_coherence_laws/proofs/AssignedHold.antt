@@ -22,8 +22,9 @@ use Rattle.holding_laws.specs.ExpansionHolds.{scope_signature}
 use Rattle.holding_laws.proofs.Growing.{value_grows}
 use Rattle.holding_laws.proofs.Expanding.{DeclaredHolds, value_holds}
 use Rattle.holding_laws.proofs.Translating.{alike_through, alike_back, value_at_alike}
-use Rattle.coherence_laws.proofs.WordsHold.{LinkHolds, row_holds}
-use Rattle.coherence_laws.proofs.ImagesHold.{AlikeHolds, Source, source_of, SettingHolds, link_image_holds}
+use Rattle.link_coherence_laws.specs.LinkTargets.{LinkHolds}
+use Rattle.link_coherence_laws.proofs.WordsHold.{row_holds}
+use Rattle.link_coherence_laws.proofs.ImagesHold.{AlikeHolds, Source, source_of, SettingHolds, link_image_holds}
 
 -- ---- paths
 
