@@ -52,6 +52,7 @@ pub record IsInduced (environment : Environment) (face : TheoryFace) (declaratio
 pub record IsCoherentTheory (environment : Environment) (name : Name) (face : TheoryFace) : Type 0 where
   pub named : face.name ≡ name
   pub own_named : (i : ℕ) (declaration : Declaration) → slice_get face.own i ≡ Some declaration → declaration.name.theory ≡ name
+  pub own_paths : (i : ℕ) (declaration : Declaration) → slice_get face.own i ≡ Some declaration → 0 < length declaration.name.path
   pub own_once : (i j : ℕ) (declaration other : Declaration) → slice_get face.own i ≡ Some declaration → slice_get face.own j ≡ Some other → declaration.name ≡ other.name → i ≡ j
   pub includes : AreTheories environment face.includes
   pub includes_closure : IsClosure environment face.includes

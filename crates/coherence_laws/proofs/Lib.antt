@@ -1,0 +1,4 @@
+pub mod TheoriesHold
+pub mod ModulesHold
+pub mod Transfer
+pub mod LibrariesHold

@@ -1,0 +1,13 @@
+-- Laws of coherence (this profile).
+use Rattle.log_meaning.specs.Log.{Library}
+use Rattle.library_meaning.specs.Faces.{Environment}
+use Rattle.library_meaning.specs.Coherence.{IsCoherent}
+use Rattle.verdict_meaning.specs.Rounds.{known_if, verdict_of}
+
+-- Read: what the verdicts of a library tell of each name.
+abbrev pub told_by : Library → Environment
+told_by library name = known_if (verdict_of library name)
+
+-- Read: the faces of all accepted modules of a library are coherent.
+abbrev pub FacesAreCoherent : Type 0
+FacesAreCoherent = (library : Library) → IsCoherent (told_by library)

@@ -1,0 +1,8 @@
+//! Faces of accepted modules.
+
+ghost use Rattle.coherence_laws.specs.CoherenceLaws.{FacesAreCoherent};
+
+/// All that a library's verdicts tell of its accepted modules is coherent.
+pub fn law_faces()
+    ensures { FacesAreCoherent }
+{}

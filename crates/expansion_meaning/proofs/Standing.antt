@@ -1,0 +1,46 @@
+-- The laws of expansion.
+use Rattle.std.proofs.Common.{sym, ◌∙◌}
+use Rattle.expansion_meaning.specs.ExpansionLaws.{ObjectsStand, HeadsStand, ArgumentsStand, FamiliesStand, KindsStand, ClassesStand, FamilyValuesStand, ValuesStand, OneObject, OneFamily, OneKind, OneClass, OneValue}
+use Rattle.expansion_meaning.proofs.Binding.{ok_same}
+use Rattle.expansion_meaning.proofs.Sound.{object_sound, head_sound, arguments_sound, family_sound, kind_sound}
+use Rattle.expansion_meaning.proofs.Complete.{object_complete, head_complete, arguments_complete, family_complete, kind_complete}
+use Rattle.expansion_meaning.proofs.ValuesStand.{class_sound, class_complete, family_value_sound, family_value_complete, value_sound, value_complete}
+
+pub objects_stand : ObjectsStand
+objects_stand scope locals e family object = (object_sound e scope locals family object, object_complete e scope locals family object)
+
+pub heads_stand : HeadsStand
+heads_stand level scope locals e head = (head_sound e level scope locals head, λ s. head_complete e level scope locals head s.0 s.1)
+
+pub arguments_stand : ArgumentsStand
+arguments_stand scope locals xs first head = (arguments_sound xs scope locals first head, arguments_complete xs scope locals first head)
+
+pub families_stand : FamiliesStand
+families_stand scope locals e family = (family_sound e scope locals family, family_complete e scope locals family)
+
+pub kinds_stand : KindsStand
+kinds_stand scope locals e kind = (kind_sound e scope locals kind, kind_complete e scope locals kind)
+
+pub classes_stand : ClassesStand
+classes_stand scope e class = (class_sound scope e class, class_complete scope e class)
+
+pub family_values_stand : FamilyValuesStand
+family_values_stand scope locals e kind body = (family_value_sound e scope locals kind body, family_value_complete e scope locals kind body)
+
+pub values_stand : ValuesStand
+values_stand scope e class value = (value_sound scope e class value, value_complete scope e class value)
+
+pub one_object : OneObject
+one_object scope locals e family m n s t = ok_same (sym (object_complete e scope locals family m s) ∙ object_complete e scope locals family n t)
+
+pub one_family : OneFamily
+one_family scope locals e a b s t = ok_same (sym (family_complete e scope locals a s) ∙ family_complete e scope locals b t)
+
+pub one_kind : OneKind
+one_kind scope locals e k l s t = ok_same (sym (kind_complete e scope locals k s) ∙ kind_complete e scope locals l t)
+
+pub one_class : OneClass
+one_class scope e k l s t = ok_same (sym (class_complete scope e k s) ∙ class_complete scope e l t)
+
+pub one_value : OneValue
+one_value scope e class v w s t = ok_same (sym (value_complete scope e class v s) ∙ value_complete scope e class w t)

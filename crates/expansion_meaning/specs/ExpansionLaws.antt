@@ -1,0 +1,77 @@
+-- Laws of expansion: what the functions answer is what the relations say, and there is at most one (this profile).
+use Rattle.std.specs.Prelude.{◌≡◌, ◌↔◌, Ok}
+use Rattle.lf_meaning.specs.Terms.{Object, Family, Kind}
+use Rattle.lf_meaning.specs.Signatures.{Class, Value}
+use Rattle.translation_meaning.specs.Heads.{Head}
+use Rattle.library_meaning.specs.Resolution.{Scope}
+use Rattle.text_meaning.specs.Trees.{Expr, Exprs}
+use Rattle.expansion_meaning.specs.Locals.{Locals}
+use Rattle.expansion_meaning.specs.NameHeads.{Level, level_of}
+use Rattle.expansion_meaning.specs.Expansion.{expand_object, expand_head, expand_arguments, expand_family, expand_kind}
+use Rattle.expansion_meaning.specs.Values.{expand_class, expand_family_value, expand_value}
+use Rattle.expansion_meaning.specs.Stands.{StandsObject, StandsHead, StandsArguments, StandsFamily, StandsKind, StandsClass, StandsFamilyValue, StandsValue}
+
+abbrev pub ObjectsStand : Type 0
+ObjectsStand =
+    (scope : Scope) (locals : Locals) (expression : Expr) (family : Family) (object : Object)
+    → (expand_object scope locals expression family ≡ Ok object) ↔ StandsObject scope locals expression family object
+
+-- Read: a head of the wanted level is answered exactly where it stands.
+abbrev pub HeadsStand : Type 0
+HeadsStand =
+    (level : Level) (scope : Scope) (locals : Locals) (expression : Expr) (head : Head)
+    → (expand_head level scope locals expression ≡ Ok head) ↔ (StandsHead scope locals expression head × (level_of head ≡ level))
+
+abbrev pub ArgumentsStand : Type 0
+ArgumentsStand =
+    (scope : Scope) (locals : Locals) (arguments : Exprs) (first head : Head)
+    → (expand_arguments scope locals arguments first ≡ Ok head) ↔ StandsArguments scope locals arguments first head
+
+abbrev pub FamiliesStand : Type 0
+FamiliesStand =
+    (scope : Scope) (locals : Locals) (expression : Expr) (family : Family)
+    → (expand_family scope locals expression ≡ Ok family) ↔ StandsFamily scope locals expression family
+
+abbrev pub KindsStand : Type 0
+KindsStand =
+    (scope : Scope) (locals : Locals) (expression : Expr) (kind : Kind)
+    → (expand_kind scope locals expression ≡ Ok kind) ↔ StandsKind scope locals expression kind
+
+abbrev pub ClassesStand : Type 0
+ClassesStand =
+    (scope : Scope) (expression : Expr) (class : Class) → (expand_class scope expression ≡ Ok class) ↔ StandsClass scope expression class
+
+abbrev pub FamilyValuesStand : Type 0
+FamilyValuesStand =
+    (scope : Scope) (locals : Locals) (expression : Expr) (kind : Kind) (body : Family)
+    → (expand_family_value scope locals expression kind ≡ Ok body) ↔ StandsFamilyValue scope locals expression kind body
+
+abbrev pub ValuesStand : Type 0
+ValuesStand =
+    (scope : Scope) (expression : Expr) (class : Class) (value : Value)
+    → (expand_value scope expression class ≡ Ok value) ↔ StandsValue scope expression class value
+
+-- Read: at most one term stands.
+abbrev pub OneObject : Type 0
+OneObject =
+    (scope : Scope) (locals : Locals) (expression : Expr) (family : Family) (object other : Object)
+    → StandsObject scope locals expression family object → StandsObject scope locals expression family other → object ≡ other
+
+abbrev pub OneFamily : Type 0
+OneFamily =
+    (scope : Scope) (locals : Locals) (expression : Expr) (family other : Family)
+    → StandsFamily scope locals expression family → StandsFamily scope locals expression other → family ≡ other
+
+abbrev pub OneKind : Type 0
+OneKind =
+    (scope : Scope) (locals : Locals) (expression : Expr) (kind other : Kind)
+    → StandsKind scope locals expression kind → StandsKind scope locals expression other → kind ≡ other
+
+abbrev pub OneClass : Type 0
+OneClass =
+    (scope : Scope) (expression : Expr) (class other : Class) → StandsClass scope expression class → StandsClass scope expression other → class ≡ other
+
+abbrev pub OneValue : Type 0
+OneValue =
+    (scope : Scope) (expression : Expr) (class : Class) (value other : Value)
+    → StandsValue scope expression class value → StandsValue scope expression class other → value ≡ other

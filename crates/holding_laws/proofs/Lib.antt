@@ -1,0 +1,7 @@
+pub mod Growing
+pub mod Replaced
+pub mod Heads
+pub mod Translating
+pub mod Declared
+pub mod Expanding
+pub mod Holding

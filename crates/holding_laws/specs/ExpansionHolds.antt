@@ -1,0 +1,55 @@
+-- What stands holds only constants of the scope (this profile).
+use Rattle.std.specs.Prelude.{◌≡◌, ℕ, [], ◌∷◌, ◌++◌, length, slice_get, Some, ⊤}
+use Rattle.lf_meaning.specs.Terms.{Object, Family, Kind}
+use Rattle.lf_meaning.specs.Signatures.{Class, Value, Declaration, Signature}
+use Rattle.library_meaning.specs.Faces.{own_parts}
+use Rattle.library_meaning.specs.Resolution.{Scope}
+use Rattle.library_meaning.specs.Holding.{ObjectHolds, FamilyHolds, KindHolds, ClassHolds, ValueHolds}
+use Rattle.library_meaning.specs.Coherence.{DeclarationsHold}
+use Rattle.text_meaning.specs.Trees.{Expr}
+use Rattle.expansion_meaning.specs.Locals.{Locals}
+use Rattle.expansion_meaning.specs.Stands.{StandsObject, StandsFamily, StandsKind, StandsClass, StandsValue}
+
+-- Read: the constants of a scope: those of the theories that are included, in order, and then the own ones.
+abbrev pub scope_signature : Scope → Signature
+scope_signature scope = own_parts scope.environment scope.includes ++ scope.own
+
+-- Read: each name is declared once.
+abbrev pub NamesOnce : Signature → Type 0
+NamesOnce signature =
+    (i j : ℕ) (declaration other : Declaration) → slice_get signature i ≡ Some declaration → slice_get signature j ≡ Some other → declaration.name ≡ other.name → i ≡ j
+
+-- Read: the scope's declarations hold only constants that stand before them, and have different names.
+pub record ScopeHolds (scope : Scope) : Type 0 where
+  pub declarations : DeclarationsHold (scope_signature scope)
+  pub once : NamesOnce (scope_signature scope)
+
+-- Read: the family of each variable holds only those further out, and constants of the signature.
+abbrev pub LocalsHold : Signature → Locals → Type 0
+LocalsHold signature [] = ⊤
+LocalsHold signature (own ∷ locals) = FamilyHolds signature (length locals) own.family × LocalsHold signature locals
+
+abbrev pub StandingObjectHolds : Type 0
+StandingObjectHolds =
+    (scope : Scope) (locals : Locals) (expression : Expr) (family : Family) (object : Object) → ScopeHolds scope → LocalsHold (scope_signature scope) locals
+    → FamilyHolds (scope_signature scope) (length locals) family → StandsObject scope locals expression family object
+    → ObjectHolds (scope_signature scope) (length locals) object
+
+abbrev pub StandingFamilyHolds : Type 0
+StandingFamilyHolds =
+    (scope : Scope) (locals : Locals) (expression : Expr) (family : Family) → ScopeHolds scope → LocalsHold (scope_signature scope) locals
+    → StandsFamily scope locals expression family → FamilyHolds (scope_signature scope) (length locals) family
+
+abbrev pub StandingKindHolds : Type 0
+StandingKindHolds =
+    (scope : Scope) (locals : Locals) (expression : Expr) (kind : Kind) → ScopeHolds scope → LocalsHold (scope_signature scope) locals
+    → StandsKind scope locals expression kind → KindHolds (scope_signature scope) (length locals) kind
+
+abbrev pub StandingClassHolds : Type 0
+StandingClassHolds =
+    (scope : Scope) (expression : Expr) (class : Class) → ScopeHolds scope → StandsClass scope expression class → ClassHolds (scope_signature scope) class
+
+abbrev pub StandingValueHolds : Type 0
+StandingValueHolds =
+    (scope : Scope) (expression : Expr) (class : Class) (value : Value) → ScopeHolds scope → ClassHolds (scope_signature scope) class
+    → StandsValue scope expression class value → ValueHolds (scope_signature scope) class value

@@ -1,0 +1,3 @@
+pub mod HoldingLaws
+pub mod TranslationHolds
+pub mod ExpansionHolds

@@ -1,0 +1,12 @@
+//! What stands holds only constants of its scope.
+
+ghost use Rattle.holding_laws.specs.ExpansionHolds.{StandingObjectHolds, StandingFamilyHolds, StandingKindHolds, StandingClassHolds, StandingValueHolds};
+
+/// What an expression stands for holds only the variables around it and the constants of the scope.
+pub fn law_expansion_holds()
+    ensures object { StandingObjectHolds }
+    ensures family { StandingFamilyHolds }
+    ensures kind { StandingKindHolds }
+    ensures class { StandingClassHolds }
+    ensures value { StandingValueHolds }
+{}

@@ -1,0 +1,15 @@
+//! The map of a link.
+
+ghost use Rattle.link_meaning.specs.LinkLaws.{AssignmentsAreRead, PassesMeetEquations, OneMapMeetsEquations, LinkMapMeetsEquations};
+
+/// Assignments are read as what they give, and as nothing else.
+pub fn law_assignments()
+    ensures { AssignmentsAreRead }
+{}
+
+/// The passes answer a map exactly where it meets the equations of the link, and at most one map does.
+pub fn law_links()
+    ensures passes { PassesMeetEquations }
+    ensures one { OneMapMeetsEquations }
+    ensures link { LinkMapMeetsEquations }
+{}

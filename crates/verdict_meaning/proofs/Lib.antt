@@ -1,0 +1,4 @@
+pub mod Computed
+pub mod Shortness
+pub mod Rounds
+pub mod Verdicts

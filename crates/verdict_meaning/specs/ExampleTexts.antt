@@ -1,0 +1,138 @@
+-- The texts of the worked cases.
+use Rattle.std.specs.Prelude.{[], codes}
+use Rattle.log_meaning.specs.Names.{Text}
+
+abbrev pub text_Nat : Text
+text_Nat = codes "%sig Nat = {\nnat : type.\nz : nat.\ns : nat -> nat.\n}.\n"
+
+abbrev pub text_Nat_misspelled : Text
+text_Nat_misspelled = codes "%sig Nat = {\nnat : type.\nz : nat.\ns : nat -> nta.\n}.\n"
+
+abbrev pub text_E : Text
+text_E = codes "%sig E = {\na : type.\nf : a -> a.\nc : (a -> a) -> a.\nd : a = c f.\n}.\n"
+
+abbrev pub text_E_long : Text
+text_E_long = codes "%sig E = {\na : type.\nf : a -> a.\nc : (a -> a) -> a.\nd : a = c ([x] f x).\n}.\n"
+
+abbrev pub text_FOL : Text
+text_FOL = codes "%sig FOL = {\ni : type.\no : type.\npf : o -> type.\neq : i -> i -> o.\nall : (i -> o) -> o.\n}.\n"
+
+abbrev pub text_Magma : Text
+text_Magma = codes "%sig Magma = {\n%include FOL.\nop : i -> i -> i.\n}.\n"
+
+abbrev pub text_Monoid : Text
+text_Monoid = codes "%sig Monoid = {\n%include FOL.\n%struct mag : Magma.\ne : i.\nleft : {x:i} pf (eq (mag.op e x) x).\nright : {x:i} pf (eq (mag.op x e) x).\n}.\n"
+
+abbrev pub text_Car : Text
+text_Car = codes "%sig Car = {\na : type.\nop : a -> a -> a.\n}.\n"
+
+abbrev pub text_Two_mixed : Text
+text_Two_mixed = codes "%sig Two = {\n%struct m1 : Car.\n%struct m2 : Car.\np : m1.a.\nq : m2.a.\nr : m1.a -> type.\nw : r (m1.op p q).\n}.\n"
+
+abbrev pub text_Two : Text
+text_Two = codes "%sig Two = {\n%struct m1 : Car.\n%struct m2 : Car.\np : m1.a.\nq : m2.a.\nr : m1.a -> type.\n}.\n"
+
+abbrev pub text_Nat_plus : Text
+text_Nat_plus = codes "%sig Nat = {\nnat : type.\nz : nat.\ns : nat -> nat.\nplus : nat -> nat -> nat.\n%struct m : Car = { a := nat. op := plus. }.\n}.\n"
+
+abbrev pub text_Set : Text
+text_Set = codes "%sig Set = {\na : type.\n}.\n"
+
+abbrev pub text_Mag : Text
+text_Mag = codes "%sig Mag = {\n%struct u : Set.\nop : u.a -> u.a -> u.a.\n}.\n"
+
+abbrev pub text_Ring : Text
+text_Ring = codes "%sig Ring = {\n%struct add : Mag.\n%struct mul : Mag = { %struct u := Ring.add.u. }.\n}.\n"
+
+abbrev pub text_Bare : Text
+text_Bare = codes "%sig Bare = {\n%struct m : Magma.\n}.\n"
+
+abbrev pub text_A : Text
+text_A = codes "%sig A = {\na : type.\n}.\n"
+
+abbrev pub text_B : Text
+text_B = codes "%sig B = {\n%include A.\nb : a.\n}.\n"
+
+abbrev pub text_C : Text
+text_C = codes "%sig C = {\n%include A.\nc : a.\n}.\n"
+
+abbrev pub text_D : Text
+text_D = codes "%sig D = {\n%include B.\n%include C.\nd : a.\n}.\n"
+
+abbrev pub text_B_two : Text
+text_B_two = codes "%sig B = {\n%include A.\nb : a.\nk : type.\n}.\n"
+
+abbrev pub text_C_two : Text
+text_C_two = codes "%sig C = {\n%include A.\nc : a.\nk : type.\n}.\n"
+
+abbrev pub text_D_two : Text
+text_D_two = codes "%sig D = {\n%include B.\n%include C.\nd : k.\n}.\n"
+
+abbrev pub text_D_one : Text
+text_D_one = codes "%sig D = {\n%include B.\n%include C.\nd : B.k.\n}.\n"
+
+abbrev pub text_Def : Text
+text_Def = codes "%sig Def = {\na : type.\nc : a.\nd : a = c.\n}.\n"
+
+abbrev pub text_T : Text
+text_T = codes "%sig T = {\nb : type.\nk : b.\nl : b.\nj : b -> b.\n}.\n"
+
+abbrev pub text_V : Text
+text_V = codes "%view V : Def -> T = {\na := b.\nc := k.\nd := k.\n}.\n"
+
+abbrev pub text_W : Text
+text_W = codes "%view W : Def -> T = {\na := b.\nc := k.\nd := l.\n}.\n"
+
+abbrev pub text_X : Text
+text_X = codes "%view X : Def -> T = {\na := b.\n}.\n"
+
+abbrev pub text_X_ill : Text
+text_X_ill = codes "%view X : Def -> T = {\na := b.\nc := j.\n}.\n"
+
+abbrev pub text_R : Text
+text_R = codes "%sig R = {\na : type.\n}.\n"
+
+abbrev pub text_P : Text
+text_P = codes "%sig P = {\n%include R.\np : a.\n}.\n"
+
+abbrev pub text_Q : Text
+text_Q = codes "%sig Q = {\n%include R.\nq : a.\n}.\n"
+
+abbrev pub text_S : Text
+text_S = codes "%sig S = {\n%include P.\n%include Q.\n}.\n"
+
+abbrev pub text_T_four : Text
+text_T_four = codes "%sig T = {\nu : type.\nv : type.\nx : u.\ny : v.\n}.\n"
+
+abbrev pub text_VR1 : Text
+text_VR1 = codes "%view VR1 : R -> T = {\na := u.\n}.\n"
+
+abbrev pub text_VR2 : Text
+text_VR2 = codes "%view VR2 : R -> T = {\na := v.\n}.\n"
+
+abbrev pub text_VP : Text
+text_VP = codes "%view VP : P -> T = {\n%include VR1.\np := x.\n}.\n"
+
+abbrev pub text_VQ : Text
+text_VQ = codes "%view VQ : Q -> T = {\n%include VR2.\nq := y.\n}.\n"
+
+abbrev pub text_V_both : Text
+text_V_both = codes "%view V : S -> T = {\n%include VP.\n%include VQ.\n}.\n"
+
+abbrev pub text_Empty : Text
+text_Empty = []
+
+abbrev pub text_Mode : Text
+text_Mode = codes "%sig Z = {\n%mode a."
+
+abbrev pub text_Open : Text
+text_Open = codes "%{ open"
+
+abbrev pub text_A_ring : Text
+text_A_ring = codes "%sig A = {\n%include B.\n}.\n"
+
+abbrev pub text_B_ring : Text
+text_B_ring = codes "%sig B = {\n%include A.\n}.\n"
+
+abbrev pub text_C_ring : Text
+text_C_ring = codes "%sig C = {\n%include A.\n}.\n"
