@@ -12,46 +12,31 @@ use mmt_syntax::{Expr, Node};
 pub(crate) fn is_word(expr: &Expr) -> bool
     ensures { result ≡ printed.is_word (read_expr expr.now) }
 {
-    match &expr.node {
-        Node::Ty => true,
-        Node::Name(_) => true,
-        _ => false,
-    }
+    matches!(&expr.node, Node::Ty | Node::Name(_))
 }
 
 /// An operand of a row of arrows: what stands in front of `->`, and of a further `<-`.
 pub(crate) fn is_operand(expr: &Expr) -> bool
     ensures { result ≡ printed.is_operand (read_expr expr.now) }
 {
-    match &expr.node {
-        Node::Ty => true,
-        Node::Name(_) => true,
-        Node::App { .. } => true,
-        _ => false,
-    }
+    matches!(&expr.node, Node::Ty | Node::Name(_) | Node::App { .. })
 }
 
 /// The front of a row of `<-`: an operand, or such a row.
 pub(crate) fn is_front(expr: &Expr) -> bool
     ensures { result ≡ (printed.is_operand (read_expr expr.now) || printed.is_back (read_expr expr.now)) }
 {
-    match &expr.node {
-        Node::Ty => true,
-        Node::Name(_) => true,
-        Node::App { .. } => true,
-        Node::Back { .. } => true,
-        _ => false,
-    }
+    matches!(
+        &expr.node,
+        Node::Ty | Node::Name(_) | Node::App { .. } | Node::Back { .. }
+    )
 }
 
 /// What may stand behind `->`: everything but a row of `<-`.
 pub(crate) fn is_body(expr: &Expr) -> bool
     ensures { result ≡ (if printed.is_back (read_expr expr.now) then false else true) }
 {
-    match &expr.node {
-        Node::Back { .. } => false,
-        _ => true,
-    }
+    !matches!(&expr.node, Node::Back { .. })
 }
 
 /// The last operand of a row of `<-`. Where the row is free it may be a Π or a λ as well, which reach to the end.
@@ -59,11 +44,8 @@ pub(crate) fn is_last(expr: &Expr, free: bool) -> bool
     ensures { result ≡ (if free then printed.is_last_operand (read_expr expr.now) else printed.is_operand (read_expr expr.now)) }
 {
     match &expr.node {
-        Node::Ty => true,
-        Node::Name(_) => true,
-        Node::App { .. } => true,
-        Node::Pi { .. } => free,
-        Node::Lam { .. } => free,
+        Node::Ty | Node::Name(_) | Node::App { .. } => true,
+        Node::Pi { .. } | Node::Lam { .. } => free,
         _ => false,
     }
 }
@@ -73,10 +55,8 @@ pub(crate) fn is_argument(expr: &Expr, free: bool) -> bool
     ensures { result ≡ (printed.is_word (read_expr expr.now) || (free && printed.is_binding (read_expr expr.now))) }
 {
     match &expr.node {
-        Node::Ty => true,
-        Node::Name(_) => true,
-        Node::Pi { .. } => free,
-        Node::Lam { .. } => free,
+        Node::Ty | Node::Name(_) => true,
+        Node::Pi { .. } | Node::Lam { .. } => free,
         _ => false,
     }
 }
