@@ -1,0 +1,4 @@
+pub mod Carrying
+pub mod JudgingByRules
+pub mod Outputs
+pub mod Examples

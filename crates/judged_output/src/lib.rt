@@ -1,0 +1,5 @@
+//! What the program is to print, with the verdicts of the rules: scripts, checked folders and the generator, and what carrying a
+//! judgement along a view comes to. It holds definitions, in `specs/`, and worked cases.
+#![tactic(auto)]
+
+pub mod examples;
