@@ -13,27 +13,32 @@ pub record IsTypedScope (scope : Scope) : Type 0 where
   pub typed : IsSignature (scope_signature scope)
   pub once : NamesOnce (scope_signature scope)
 
+-- Read: an object that stands at a family checks against it.
 abbrev pub StandingObjectChecks : Type 0
 StandingObjectChecks =
     (scope : Scope) (locals : Locals) (expression : Expr) (family : Family) (object : Object) → IsTypedScope scope
     → IsContext (scope_signature scope) (context_of locals) → IsFamily (scope_signature scope) (context_of locals) family
     → StandsObject scope locals expression family object → Checks (scope_signature scope) (context_of locals) object family
 
+-- Read: a family that stands is one.
 abbrev pub StandingFamilyIsFamily : Type 0
 StandingFamilyIsFamily =
     (scope : Scope) (locals : Locals) (expression : Expr) (family : Family) → IsTypedScope scope
     → IsContext (scope_signature scope) (context_of locals) → StandsFamily scope locals expression family
     → IsFamily (scope_signature scope) (context_of locals) family
 
+-- Read: a kind that stands is one.
 abbrev pub StandingKindIsKind : Type 0
 StandingKindIsKind =
     (scope : Scope) (locals : Locals) (expression : Expr) (kind : Kind) → IsTypedScope scope
     → IsContext (scope_signature scope) (context_of locals) → StandsKind scope locals expression kind
     → IsKind (scope_signature scope) (context_of locals) kind
 
+-- Read: a class that stands is one.
 abbrev pub StandingClassIsClass : Type 0
 StandingClassIsClass = (scope : Scope) (expression : Expr) (class : Class) → IsTypedScope scope → StandsClass scope expression class → IsClass (scope_signature scope) class
 
+-- Read: a value that stands at a class fits it.
 abbrev pub StandingValueFits : Type 0
 StandingValueFits =
     (scope : Scope) (expression : Expr) (class : Class) (value : Value) → IsTypedScope scope → IsClass (scope_signature scope) class

@@ -36,13 +36,16 @@ pub record IsFirstDifference (first second : HeadMap) (names : Signature) (place
   pub differs : agree_on first second declaration ≡ false
   pub before : (i : ℕ) (earlier : Declaration) → i < place → slice_get names i ≡ Some earlier → agree_on first second earlier ≡ true
 
+-- Read: the maps agree on all declarations.
 abbrev pub AgreeOnAll : HeadMap → HeadMap → Signature → Type 0
 AgreeOnAll first second names = (i : ℕ) (declaration : Declaration) → slice_get names i ≡ Some declaration → agree_on first second declaration ≡ true
 
+-- Read: a place is that of the first difference; none is that there is no difference.
 abbrev pub IsDifference : HeadMap → HeadMap → Signature → Option ℕ → Type 0
 IsDifference first second names None = AgreeOnAll first second names
 IsDifference first second names (Some place) = IsFirstDifference first second names place
 
+-- Read: what the function answers is so.
 abbrev pub DifferenceIsFirst : Type 0
 DifferenceIsFirst = (first second : HeadMap) (names : Signature) → IsDifference first second names (differ first second names)
 
