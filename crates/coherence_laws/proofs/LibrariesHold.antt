@@ -29,8 +29,8 @@ use Rattle.verdict_meaning.specs.Rounds.{verdict_under, known_if, others_reached
 use Rattle.verdict_meaning.specs.VerdictLaws.{known_to}
 use Rattle.verdict_meaning.proofs.Shortness.{Short, short_reached, reach_within_reach}
 use Rattle.verdict_meaning.proofs.Rounds.{in_others}
-use Rattle.verdict_meaning.proofs.Verdicts.{verdict_exactly, verdict_is_judged, ungrounded_is_cycle}
-use Rattle.coherence_laws.specs.CoherenceLaws.{told_by, FacesAreCoherent}
+use Rattle.verdict_meaning.proofs.Verdicts.{not_ungrounded, verdict_exactly, verdict_is_judged, ungrounded_is_cycle}
+use Rattle.coherence_laws.specs.CoherenceLaws.{told_by, FacesAreCoherent, GroundedKnowCoherent}
 use Rattle.coherence_laws.proofs.ModulesHold.{declare_all_holds, empty_holds, view_holds}
 use Rattle.coherence_laws.proofs.Transfer.{Extends, theory_transfers, view_transfers}
 
@@ -258,6 +258,12 @@ module _ (library : Library) where
             let d = sound (length library) name (accepted_view name v.verdict face v.is v.known_is) in
             view_transfers (known_to library name) (told_by library) d.coherent (tells_more name) name face (view_shown (known_to library name) name v.verdict face v.known_is (d.holds v.verdict v.is)));
       }
+
+pub grounded_know_coherent : GroundedKnowCoherent
+unfolding ungrounded_names
+grounded_know_coherent library name g =
+    let d = sound library (length library) name (λ m. true≢false (sym (member_among (walking dependencies library (length library)) name m) ∙ not_ungrounded library name g)) in
+    d.coherent
 
 pub faces_are_coherent : FacesAreCoherent
 faces_are_coherent library = library_coherent library

@@ -1,8 +1,9 @@
 //! Faces of accepted modules.
 
-ghost use Rattle.coherence_laws.specs.CoherenceLaws.{FacesAreCoherent};
+ghost use Rattle.coherence_laws.specs.CoherenceLaws.{FacesAreCoherent, GroundedKnowCoherent};
 
 /// All that a library's verdicts tell of its accepted modules is coherent.
 pub fn law_faces()
-    ensures { FacesAreCoherent }
+    ensures faces { FacesAreCoherent }
+    ensures known { GroundedKnowCoherent }
 {}

@@ -8,6 +8,7 @@ pub record Fault : Type 0 where
   pub span : Span
   pub rule : Rule
 
+-- Read: a value, or the first fault.
 abbrev pub Answer : Type 0 → Type 0
 Answer A = Result A Fault
 

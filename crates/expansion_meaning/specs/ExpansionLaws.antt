@@ -11,6 +11,7 @@ use Rattle.expansion_meaning.specs.Expansion.{expand_object, expand_head, expand
 use Rattle.expansion_meaning.specs.Values.{expand_class, expand_family_value, expand_value}
 use Rattle.expansion_meaning.specs.Stands.{StandsObject, StandsHead, StandsArguments, StandsFamily, StandsKind, StandsClass, StandsFamilyValue, StandsValue}
 
+-- Read: an object is answered exactly where it stands.
 abbrev pub ObjectsStand : Type 0
 ObjectsStand =
     (scope : Scope) (locals : Locals) (expression : Expr) (family : Family) (object : Object)
@@ -22,30 +23,36 @@ HeadsStand =
     (level : Level) (scope : Scope) (locals : Locals) (expression : Expr) (head : Head)
     → (expand_head level scope locals expression ≡ Ok head) ↔ (StandsHead scope locals expression head × (level_of head ≡ level))
 
+-- Read: a head is answered for arguments exactly where it has taken them.
 abbrev pub ArgumentsStand : Type 0
 ArgumentsStand =
     (scope : Scope) (locals : Locals) (arguments : Exprs) (first head : Head)
     → (expand_arguments scope locals arguments first ≡ Ok head) ↔ StandsArguments scope locals arguments first head
 
+-- Read: a family is answered exactly where it stands.
 abbrev pub FamiliesStand : Type 0
 FamiliesStand =
     (scope : Scope) (locals : Locals) (expression : Expr) (family : Family)
     → (expand_family scope locals expression ≡ Ok family) ↔ StandsFamily scope locals expression family
 
+-- Read: a kind is answered exactly where it stands.
 abbrev pub KindsStand : Type 0
 KindsStand =
     (scope : Scope) (locals : Locals) (expression : Expr) (kind : Kind)
     → (expand_kind scope locals expression ≡ Ok kind) ↔ StandsKind scope locals expression kind
 
+-- Read: a class is answered exactly where it stands.
 abbrev pub ClassesStand : Type 0
 ClassesStand =
     (scope : Scope) (expression : Expr) (class : Class) → (expand_class scope expression ≡ Ok class) ↔ StandsClass scope expression class
 
+-- Read: the body of a family value is answered exactly where it stands.
 abbrev pub FamilyValuesStand : Type 0
 FamilyValuesStand =
     (scope : Scope) (locals : Locals) (expression : Expr) (kind : Kind) (body : Family)
     → (expand_family_value scope locals expression kind ≡ Ok body) ↔ StandsFamilyValue scope locals expression kind body
 
+-- Read: a value is answered exactly where it stands.
 abbrev pub ValuesStand : Type 0
 ValuesStand =
     (scope : Scope) (expression : Expr) (class : Class) (value : Value)
@@ -57,20 +64,24 @@ OneObject =
     (scope : Scope) (locals : Locals) (expression : Expr) (family : Family) (object other : Object)
     → StandsObject scope locals expression family object → StandsObject scope locals expression family other → object ≡ other
 
+-- Read: at most one family stands.
 abbrev pub OneFamily : Type 0
 OneFamily =
     (scope : Scope) (locals : Locals) (expression : Expr) (family other : Family)
     → StandsFamily scope locals expression family → StandsFamily scope locals expression other → family ≡ other
 
+-- Read: at most one kind stands.
 abbrev pub OneKind : Type 0
 OneKind =
     (scope : Scope) (locals : Locals) (expression : Expr) (kind other : Kind)
     → StandsKind scope locals expression kind → StandsKind scope locals expression other → kind ≡ other
 
+-- Read: at most one class stands.
 abbrev pub OneClass : Type 0
 OneClass =
     (scope : Scope) (expression : Expr) (class other : Class) → StandsClass scope expression class → StandsClass scope expression other → class ≡ other
 
+-- Read: at most one value stands.
 abbrev pub OneValue : Type 0
 OneValue =
     (scope : Scope) (expression : Expr) (class : Class) (value other : Value)

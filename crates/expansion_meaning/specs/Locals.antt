@@ -14,12 +14,15 @@ pub record Local : Type 0 where
 abbrev pub Locals : Type 0
 Locals = List Local
 
+-- Read: the variables with one more, innermost.
 abbrev pub with_local : Option Name → Family → Locals → Locals
 with_local name family locals = record { name = name; family = family } ∷ locals
 
+-- Read: the names of the variables.
 abbrev pub variables_of : Locals → Variables
 variables_of locals = map (λ (own : Local). own.name) locals
 
+-- Read: the families of the variables.
 abbrev pub context_of : Locals → Context
 context_of locals = map (λ (own : Local). own.family) locals
 

@@ -23,6 +23,7 @@ family_head constant kind (Some (SameAs other)) = FamilyHead zero (AtFamily (Fam
 family_head constant kind (Some (TermValue object)) = FamilyHead zero (AtFamily (FamilyCon constant)) kind
 family_head constant kind (Some (FamilyValue binders body)) = FamilyHead binders body kind
 
+-- Read: a constant of this class.
 abbrev pub class_head : Constant → Class → Option Value → Head
 class_head constant (FamilyClass family) value = object_head constant family value
 class_head constant (KindClass kind) value = family_head constant kind value
@@ -36,10 +37,12 @@ pub data Level : Type 0 where
   Objects : Level
   Families : Level
 
+-- Read: the level of a head.
 abbrev pub level_of : Head → Level
 level_of (ObjectHead object classifier) = Objects
 level_of (FamilyHead binders family kind) = Families
 
+-- Read: the two levels are one.
 abbrev pub same_level : Level → Level → Bool
 same_level Objects Objects = true
 same_level Objects Families = false

@@ -1,6 +1,7 @@
 -- The rules that a text can break, with their numbers and words (this profile).
 use Rattle.std.specs.Prelude.{ℕ, List, codes}
 
+-- Read: the rules, in the order of their numbers.
 pub data Rule : Type 0 where
   Syntax TooDeep Unsupported WrongName Cycle UnknownModule : Rule
   WrongModuleKind DependencyRefused DuplicateName UnknownName AmbiguousName Level : Rule

@@ -36,6 +36,7 @@ class_by scope expression false = do
   family ← expand_family scope [] expression
   Ok (FamilyClass family)
 
+-- Read: the class that an expression stands for.
 unfoldable pub expand_class : Scope → Expr → Answer Class
 expand_class scope expression = class_by scope expression (ends_in_type expression)
 
@@ -77,6 +78,7 @@ expand_family_value scope locals (AppExpr span function arguments) kind = do
   head ← expand_arguments scope locals arguments first
   family_at_kind span kind head
 
+-- Read: a family is the class of objects, a kind that of families.
 abbrev pub class_level : Class → Level
 class_level (FamilyClass family) = Objects
 class_level (KindClass kind) = Families

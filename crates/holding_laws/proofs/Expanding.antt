@@ -56,6 +56,17 @@ own_local : (locals : Locals) (index : ℕ) (o : Option Local) (family : Family)
 own_local locals index None family e h = absurd (cc)
 own_local locals index (Some own) family e h = (own, e, some_same h)
 
+-- a declaration that a path stands for is one of the scope
+pub scope_member : (scope : Scope) (variables : Variables) (path : Path) (d : Declaration) → StandsFor scope variables path (Declared d) → Member d (scope_signature scope)
+scope_member scope variables path d (ByOwn f o) = append_right (own_parts scope.environment scope.includes) scope.own d (find_found (has_path path) scope.own d o).0
+scope_member scope variables path d (ByQualified f n q) =
+    append_left (own_parts scope.environment scope.includes) scope.own d
+    (flat_map_in (own_part scope.environment) scope.includes q.theory d (among_member scope.includes q.theory q.seen) (find_found (has_path q.rest) (own_part scope.environment q.theory) d q.has).0)
+scope_member scope variables path d (ByIncluded e o) =
+    let h = o.here in
+    append_left (own_parts scope.environment scope.includes) scope.own d
+    (flat_map_in (own_part scope.environment) scope.includes h.theory d (place_member scope.includes o.place h.theory h.found) (find_found (has_path path) (own_part scope.environment h.theory) d h.has).0)
+
 -- what a signature knows of a declaration
 pub record DeclaredHolds (signature : Signature) (d : Declaration) : Type 0 where
   pub class : class_of signature d.name ≡ undefined_class d.value d.class
@@ -65,16 +76,6 @@ pub record DeclaredHolds (signature : Signature) (d : Declaration) : Type 0 wher
 -- over a signature that knows all declarations of the scope
 module _ (scope : Scope) (signature : Signature) (declared_holds : (d : Declaration) → Member d (scope_signature scope) → DeclaredHolds signature d) where
   -- ---- names
-
-  declared_member : (variables : Variables) (path : Path) (d : Declaration) → StandsFor scope variables path (Declared d) → Member d (scope_signature scope)
-  declared_member variables path d (ByOwn f o) = append_right (own_parts scope.environment scope.includes) scope.own d (find_found (has_path path) scope.own d o).0
-  declared_member variables path d (ByQualified f n q) =
-      append_left (own_parts scope.environment scope.includes) scope.own d
-      (flat_map_in (own_part scope.environment) scope.includes q.theory d (among_member scope.includes q.theory q.seen) (find_found (has_path q.rest) (own_part scope.environment q.theory) d q.has).0)
-  declared_member variables path d (ByIncluded e o) =
-      let h = o.here in
-      append_left (own_parts scope.environment scope.includes) scope.own d
-      (flat_map_in (own_part scope.environment) scope.includes h.theory d (place_member scope.includes o.place h.theory h.found) (find_found (has_path path) (own_part scope.environment h.theory) d h.has).0)
 
   head_of_class : (v : ℕ) (d : Declaration) (class : Class) (value : Option Value) → class_of signature d.name ≡ undefined_class value class → ClassHolds signature class → OptionalValueHolds signature class value → HeadHolds signature v (class_head d.name class value)
   head_of_class v d (FamilyClass a) None e h g = ((a, e), family_anywhere signature a v h)
@@ -92,7 +93,7 @@ module _ (scope : Scope) (signature : Signature) (declared_holds : (d : Declarat
       let p = local_at signature locals (suc index) index o.0 l o.1 refl in
       subst (HeadHolds signature (length locals)) (sym b.2) (p.within, subst (FamilyHolds signature (length locals)) o.2 p.holds)
   begins_holds locals path (Declared d) head l s b =
-      let h = declared_holds d (declared_member (variables_of locals) path d s) in
+      let h = declared_holds d (scope_member scope (variables_of locals) path d s) in
       subst (HeadHolds signature (length locals)) (sym b) (head_of_class (length locals) d d.class d.value h.class h.class_holds h.value_holds)
   begins_holds locals path Unknown head l s b = absurd b
   begins_holds locals path Ambiguous head l s b = absurd b
@@ -212,7 +213,7 @@ module _ (scope : Scope) (signature : Signature) (declared_holds : (d : Declarat
 
   named_holds : (path : Path) (class : Class) (value : Value) → NameGives scope path class value → ValueHolds signature class value
   named_holds path class value n =
-      let h = declared_holds n.declaration (declared_member [] path n.declaration n.stands) in
+      let h = declared_holds n.declaration (scope_member scope [] path n.declaration n.stands) in
       subst (λ c. ValueHolds signature c value) n.class_is (subst (ValueHolds signature n.declaration.class) (sym n.is) (undefined_holds n.declaration n.declaration.class n.declaration.value h.class h.value_holds))
 
   built_holds : (e : Expr) (class : Class) (value : Value) → ClassHolds signature class → BuildsValue scope e class value → ValueHolds signature class value

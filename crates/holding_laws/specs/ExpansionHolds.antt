@@ -29,26 +29,31 @@ abbrev pub LocalsHold : Signature → Locals → Type 0
 LocalsHold signature [] = ⊤
 LocalsHold signature (own ∷ locals) = FamilyHolds signature (length locals) own.family × LocalsHold signature locals
 
+-- Read: an object that stands at a family which holds, holds.
 abbrev pub StandingObjectHolds : Type 0
 StandingObjectHolds =
     (scope : Scope) (locals : Locals) (expression : Expr) (family : Family) (object : Object) → ScopeHolds scope → LocalsHold (scope_signature scope) locals
     → FamilyHolds (scope_signature scope) (length locals) family → StandsObject scope locals expression family object
     → ObjectHolds (scope_signature scope) (length locals) object
 
+-- Read: a family that stands, holds.
 abbrev pub StandingFamilyHolds : Type 0
 StandingFamilyHolds =
     (scope : Scope) (locals : Locals) (expression : Expr) (family : Family) → ScopeHolds scope → LocalsHold (scope_signature scope) locals
     → StandsFamily scope locals expression family → FamilyHolds (scope_signature scope) (length locals) family
 
+-- Read: a kind that stands, holds.
 abbrev pub StandingKindHolds : Type 0
 StandingKindHolds =
     (scope : Scope) (locals : Locals) (expression : Expr) (kind : Kind) → ScopeHolds scope → LocalsHold (scope_signature scope) locals
     → StandsKind scope locals expression kind → KindHolds (scope_signature scope) (length locals) kind
 
+-- Read: a class that stands, holds.
 abbrev pub StandingClassHolds : Type 0
 StandingClassHolds =
     (scope : Scope) (expression : Expr) (class : Class) → ScopeHolds scope → StandsClass scope expression class → ClassHolds (scope_signature scope) class
 
+-- Read: a value that stands at a class which holds, holds.
 abbrev pub StandingValueHolds : Type 0
 StandingValueHolds =
     (scope : Scope) (expression : Expr) (class : Class) (value : Value) → ScopeHolds scope → ClassHolds (scope_signature scope) class

@@ -14,6 +14,7 @@ Grows from to = (c : Constant) (class : Class) → class_of from c ≡ Some clas
 abbrev pub HoldingGrows : Type 0
 HoldingGrows = (from to : Signature) (object : Object) (variables more : ℕ) → Grows from to → variables ≤ more → ObjectHolds from variables object → ObjectHolds to more object
 
+-- Read: raising brings nothing but the variables that are put in.
 abbrev pub RaisingHolds : Type 0
 RaisingHolds = (signature : Signature) (by at variables : ℕ) (object : Object) → ObjectHolds signature variables object → ObjectHolds signature (variables + by) (raise by at object)
 
@@ -23,11 +24,13 @@ SubstitutionHolds =
     (signature : Signature) (value : Object) (t : Simple) (outside at : ℕ) (object : Object) → ObjectHolds signature outside value
     → ObjectHolds signature (suc (outside + at)) object → ObjectHolds signature (outside + at) (substitute value t at object)
 
+-- Read: so in families.
 abbrev pub FamilySubstitutionHolds : Type 0
 FamilySubstitutionHolds =
     (signature : Signature) (value : Object) (t : Simple) (outside at : ℕ) (family : Family) → ObjectHolds signature outside value
     → FamilyHolds signature (suc (outside + at)) family → FamilyHolds signature (outside + at) (substitute_family value t at family)
 
+-- Read: so in kinds.
 abbrev pub KindSubstitutionHolds : Type 0
 KindSubstitutionHolds =
     (signature : Signature) (value : Object) (t : Simple) (outside at : ℕ) (kind : Kind) → ObjectHolds signature outside value

@@ -15,6 +15,7 @@ pub record HasImage (to : Signature) (along : HeadMap) (c : Constant) (class : C
   pub value_holds : ValueHolds to image.class image.value
   pub alike : AlikeClasses image.class class
 
+-- Read: each constant of the source has such an image.
 abbrev pub MapsInto : Signature → Signature → HeadMap → Type 0
 MapsInto from to along = (c : Constant) (class : Class) → class_of from c ≡ Some class → HasImage to along c class
 
@@ -22,18 +23,23 @@ MapsInto from to along = (c : Constant) (class : Class) → class_of from c ≡ 
 abbrev pub CoherentMapsInto : Type 0
 CoherentMapsInto = (from to : Signature) (along : HeadMap) → IsCoherentMap from to along → MapsInto from to along
 
+-- Read: a translated object holds only constants of the target.
 abbrev pub TranslatedObjectHolds : Type 0
 TranslatedObjectHolds = (from to : Signature) (along : HeadMap) (variables : ℕ) (object : Object) → MapsInto from to along → ObjectHolds from variables object → ObjectHolds to variables (translate_object along object)
 
+-- Read: so does a translated family.
 abbrev pub TranslatedFamilyHolds : Type 0
 TranslatedFamilyHolds = (from to : Signature) (along : HeadMap) (variables : ℕ) (family : Family) → MapsInto from to along → FamilyHolds from variables family → FamilyHolds to variables (translate_family along family)
 
+-- Read: so does a translated kind.
 abbrev pub TranslatedKindHolds : Type 0
 TranslatedKindHolds = (from to : Signature) (along : HeadMap) (variables : ℕ) (kind : Kind) → MapsInto from to along → KindHolds from variables kind → KindHolds to variables (translate_kind along kind)
 
+-- Read: so does a translated class.
 abbrev pub TranslatedClassHolds : Type 0
 TranslatedClassHolds = (from to : Signature) (along : HeadMap) (class : Class) → MapsInto from to along → ClassHolds from class → ClassHolds to (translate_class along class)
 
+-- Read: so does a translated value, at the translated class.
 abbrev pub TranslatedValueHolds : Type 0
 TranslatedValueHolds =
     (from to : Signature) (along : HeadMap) (class : Class) (value : Value) → MapsInto from to along → ValueHolds from class value

@@ -5,3 +5,4 @@ pub mod AssignedHold
 pub mod LinksHold
 pub mod InducedHold
 pub mod Rows
+pub mod Scopes

@@ -1,1 +1,2 @@
 pub mod LinkTargets
+pub mod TheoryScopes

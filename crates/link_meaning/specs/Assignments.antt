@@ -50,6 +50,7 @@ abbrev pub label_in : Option Name → Path → Path
 label_in None path = path
 label_in (Some structure) path = structure ∷ path
 
+-- Read: the label of an assignment of this link.
 abbrev pub label_of : Setting → Path → Path
 label_of setting path = label_in setting.structure path
 
@@ -68,9 +69,11 @@ abbrev pub place_of : Option Written → Span
 place_of None = record { from = 0; to = 0 }
 place_of (Some word) = word.span
 
+-- Read: the place of the word with this number, counted from 0.
 abbrev pub word_place : List Written → ℕ → Span
 word_place words index = place_of (slice_get words index)
 
+-- Read: the rule that a bad word breaks.
 abbrev pub rule_of : WordFault → Rule
 rule_of UnknownModule = Rule.UnknownModule
 rule_of RefusedModule = Rule.DependencyRefused
@@ -83,9 +86,11 @@ abbrev pub or_word_fault : List Written → Path → RowMeaning → Outcome Link
 or_word_fault words label (RowMeans link) = Ok link
 or_word_fault words label (RowFaulty index fault) = refused (word_place words index) (rule_of fault) label
 
+-- Read: the words, without their places.
 abbrev pub paths_of : List Written → List Path
 paths_of words = map (λ (word : Written). word.path) words
 
+-- Read: the link that these words mean.
 abbrev pub link_of : Setting → Path → List Written → Outcome Link
 link_of setting label words = or_word_fault words label (row_meaning setting.environment setting.here (paths_of words))
 

@@ -25,6 +25,7 @@ abbrev pub cover_if : Bool → Span → HeadMap → Option Cover
 cover_if true first map = Some (record { first = first; map = map })
 cover_if false first map = None
 
+-- Read: what an assignment covers a theory by, if it does.
 abbrev pub cover_by : Environment → Name → Assigned → Option Cover
 cover_by environment theory (Covering first by) = cover_if (is_or_includes environment by.domain theory) first by.map
 cover_by environment theory (Sharing target structure first by) = None
@@ -34,6 +35,7 @@ cover_by environment theory (Giving target value) = None
 abbrev pub covers_of : Setting → List Assigned → Name → List Cover
 covers_of setting assigned theory = filter_map (cover_by setting.environment theory) assigned
 
+-- Read: there are none.
 abbrev pub is_none_of : List Cover → Bool
 is_none_of [] = true
 is_none_of (cover ∷ covers) = false
@@ -52,10 +54,12 @@ is_identity_covering setting assigned theory =
 abbrev pub identity_on : Setting → Name → HeadMap
 identity_on setting theory = identity_map (own_part setting.environment theory)
 
+-- Read: the map of the first one.
 abbrev pub first_map : List Cover → Option HeadMap
 first_map [] = None
 first_map (cover ∷ covers) = Some cover.map
 
+-- Read: the identity, or the first assignment that covers.
 abbrev pub covering_by : Setting → List Assigned → Name → Bool → Option HeadMap
 covering_by setting assigned theory true = Some (identity_on setting theory)
 covering_by setting assigned theory false = first_map (covers_of setting assigned theory)
@@ -68,6 +72,7 @@ first_covering setting assigned theory = covering_by setting assigned theory (is
 abbrev pub disagrees : Setting → Name → HeadMap → Cover → Bool
 disagrees setting theory along cover = is_some (differ along cover.map (own_part setting.environment theory))
 
+-- Read: the refusal at the first one that disagrees.
 abbrev pub none_disagrees : Setting → Option Cover → Outcome ⊤
 none_disagrees setting None = Ok tt
 none_disagrees setting (Some cover) = refused cover.first Rule.MorphismsDisagree setting.label
@@ -82,6 +87,7 @@ covered_test setting assigned theory = do
 unfoldable pub covered_tests : Setting → List Assigned → Outcome ⊤
 covered_tests setting assigned = each (covered_test setting assigned) (included_theories setting)
 
+-- Read: what the map gives, if there is one.
 abbrev pub value_by : Option HeadMap → Constant → Option Value
 value_by None constant = None
 value_by (Some along) constant = value_in along constant

@@ -42,6 +42,7 @@ abbrev pub IsCopied : Setting → Option Name → Declaration → Value → Type
 IsCopied setting None declaration value = ⊥
 IsCopied setting (Some structure) declaration value = value ≡ SameAs (induced_constant setting structure declaration.name)
 
+-- Read: without an assignment, a defined constant has its translated definition, and an undefined one is copied.
 abbrev pub IsUnassigned : Setting → Option Value → Declaration → Value → Type 0
 IsUnassigned setting None declaration value = IsCopied setting setting.structure declaration value
 IsUnassigned setting (Some definition) declaration value = value ≡ definition
@@ -59,6 +60,7 @@ abbrev pub HasValueBy : Setting → List Assigned → Bool → Class → Option 
 HasValueBy setting assigned true class definition declaration value = OwnHasValue setting (reached_by assigned declaration.name.path) class definition declaration value
 HasValueBy setting assigned false class definition declaration value = CoveringsGive setting assigned declaration value
 
+-- Read: this value is due to a constant of the domain.
 abbrev pub HasValue : Setting → List Assigned → Class → Option Value → Declaration → Value → Type 0
 HasValue setting assigned class definition declaration value = HasValueBy setting assigned (is_own setting declaration) class definition declaration value
 

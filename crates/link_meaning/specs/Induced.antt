@@ -17,6 +17,7 @@ defined_by constant (FamilyValue binders body) = Some (FamilyValue binders body)
 abbrev pub induced_with : Constant → Image → Declaration
 induced_with constant image = record { name = constant; class = image.class; value = defined_by constant image.value }
 
+-- Read: the constant that the structure induces from this one.
 abbrev pub induced_from : Setting → Name → HeadMap → Declaration → Option Declaration
 induced_from setting structure along declaration =
     option_map (induced_with (induced_constant setting structure declaration.name)) (image_of along declaration.name)

@@ -37,10 +37,12 @@ pub data Reached : Type 0 where
   ByValue : (target : Path) → (value : Expr) → Reached
   ByStructure : (target : Path) → (rest : Path) → (structure : Link) → (first : Span) → (by : Link) → Reached
 
+-- Read: reached as a constant of a structure, where there is a rest.
 abbrev pub by_rest : Path → Link → Span → Link → Option Path → Reached → Reached
 by_rest target structure first by None otherwise = otherwise
 by_rest target structure first by (Some rest) otherwise = ByStructure target rest structure first by
 
+-- Read: reached by its value, where the paths are equal.
 abbrev pub by_equal : Bool → Path → Expr → Reached → Reached
 by_equal true target value otherwise = ByValue target value
 by_equal false target value otherwise = otherwise
@@ -73,6 +75,7 @@ abbrev pub copied_value : Setting → Option Name → Declaration → Outcome Va
 copied_value setting None declaration = refused setting.span Rule.MissingAssignment declaration.name.path
 copied_value setting (Some structure) declaration = Ok (SameAs (induced_constant setting structure declaration.name))
 
+-- Read: a defined constant has its translated definition.
 abbrev pub unassigned_value : Setting → Option Value → Declaration → Outcome Value
 unassigned_value setting None declaration = copied_value setting setting.structure declaration
 unassigned_value setting (Some definition) declaration = Ok definition
@@ -97,6 +100,7 @@ own_image setting (ByStructure target rest structure first by) class definition 
 abbrev pub is_own : Setting → Declaration → Bool
 is_own setting declaration = same_name declaration.name.theory setting.domain
 
+-- Read: own constants have their images by the assignments, included ones by the coverings.
 abbrev pub image_by : Setting → List Assigned → Bool → Class → Option Value → Declaration → Outcome Value
 image_by setting assigned true class definition declaration = own_image setting (reached_by assigned declaration.name.path) class definition declaration
 image_by setting assigned false class definition declaration =
@@ -107,6 +111,7 @@ abbrev pub image_value : Setting → List Assigned → HeadMap → Declaration �
 image_value setting assigned so_far declaration =
     image_by setting assigned (is_own setting declaration) (translate_class so_far declaration.class) (option_map (translate_value so_far) declaration.value) declaration
 
+-- Read: the constant with its translated class and this value.
 abbrev pub mapping_to : HeadMap → Declaration → Value → Mapping
 mapping_to so_far declaration value = record { name = declaration.name; image = record { class = translate_class so_far declaration.class; value = value } }
 

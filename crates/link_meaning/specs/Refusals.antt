@@ -5,14 +5,17 @@ use Rattle.text_meaning.specs.Tokens.{Span}
 use Rattle.expansion_meaning.specs.Rules.{Rule}
 use Rattle.expansion_meaning.specs.Answers.{Answer, ◌>>=◌}
 
+-- Read: a rule that is broken, where, and of what.
 pub record Refusal : Type 0 where
   pub span : Span
   pub rule : Rule
   pub label : Path
 
+-- Read: a value, or the first refusal.
 abbrev pub Outcome : Type 0 → Type 0
 Outcome A = Result A Refusal
 
+-- Read: this rule is broken here, with this label.
 abbrev pub refused : {A : Type 0} → Span → Rule → Path → Outcome A
 refused span rule label = Err (record { span = span; rule = rule; label = label })
 

@@ -1,6 +1,6 @@
 //! Translation of spines, and composed maps.
 
-ghost use Rattle.translation_meaning.specs.TranslationLaws.{SpineIsTaken, FamilySpineIsTaken, CompositionTranslatesImages};
+ghost use Rattle.translation_meaning.specs.TranslationLaws.{SpineIsTaken, FamilySpineIsTaken, CompositionTranslatesImages, DifferenceIsFirst, AgreeIsOneValue};
 
 /// A head with its arguments is translated by its image taking the translated arguments.
 pub fn law_spines()
@@ -11,4 +11,10 @@ pub fn law_spines()
 /// A composition has the images of the first map, translated along the second.
 pub fn law_composition()
     ensures { CompositionTranslatesImages }
+{}
+
+/// Two maps differ first where the function says, and agree where both give one value.
+pub fn law_differ()
+    ensures first { DifferenceIsFirst }
+    ensures agree { AgreeIsOneValue }
 {}

@@ -27,6 +27,7 @@ use Rattle.verdict_meaning.specs.Dependencies.{dependencies}
 use Rattle.verdict_meaning.specs.Modules.{declare_all}
 use Rattle.verdict_meaning.specs.Verdicts.{judge}
 use Rattle.verdict_meaning.specs.Rounds.{verdict_under, others_reached, ungrounded_names, rounds, verdicts, verdict_of}
+use Rattle.verdict_meaning.specs.RuleExamples.{ViewIsNoTheory, NameUsedTwice, ObjectIsNoFamily, AtomIsNoFunction, OtherDomain, TargetIsUnknown, TargetIsAssignedTwice, EndsDoNotMeet, ProductIsNoValue, FamilyOfAnotherKind, FamilyUnderLambda, FamilyApplied, SharedStructureDisagrees}
 use Rattle.verdict_meaning.specs.Examples.{NaturalNumbers, MisspelledName, EtaShortArgument, EtaLongArgument, MonoidOverLogic, MixedCopies, TwoCopies, AssignedStructure, Ring, BareStructure, AssignedConstantsAreDefined, RingHasOneSet, SharedInclusion, AmbiguousName, QualifiedName, ViewOfDefinition, ClashWithDefinition, MissingAssignment, IllTypedAssignment, FirstCovering, DisagreeingInclusions, EmptyText, PercentWord, OpenComment, WrongName, CycleOfA, CycleOfB, CycleOfC, AWithoutB, BWithoutB, CWithoutB}
 
 -- What all worked cases compute with.
@@ -157,3 +158,55 @@ assigned_constants_are_defined = refl
 pub ring_has_one_set : RingHasOneSet
 unfolding judging
 ring_has_one_set = refl
+
+pub view_is_no_theory : ViewIsNoTheory
+unfolding judging
+view_is_no_theory = refl
+
+pub name_used_twice : NameUsedTwice
+unfolding judging
+name_used_twice = refl
+
+pub object_is_no_family : ObjectIsNoFamily
+unfolding judging
+object_is_no_family = refl
+
+pub atom_is_no_function : AtomIsNoFunction
+unfolding judging
+atom_is_no_function = refl
+
+pub other_domain : OtherDomain
+unfolding judging
+other_domain = refl
+
+pub target_is_unknown : TargetIsUnknown
+unfolding judging
+target_is_unknown = refl
+
+pub target_is_assigned_twice : TargetIsAssignedTwice
+unfolding judging
+target_is_assigned_twice = refl
+
+pub ends_do_not_meet : EndsDoNotMeet
+unfolding judging
+ends_do_not_meet = refl
+
+pub product_is_no_value : ProductIsNoValue
+unfolding judging
+product_is_no_value = refl
+
+pub family_of_another_kind : FamilyOfAnotherKind
+unfolding judging
+family_of_another_kind = refl
+
+pub family_under_lambda : FamilyUnderLambda
+unfolding judging
+family_under_lambda = refl
+
+pub family_applied : FamilyApplied
+unfolding judging
+family_applied = refl
+
+pub shared_structure_disagrees : SharedStructureDisagrees
+unfolding judging
+shared_structure_disagrees = refl

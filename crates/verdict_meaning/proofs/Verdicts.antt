@@ -78,7 +78,7 @@ verdict_is_judged library name text h =
         judge_alike before (known_to library name) (is_among (ungrounded_names library)) (is_among (ungrounded_names library)) name text
         (λ x. known_alike (others_reached library name) (rounds library (ungrounded_names library) (length library)) (verdicts library) x (settled library name e x)) e e
 
-not_ungrounded : (library : Library) (name : Name) → is_grounded dependencies library name ≡ true → is_among (ungrounded_names library) name ≡ false
+pub not_ungrounded : (library : Library) (name : Name) → is_grounded dependencies library name ≡ true → is_among (ungrounded_names library) name ≡ false
 unfolding ungrounded_names is_ungrounded
 not_ungrounded library name g =
     let p = and_parts (is_present library name) (not (is_ungrounded dependencies library name)) g in

@@ -27,13 +27,16 @@ is_own_word (Some theory) [] = false
 is_own_word (Some theory) (name ∷ []) = false
 is_own_word (Some theory) (name ∷ next ∷ path) = same_name theory name
 
+-- Read: none for a word of the theory's own.
 abbrev pub unless_own : Bool → Dependency → List Dependency
 unless_own true dependency = []
 unless_own false dependency = dependency ∷ []
 
+-- Read: the module that a written name names, at its place.
 abbrev pub at_written : Path → Written → Dependency
 at_written label written = record { span = written.span; name = first_name written.path; label = label }
 
+-- Read: the module that a word names, unless it is the theory's own.
 abbrev pub word_dependencies : Option Name → Path → Written → List Dependency
 word_dependencies theory label word = unless_own (is_own_word theory word.path) (at_written label word)
 
@@ -43,6 +46,7 @@ assign_dependencies theory structure label (IncludeAssign words) = flat_map (wor
 assign_dependencies theory structure label (StructAssign target words) = flat_map (word_dependencies theory (label_in structure target.path)) words
 assign_dependencies theory structure label (ConstAssign target value) = []
 
+-- Read: the modules that a declaration names.
 abbrev pub decl_dependencies : Name → Decl → List Dependency
 decl_dependencies theory (IncludeDecl included) = at_written included.path included ∷ []
 decl_dependencies theory (StructDecl name domain assigns) =

@@ -136,3 +136,63 @@ text_B_ring = codes "%sig B = {\n%include A.\n}.\n"
 
 abbrev pub text_C_ring : Text
 text_C_ring = codes "%sig C = {\n%include A.\n}.\n"
+
+abbrev pub text_V_identity : Text
+text_V_identity = codes "%view V : A -> A = {\na := a.\n}.\n"
+
+abbrev pub text_I_view : Text
+text_I_view = codes "%sig I = {\n%include V.\n}.\n"
+
+abbrev pub text_Twice : Text
+text_Twice = codes "%sig D = {\na : type.\na : type.\n}.\n"
+
+abbrev pub text_Object_as_family : Text
+text_Object_as_family = codes "%sig L = {\na : type.\nc : a.\nd : c.\n}.\n"
+
+abbrev pub text_Applied_atom : Text
+text_Applied_atom = codes "%sig N = {\na : type.\nc : a.\nd : a = c c.\n}.\n"
+
+abbrev pub text_Other_domain : Text
+text_Other_domain = codes "%sig M = {\na : type.\nb : type.\nf : a -> a = [x:b] x.\n}.\n"
+
+abbrev pub text_No_target : Text
+text_No_target = codes "%view U : A -> A = {\na := a.\nz := a.\n}.\n"
+
+abbrev pub text_Two_targets : Text
+text_Two_targets = codes "%view U : A -> A = {\na := a.\na := a.\n}.\n"
+
+abbrev pub text_O : Text
+text_O = codes "%sig O = {\nc : type.\n}.\n"
+
+abbrev pub text_VO : Text
+text_VO = codes "%view VO : R -> O = {\na := c.\n}.\n"
+
+abbrev pub text_Other_codomain : Text
+text_Other_codomain = codes "%view V : P -> T = {\n%include VO.\np := x.\n}.\n"
+
+abbrev pub text_Product_value : Text
+text_Product_value = codes "%sig F = {\na : type.\nb : type = a -> a.\n}.\n"
+
+abbrev pub text_Family_of_another_kind : Text
+text_Family_of_another_kind = codes "%sig K = {\na : type.\nb : type.\nr : a -> type.\ns : b -> type.\nt : a -> type = s.\n}.\n"
+
+abbrev pub text_Family_under_lambda : Text
+text_Family_under_lambda = codes "%sig K = {\na : type.\nb : type.\nr : a -> type.\ns : b -> type.\nt : a -> type = [x] r.\n}.\n"
+
+abbrev pub text_Family_applied : Text
+text_Family_applied = codes "%sig K = {\na : type.\nb : type.\nr : a -> type.\ns : b -> type.\nt : a -> type = [x] r x.\n}.\n"
+
+abbrev pub text_Mm : Text
+text_Mm = codes "%sig Mm = {\n%include R.\nop : a -> a.\n}.\n"
+
+abbrev pub text_H : Text
+text_H = codes "%sig H = {\n%include R.\n%struct m : Mm.\n}.\n"
+
+abbrev pub text_T_map : Text
+text_T_map = codes "%sig T = {\nu : type.\nv : type.\nx : u.\nf : v -> v.\n}.\n"
+
+abbrev pub text_VM : Text
+text_VM = codes "%view VM : Mm -> T = {\n%include VR2.\nop := f.\n}.\n"
+
+abbrev pub text_W_shared : Text
+text_W_shared = codes "%view W : H -> T = {\n%include VR1.\n%struct m := VM.\n}.\n"

@@ -101,12 +101,15 @@ WrongName = told_of [] (codes "Z") text_Nat ≡ RefusedAt 1 6 Rule.WrongName (co
 
 -- A and B include each other, and C includes A.
 
+-- Read: the verdict on A.
 abbrev pub CycleOfA : Type 0
 CycleOfA = told_of (under (codes "A") text_A_ring ∷ under (codes "B") text_B_ring ∷ under (codes "C") text_C_ring ∷ []) (codes "A") text_A_ring ≡ RefusedAt 2 10 Rule.Cycle (codes "B" ∷ [])
 
+-- Read: the verdict on B.
 abbrev pub CycleOfB : Type 0
 CycleOfB = told_of (under (codes "A") text_A_ring ∷ under (codes "B") text_B_ring ∷ under (codes "C") text_C_ring ∷ []) (codes "B") text_B_ring ≡ RefusedAt 2 10 Rule.Cycle (codes "A" ∷ [])
 
+-- Read: the verdict on C.
 abbrev pub CycleOfC : Type 0
 CycleOfC = told_of (under (codes "A") text_A_ring ∷ under (codes "B") text_B_ring ∷ under (codes "C") text_C_ring ∷ []) (codes "C") text_C_ring ≡ RefusedAt 2 10 Rule.Cycle (codes "A" ∷ [])
 
@@ -114,21 +117,27 @@ CycleOfC = told_of (under (codes "A") text_A_ring ∷ under (codes "B") text_B_r
 abbrev pub AWithoutB : Type 0
 AWithoutB = told_after_drop (under (codes "A") text_A_ring ∷ under (codes "B") text_B_ring ∷ under (codes "C") text_C_ring ∷ []) (codes "B") (codes "A") text_A_ring ≡ RefusedAt 2 10 Rule.UnknownModule (codes "B" ∷ [])
 
+-- Read: B is absent.
 abbrev pub BWithoutB : Type 0
 BWithoutB = told_after_drop (under (codes "A") text_A_ring ∷ under (codes "B") text_B_ring ∷ under (codes "C") text_C_ring ∷ []) (codes "B") (codes "B") text_B_ring ≡ Absent
 
+-- Read: C rests on a refused module.
 abbrev pub CWithoutB : Type 0
 CWithoutB = told_after_drop (under (codes "A") text_A_ring ∷ under (codes "B") text_B_ring ∷ under (codes "C") text_C_ring ∷ []) (codes "B") (codes "C") text_C_ring ≡ RefusedAt 2 10 Rule.DependencyRefused (codes "A" ∷ [])
 
+-- Read: a constant by its theory and path.
 abbrev pub constant_of : Name → Path → Constant
 constant_of theory path = record { theory = theory; path = path }
 
+-- Read: a family constant as a family.
 abbrev pub atomic_of : Constant → Family
 atomic_of constant = AtFamily (FamilyCon constant)
 
+-- Read: a constant of Nat.
 abbrev pub nat_of : Path → Constant
 nat_of path = constant_of (codes "Nat") path
 
+-- Read: a constant of Ring.
 abbrev pub ring_of : Path → Constant
 ring_of path = constant_of (codes "Ring") path
 

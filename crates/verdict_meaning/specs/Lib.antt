@@ -6,3 +6,4 @@ pub mod VerdictLaws
 pub mod Telling
 pub mod ExampleTexts
 pub mod Examples
+pub mod RuleExamples

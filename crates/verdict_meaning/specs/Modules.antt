@@ -28,6 +28,7 @@ known_theory span label (IsView face) = refused span Rule.WrongModuleKind label
 abbrev pub module_test : Environment → Path → Written → Outcome TheoryFace
 module_test environment label written = known_theory written.span label (environment (first_name written.path))
 
+-- Read: the constants of a theory so far, and what it includes.
 abbrev pub scope_in : Environment → TheoryFace → Scope
 scope_in environment face = record { own = face.own; includes = face.includes; environment = environment }
 
@@ -46,6 +47,7 @@ declared_value scope label class (Some expression) = do
   value ← labelled label (expand_value scope expression class)
   Ok (Some value)
 
+-- Read: the theory with one more constant.
 abbrev pub with_constant : TheoryFace → Name → Class → Option Value → TheoryFace
 with_constant here name class value =
     record here { own = here.own ++ record { name = record { theory = here.name; path = name ∷ [] }; class = class; value = value } ∷ [] }
@@ -87,6 +89,7 @@ declare_all environment here (decl ∷ decls) = do
   next ← declare environment here decl
   declare_all environment next decls
 
+-- Read: the theory before its first declaration.
 abbrev pub empty_theory : Name → TheoryFace
 empty_theory name = record { name = name; own = []; includes = []; structures = [] }
 

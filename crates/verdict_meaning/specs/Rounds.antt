@@ -21,6 +21,7 @@ unfoldable pub verdict_under : List Judged → Name → Option Verdict
 verdict_under [] name = None
 verdict_under (first ∷ judged) name = if same_name name first.name then Some first.verdict else verdict_under judged name
 
+-- Read: what a verdict tells, if there is one.
 abbrev pub known_if : Option Verdict → Known
 known_if None = IsAbsent
 known_if (Some verdict) = known_by verdict

@@ -24,9 +24,11 @@ abbrev pub behind_feed : ℕ → Text → ℕ
 behind_feed count [] = count
 behind_feed count (byte ∷ text) = behind_feed (if byte == 10 then 0 else (count + 1)) text
 
+-- Read: the column of a place, counted from 1.
 abbrev pub column_at : Text → ℕ → ℕ
 column_at text at = suc (behind_feed 0 (take at text))
 
+-- Read: what is told of a verdict on this text.
 abbrev pub told : Text → Option Verdict → Told
 told text None = Absent
 told text (Some (Accepted (Theory face size))) = TheoryOf size

@@ -18,10 +18,12 @@ pub data Interface : Type 0 where
   Theory : (face : TheoryFace) → (size : ℕ) → Interface
   View : (face : ViewFace) → Interface
 
+-- Read: a module is accepted with what it shows, or refused.
 pub data Verdict : Type 0 where
   Accepted : Interface → Verdict
   Refused : Refusal → Verdict
 
+-- Read: the verdict of an outcome.
 abbrev pub verdict_by : Outcome Interface → Verdict
 verdict_by (Ok interface) = Accepted interface
 verdict_by (Err refusal) = Refused refusal
@@ -36,6 +38,7 @@ known_by (Refused refusal) = IsRefused
 abbrev pub unread : {A : Type 0} → Name → Rule → ℕ → Outcome A
 unread name rule at = refused (record { from = at; to = at }) rule (name ∷ [])
 
+-- Read: the name with which a module is written.
 abbrev pub written_name : Module → Written
 written_name (SigModule name decls) = name
 written_name (ViewModule name domain codomain assigns) = name
@@ -62,6 +65,7 @@ judge_tree environment ungrounded name tree false = do
   _ ← demand (same_name (first_name (written_name tree).path) name) (written_name tree).span Rule.WrongName (written_name tree).path
   checked environment tree
 
+-- Read: an unread text is refused where reading stops; else its tree decides.
 abbrev pub judge_answer : Environment → (Name → Bool) → Name → Answer → Outcome Interface
 judge_answer environment ungrounded name (Read (ModuleTree tree)) = judge_tree environment ungrounded name tree (ungrounded name)
 judge_answer environment ungrounded name (Read (JudgementTree tree)) = unread name Rule.Syntax 0

@@ -1,5 +1,6 @@
 //! Worked cases: each function does nothing, and its contract is proved by computing.
 
+ghost use Rattle.verdict_meaning.specs.RuleExamples.{ViewIsNoTheory, NameUsedTwice, ObjectIsNoFamily, AtomIsNoFunction, OtherDomain, TargetIsUnknown, TargetIsAssignedTwice, EndsDoNotMeet, ProductIsNoValue, FamilyOfAnotherKind, FamilyUnderLambda, FamilyApplied, SharedStructureDisagrees};
 ghost use Rattle.verdict_meaning.specs.Examples.{NaturalNumbers, MisspelledName, EtaShortArgument, EtaLongArgument, MonoidOverLogic, MixedCopies, TwoCopies, AssignedStructure, Ring, BareStructure, AssignedConstantsAreDefined, RingHasOneSet, SharedInclusion, AmbiguousName, QualifiedName, ViewOfDefinition, ClashWithDefinition, MissingAssignment, IllTypedAssignment, FirstCovering, DisagreeingInclusions, EmptyText, PercentWord, OpenComment, WrongName, CycleOfA, CycleOfB, CycleOfC, AWithoutB, BWithoutB, CWithoutB};
 
 /// Small theories.
@@ -59,4 +60,21 @@ pub fn cycle()
     ensures a_without_b { AWithoutB }
     ensures b_without_b { BWithoutB }
     ensures c_without_b { CWithoutB }
+{}
+
+/// Single rules that the other cases do not meet.
+pub fn rules()
+    ensures view_is_no_theory { ViewIsNoTheory }
+    ensures name_used_twice { NameUsedTwice }
+    ensures object_is_no_family { ObjectIsNoFamily }
+    ensures atom_is_no_function { AtomIsNoFunction }
+    ensures other_domain { OtherDomain }
+    ensures target_is_unknown { TargetIsUnknown }
+    ensures target_is_assigned_twice { TargetIsAssignedTwice }
+    ensures ends_do_not_meet { EndsDoNotMeet }
+    ensures product_is_no_value { ProductIsNoValue }
+    ensures family_of_another_kind { FamilyOfAnotherKind }
+    ensures family_under_lambda { FamilyUnderLambda }
+    ensures family_applied { FamilyApplied }
+    ensures shared_structure_disagrees { SharedStructureDisagrees }
 {}

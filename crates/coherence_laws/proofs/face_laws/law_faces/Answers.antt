@@ -1,5 +1,8 @@
-use Rattle.coherence_laws.proofs.LibrariesHold.{faces_are_coherent}
+use Rattle.coherence_laws.proofs.LibrariesHold.{faces_are_coherent, grounded_know_coherent}
 use Rattle.coherence_laws.proofs.face_laws.law_faces.Goals as goal
 
-pub returns : goal.returns
-returns c = faces_are_coherent
+pub returns-clause-faces : goal.returns-clause-faces
+returns-clause-faces c = faces_are_coherent
+
+pub returns-clause-known : goal.returns-clause-known
+returns-clause-known c = grounded_know_coherent

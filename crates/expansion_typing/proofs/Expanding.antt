@@ -1,0 +1,245 @@
+-- What stands is well typed where the scope's signature is.
+use Rattle.std.proofs.Common.{◌≡◌, ℕ, zero, suc, [], ◌∷◌, ◌++◌, take, drop, slice_get, Option, Some, None, option_map, inl, inr, refl, sym, ap, subst}
+use Rattle.lf_meaning.specs.Terms.{Constant, Path, Object, Lam, At, Var, Con, App, Family, Pi, AtFamily, FamilyCon, FamilyApp, Kind, Ty, PiKind, Context, domain_count, with_domains}
+use Rattle.lf_meaning.specs.Raising.{raise_family}
+use Rattle.lf_meaning.specs.Signatures.{Class, FamilyClass, KindClass, Value, SameAs, TermValue, FamilyValue, Declaration, Signature, undefined_class, class_of}
+use Rattle.lf_meaning.specs.Judgements.{Checks, Synthesises, IsFamily, IsKind, IsContext, IsClass, Fits, ValueFits, IsDeclaration}
+use Rattle.lf_metatheory.proofs.Declared.{class_more}
+use Rattle.lf_metatheory.proofs.Typed.{more_checks, more_family, more_kind}
+use Rattle.lf_metatheory.proofs.HeadTyping.{synthesised_is_family}
+use Rattle.log_meaning.proofs.Members.{Member}
+use Rattle.log_meaning.proofs.Places.{split_at}
+use Rattle.translation_meaning.specs.Heads.{Head, ObjectHead, FamilyHead}
+use Rattle.translation_meaning.specs.Translation.{object_value, family_value}
+use Rattle.library_meaning.specs.Resolution.{Scope, Resolved, Variable, Declared, Unknown, Ambiguous}
+use Rattle.library_meaning.specs.StandsFor.{StandsFor}
+use Rattle.library_meaning.specs.Words.{own_value}
+use Rattle.text_meaning.specs.Trees.{Expr, TypeExpr, NameExpr, AppExpr, PiExpr, LamExpr, TypedLamExpr, ArrowExpr, BackExpr, Exprs, NoArgs, ThenArg}
+use Rattle.expansion_meaning.specs.Locals.{Local, Locals, with_local, variables_of, context_of, family_at}
+use Rattle.expansion_meaning.specs.NameHeads.{class_head}
+use Rattle.expansion_meaning.specs.Stands.{BeginsAs, NameStands, IsAtomicFamily, StandsObject, StandsHead, StandsArguments, StandsFamily, StandsKind, StandsClass, StandsFamilyValue, NameGives, BuildsValue, StandsValue}
+use Rattle.expansion_meaning.proofs.Binding.{some_same}
+use Rattle.holding_laws.specs.ExpansionHolds.{scope_signature}
+use Rattle.holding_laws.proofs.Declared.{place_of, class_in}
+use Rattle.holding_laws.proofs.Expanding.{scope_member}
+use Rattle.expansion_typing.specs.TypingOfExpansion.{IsTypedScope, StandingObjectChecks, StandingFamilyIsFamily, StandingKindIsKind, StandingClassIsClass, StandingValueFits}
+use Rattle.expansion_typing.proofs.HeadsTyped.{domains_append, OnSpine, UnderBinders, HeadTyped, object_checks, head_taken, domain_typed, family_whole}
+
+local_there : (locals : Locals) (index : ℕ) (family : Family) → family_at locals index ≡ Some family → (own : Family) × (slice_get (context_of locals) index ≡ Some own) × (family ≡ raise_family (suc index) 0 own)
+local_there locals index family h = by locals index (slice_get locals index) refl h
+  where
+    at : (xs : Locals) (i : ℕ) (own : Local) → slice_get xs i ≡ Some own → slice_get (context_of xs) i ≡ Some own.family
+    at [] i own e = absurd (cc)
+    at (x ∷ xs) zero own e = ap (λ (z : Local). Some z.family) (some_same e)
+    at (x ∷ xs) (suc i) own e = at xs i own e
+
+    by : (xs : Locals) (i : ℕ) (o : Option Local) → slice_get xs i ≡ o → option_map (λ (own : Local). raise_family (suc index) 0 own.family) o ≡ Some family → (own : Family) × (slice_get (context_of xs) i ≡ Some own) × (family ≡ raise_family (suc index) 0 own)
+    by xs i None e g = absurd (cc)
+    by xs i (Some own) e g = (own.family, at xs i own e, some_same (sym g))
+
+module _ (scope : Scope) (ok : IsTypedScope scope) where
+  abbrev sig : Signature
+  sig = scope_signature scope
+
+  -- ---- declarations
+
+  record DeclaredTyped (d : Declaration) : Type 0 where
+    class : class_of sig d.name ≡ undefined_class d.value d.class
+    before : Signature
+    more : Signature
+    parts : sig ≡ before ++ more
+    is : IsDeclaration before d
+
+  declared_typed : (d : Declaration) → Member d sig → DeclaredTyped d
+  declared_typed d m =
+      let p = place_of sig d m in
+      let s = split_at sig p.0 d p.1 in
+      record { class = class_in sig ok.once p.0 d p.1; before = take p.0 sig; more = d ∷ drop (suc p.0) sig; parts = s; is = ok.typed (take p.0 sig) d (drop (suc p.0) sig) s }
+
+  module _ (before more : Signature) (parts : sig ≡ before ++ more) where
+    grown : (c : Constant) (k : Class) → class_of before c ≡ Some k → class_of sig c ≡ Some k
+    grown c k h = subst (λ z. class_of z c ≡ Some k) (sym parts) (class_more before more c k h)
+
+    class_head_typed : (context : Context) (c : IsContext sig context) (d : Declaration) (class : Class) (value : Option Value) → class_of sig d.name ≡ undefined_class value class → IsClass before class → ValueFits before value class
+        → HeadTyped sig ok.typed context c (class_head d.name class value)
+    class_head_typed context c d (FamilyClass a) None e h g = (inr (Con d.name, refl, e), more_family before sig grown [] context a h)
+    class_head_typed context c d (FamilyClass a) (Some (SameAs o)) e h g = (inr (Con o, refl, grown o (FamilyClass a) g), more_family before sig grown [] context a h)
+    class_head_typed context c d (FamilyClass a) (Some (TermValue m)) e h g = (inl (more_checks before sig grown [] context m a g), more_family before sig grown [] context a h)
+    class_head_typed context c d (FamilyClass a) (Some (FamilyValue n body)) e h g = absurd g
+    class_head_typed context c d (KindClass k) None e h g = (OnSpine (FamilyCon d.name) refl refl e, more_kind before sig grown [] context k h)
+    class_head_typed context c d (KindClass k) (Some (SameAs o)) e h g = (OnSpine (FamilyCon o) refl refl (grown o (KindClass k) g), more_kind before sig grown [] context k h)
+    class_head_typed context c d (KindClass k) (Some (TermValue m)) e h g = absurd g
+    class_head_typed context c d (KindClass k) (Some (FamilyValue n body)) e h g =
+        (UnderBinders g.0 (subst (λ z. IsFamily sig z body) (sym (domains_append k [] context)) (more_family before sig grown (with_domains k []) context body g.1)), more_kind before sig grown [] context k h)
+
+    value_typed : (d : Declaration) (class : Class) (value : Option Value) → class_of sig d.name ≡ undefined_class value class → ValueFits before value class → Fits sig (own_value d value) class
+    value_typed d class None e g = e
+    value_typed d class (Some (SameAs o)) e g = grown o class g
+    value_typed d (FamilyClass a) (Some (TermValue m)) e g = more_checks before sig grown [] [] m a g
+    value_typed d (KindClass k) (Some (TermValue m)) e g = absurd g
+    value_typed d (FamilyClass a) (Some (FamilyValue n body)) e g = absurd g
+    value_typed d (KindClass k) (Some (FamilyValue n body)) e g = (g.0, subst (λ z. IsFamily sig z body) (sym (domains_append k [] [])) (more_family before sig grown (with_domains k []) [] body g.1))
+
+  begins_typed : (locals : Locals) (path : Path) (resolved : Resolved) (head : Head) (c : IsContext sig (context_of locals)) → StandsFor scope (variables_of locals) path resolved → BeginsAs locals resolved head → HeadTyped sig ok.typed (context_of locals) c head
+  begins_typed locals path (Variable index) head c s b =
+      let l = local_there locals index b.0 b.1 in
+      let synthesises : Synthesises sig (context_of locals) (Var index) b.0 = record { family = l.0; found = l.1; is = l.2 } in
+      subst (HeadTyped sig ok.typed (context_of locals) c) (sym b.2) (inr (Var index, refl, synthesises), synthesised_is_family sig ok.typed (context_of locals) (Var index) b.0 c synthesises)
+  begins_typed locals path (Declared d) head c s b =
+      let t = declared_typed d (scope_member scope (variables_of locals) path d s) in
+      let i = t.is in
+      subst (HeadTyped sig ok.typed (context_of locals) c) (sym b) (class_head_typed t.before t.more t.parts (context_of locals) c d d.class d.value t.class i.class_is i.value_fits)
+  begins_typed locals path Unknown head c s b = absurd b
+  begins_typed locals path Ambiguous head c s b = absurd b
+
+  name_typed : (locals : Locals) (path : Path) (head : Head) (c : IsContext sig (context_of locals)) → NameStands scope locals path head → HeadTyped sig ok.typed (context_of locals) c head
+  name_typed locals path head c n = begins_typed locals path n.resolved head c n.stands n.begins
+
+  -- ---- expressions
+
+  at_atomic : (locals : Locals) (family : Family) (object : Object) (c : IsContext sig (context_of locals)) → IsAtomicFamily family → HeadTyped sig ok.typed (context_of locals) c (ObjectHead object family) → Checks sig (context_of locals) object family
+  at_atomic locals (Pi a b) object c i h = absurd i
+  at_atomic locals (AtFamily p) object c i h = object_checks sig ok.typed (context_of locals) c object p h.0
+
+  mutual
+    pub object_typed : (e : Expr) (locals : Locals) (family : Family) (object : Object) → IsContext sig (context_of locals) → IsFamily sig (context_of locals) family → StandsObject scope locals e family object → Checks sig (context_of locals) object family
+    object_typed (TypeExpr span) locals family object c f s = absurd s
+    object_typed (PiExpr span binder domain body) locals family object c f s = absurd s
+    object_typed (ArrowExpr span domain body) locals family object c f s = absurd s
+    object_typed (BackExpr span body domain) locals family object c f s = absurd s
+    object_typed (LamExpr span binder body) locals family object c f s =
+        let g : IsFamily sig (context_of locals) (Pi s.domain s.codomain) = subst (IsFamily sig (context_of locals)) s.family_is f in
+        let h : Checks sig (context_of locals) (Lam s.body) (Pi s.domain s.codomain) = object_typed body (with_local binder s.domain locals) s.codomain s.body (c, g.0) g.1 s.stands in
+        subst (Checks sig (context_of locals) object) (sym s.family_is) (subst (λ z. Checks sig (context_of locals) z (Pi s.domain s.codomain)) (sym s.object_is) h)
+    object_typed (TypedLamExpr span binder domain body) locals family object c f s =
+        let g : IsFamily sig (context_of locals) (Pi s.domain s.codomain) = subst (IsFamily sig (context_of locals)) s.family_is f in
+        let h : Checks sig (context_of locals) (Lam s.body) (Pi s.domain s.codomain) = object_typed body (with_local binder s.domain locals) s.codomain s.body (c, g.0) g.1 s.stands in
+        subst (Checks sig (context_of locals) object) (sym s.family_is) (subst (λ z. Checks sig (context_of locals) z (Pi s.domain s.codomain)) (sym s.object_is) h)
+    object_typed (NameExpr span path) locals family object c f s = at_atomic locals family object c s.0 (name_typed locals path (ObjectHead object family) c s.1)
+    object_typed (AppExpr span function arguments) locals family object c f s =
+        let b = s.1 in at_atomic locals family object c s.0 (arguments_typed arguments locals b.first (ObjectHead object family) c (head_typed function locals b.first c b.begins) b.takes)
+
+    pub head_typed : (e : Expr) (locals : Locals) (head : Head) (c : IsContext sig (context_of locals)) → StandsHead scope locals e head → HeadTyped sig ok.typed (context_of locals) c head
+    head_typed (NameExpr span path) locals head c s = name_typed locals path head c s
+    head_typed (AppExpr span function arguments) locals head c s = arguments_typed arguments locals s.first head c (head_typed function locals s.first c s.begins) s.takes
+    head_typed (LamExpr span binder body) locals head c s = absurd s
+    head_typed (TypedLamExpr span binder domain body) locals head c s = absurd s
+    head_typed (TypeExpr span) locals head c s = absurd s
+    head_typed (PiExpr span binder domain body) locals head c s = absurd s
+    head_typed (ArrowExpr span domain body) locals head c s = absurd s
+    head_typed (BackExpr span body domain) locals head c s = absurd s
+
+    pub arguments_typed : (xs : Exprs) (locals : Locals) (first head : Head) (c : IsContext sig (context_of locals)) → HeadTyped sig ok.typed (context_of locals) c first → StandsArguments scope locals xs first head → HeadTyped sig ok.typed (context_of locals) c head
+    arguments_typed NoArgs locals first head c h s = subst (HeadTyped sig ok.typed (context_of locals) c) (sym s) h
+    arguments_typed (ThenArg xs e) locals first head c h s =
+        let g = arguments_typed xs locals first s.head c h s.is_before in
+        let d = domain_typed sig ok.typed (context_of locals) c s.head s.domain s.takes g in
+        subst (HeadTyped sig ok.typed (context_of locals) c) (sym s.is) (head_taken sig ok.typed (context_of locals) c s.head s.object s.domain s.takes g (object_typed e locals s.domain s.object c d s.stands))
+
+    pub family_typed : (e : Expr) (locals : Locals) (family : Family) → IsContext sig (context_of locals) → StandsFamily scope locals e family → IsFamily sig (context_of locals) family
+    family_typed (PiExpr span binder domain body) locals family c s =
+        let a = family_typed domain locals s.domain c s.first in
+        subst (IsFamily sig (context_of locals)) (sym s.is) (a, family_typed body (with_local binder s.domain locals) s.codomain (c, a) s.second)
+    family_typed (ArrowExpr span domain body) locals family c s =
+        let a = family_typed domain locals s.domain c s.first in
+        subst (IsFamily sig (context_of locals)) (sym s.is) (a, family_typed body (with_local None s.domain locals) s.codomain (c, a) s.second)
+    family_typed (BackExpr span body domain) locals family c s =
+        let a = family_typed domain locals s.domain c s.first in
+        subst (IsFamily sig (context_of locals)) (sym s.is) (a, family_typed body (with_local None s.domain locals) s.codomain (c, a) s.second)
+    family_typed (TypeExpr span) locals family c s = absurd s
+    family_typed (LamExpr span binder body) locals family c s = absurd s
+    family_typed (TypedLamExpr span binder domain body) locals family c s = absurd s
+    family_typed (NameExpr span path) locals family c s = family_whole sig ok.typed (context_of locals) c s.0 family (name_typed locals path (FamilyHead s.0 family Ty) c s.1).0
+    family_typed (AppExpr span function arguments) locals family c s =
+        let b = s.1 in family_whole sig ok.typed (context_of locals) c s.0 family (arguments_typed arguments locals b.first (FamilyHead s.0 family Ty) c (head_typed function locals b.first c b.begins) b.takes).0
+
+  pub kind_typed : (e : Expr) (locals : Locals) (kind : Kind) → IsContext sig (context_of locals) → StandsKind scope locals e kind → IsKind sig (context_of locals) kind
+  kind_typed (TypeExpr span) locals kind c s = subst (IsKind sig (context_of locals)) (sym s) tt
+  kind_typed (PiExpr span binder domain body) locals kind c s =
+      let a = family_typed domain locals s.domain c s.first in
+      subst (IsKind sig (context_of locals)) (sym s.is) (a, kind_typed body (with_local binder s.domain locals) s.rest (c, a) s.second)
+  kind_typed (ArrowExpr span domain body) locals kind c s =
+      let a = family_typed domain locals s.domain c s.first in
+      subst (IsKind sig (context_of locals)) (sym s.is) (a, kind_typed body (with_local None s.domain locals) s.rest (c, a) s.second)
+  kind_typed (BackExpr span body domain) locals kind c s =
+      let a = family_typed domain locals s.domain c s.first in
+      subst (IsKind sig (context_of locals)) (sym s.is) (a, kind_typed body (with_local None s.domain locals) s.rest (c, a) s.second)
+  kind_typed (NameExpr span path) locals kind c s = absurd s
+  kind_typed (AppExpr span function arguments) locals kind c s = absurd s
+  kind_typed (LamExpr span binder body) locals kind c s = absurd s
+  kind_typed (TypedLamExpr span binder domain body) locals kind c s = absurd s
+
+  pub class_typed : (e : Expr) (class : Class) → StandsClass scope e class → IsClass sig class
+  class_typed e (FamilyClass family) s = family_typed e [] family tt s.1
+  class_typed e (KindClass kind) s = kind_typed e [] kind tt s.1
+
+  -- ---- values
+
+  at_type : (locals : Locals) (kind : Kind) (binders : ℕ) (family : Family) (c : IsContext sig (context_of locals)) → kind ≡ Ty → HeadTyped sig ok.typed (context_of locals) c (FamilyHead binders family Ty) → IsFamily sig (with_domains kind (context_of locals)) family
+  at_type locals kind binders family c e h = subst (λ k. IsFamily sig (with_domains k (context_of locals)) family) (sym e) (family_whole sig ok.typed (context_of locals) c binders family h.0)
+
+  pub family_value_typed : (e : Expr) (locals : Locals) (kind : Kind) (family : Family) → IsContext sig (context_of locals) → IsKind sig (context_of locals) kind → StandsFamilyValue scope locals e kind family → IsFamily sig (with_domains kind (context_of locals)) family
+  family_value_typed (LamExpr span binder body) locals kind family c k s =
+      let g : IsKind sig (context_of locals) (PiKind s.domain s.rest) = subst (IsKind sig (context_of locals)) s.kind_is k in
+      subst (λ z. IsFamily sig (with_domains z (context_of locals)) family) (sym s.kind_is) (family_value_typed body (with_local binder s.domain locals) s.rest family (c, g.0) g.1 s.stands)
+  family_value_typed (TypedLamExpr span binder domain body) locals kind family c k s =
+      let g : IsKind sig (context_of locals) (PiKind s.domain s.rest) = subst (IsKind sig (context_of locals)) s.kind_is k in
+      subst (λ z. IsFamily sig (with_domains z (context_of locals)) family) (sym s.kind_is) (family_value_typed body (with_local binder s.domain locals) s.rest family (c, g.0) g.1 s.stands)
+  family_value_typed (NameExpr span path) locals kind family c k s = let b = s.1 in at_type locals kind b.0 family c s.0 (name_typed locals path (FamilyHead b.0 family Ty) c b.1)
+  family_value_typed (AppExpr span function arguments) locals kind family c k s =
+      let b = s.1 in
+      let a = b.1 in
+      at_type locals kind b.0 family c s.0 (arguments_typed arguments locals a.first (FamilyHead b.0 family Ty) c (head_typed function locals a.first c a.begins) a.takes)
+  family_value_typed (TypeExpr span) locals kind family c k s = absurd s
+  family_value_typed (PiExpr span binder domain body) locals kind family c k s = absurd s
+  family_value_typed (ArrowExpr span domain body) locals kind family c k s = absurd s
+  family_value_typed (BackExpr span body domain) locals kind family c k s = absurd s
+
+  named_fits : (path : Path) (class : Class) (value : Value) → NameGives scope path class value → Fits sig value class
+  named_fits path class value n =
+      let t = declared_typed n.declaration (scope_member scope [] path n.declaration n.stands) in
+      let i = t.is in
+      subst (Fits sig value) n.class_is (subst (λ v. Fits sig v n.declaration.class) (sym n.is) (value_typed t.before t.more t.parts n.declaration n.declaration.class n.declaration.value t.class i.value_fits))
+
+  object_fits : (m : Object) (a : Family) → Checks sig [] m a → Fits sig (object_value m) (FamilyClass a)
+  object_fits (Lam body) a h = h
+  object_fits (At (Var i)) a h = h
+  object_fits (At (Con c)) (Pi a b) h = absurd h
+  object_fits (At (Con c)) (AtFamily p) h = h
+  object_fits (At (App r m)) a h = h
+
+  family_fits : (k : Kind) (n : ℕ) (body : Family) → n ≡ domain_count k → IsFamily sig (with_domains k []) body → Fits sig (family_value n body) (KindClass k)
+  family_fits Ty zero (Pi a b) e h = (e, h)
+  family_fits Ty zero (AtFamily (FamilyCon c)) e h = h
+  family_fits Ty zero (AtFamily (FamilyApp p m)) e h = (e, h)
+  family_fits (PiKind a k) zero body e h = absurd (cc)
+  family_fits k (suc n) body e h = (e, h)
+
+  built_fits : (e : Expr) (class : Class) (value : Value) → IsClass sig class → BuildsValue scope e class value → Fits sig value class
+  built_fits e (FamilyClass family) value h b = subst (λ v. Fits sig v (FamilyClass family)) (sym b.2) (object_fits b.0 family (object_typed e [] family b.0 tt h b.1))
+  built_fits e (KindClass kind) value h b = subst (λ v. Fits sig v (KindClass kind)) (sym b.2) (family_fits kind (domain_count kind) b.0 refl (family_value_typed e [] kind b.0 tt h b.1))
+
+  pub value_fits : (e : Expr) (class : Class) (value : Value) → IsClass sig class → StandsValue scope e class value → Fits sig value class
+  value_fits (NameExpr span path) class value h s = named_fits path class value s
+  value_fits (TypeExpr span) class value h s = built_fits (TypeExpr span) class value h s
+  value_fits (AppExpr span function arguments) class value h s = built_fits (AppExpr span function arguments) class value h s
+  value_fits (PiExpr span binder domain body) class value h s = built_fits (PiExpr span binder domain body) class value h s
+  value_fits (LamExpr span binder body) class value h s = built_fits (LamExpr span binder body) class value h s
+  value_fits (TypedLamExpr span binder domain body) class value h s = built_fits (TypedLamExpr span binder domain body) class value h s
+  value_fits (ArrowExpr span domain body) class value h s = built_fits (ArrowExpr span domain body) class value h s
+  value_fits (BackExpr span body domain) class value h s = built_fits (BackExpr span body domain) class value h s
+
+pub standing_object_checks : StandingObjectChecks
+standing_object_checks scope locals e family object ok c f s = object_typed scope ok e locals family object c f s
+
+pub standing_family_is_family : StandingFamilyIsFamily
+standing_family_is_family scope locals e family ok c s = family_typed scope ok e locals family c s
+
+pub standing_kind_is_kind : StandingKindIsKind
+standing_kind_is_kind scope locals e kind ok c s = kind_typed scope ok e locals kind c s
+
+pub standing_class_is_class : StandingClassIsClass
+standing_class_is_class scope e class ok s = class_typed scope ok e class s
+
+pub standing_value_fits : StandingValueFits
+standing_value_fits scope e class value ok h s = value_fits scope ok e class value h s

@@ -1,0 +1,2 @@
+pub mod HeadsTyped
+pub mod Expanding

@@ -1,0 +1,45 @@
+-- What stands is well typed where the constants of the scope are (Harper and Licata 2007, section 2).
+use Rattle.lf_meaning.specs.Terms.{Object, Family, Kind}
+use Rattle.lf_meaning.specs.Signatures.{Class, Value}
+use Rattle.lf_meaning.specs.Judgements.{Checks, IsFamily, IsKind, IsContext, IsClass, Fits, IsSignature}
+use Rattle.library_meaning.specs.Resolution.{Scope}
+use Rattle.text_meaning.specs.Trees.{Expr}
+use Rattle.expansion_meaning.specs.Locals.{Locals, context_of}
+use Rattle.expansion_meaning.specs.Stands.{StandsObject, StandsFamily, StandsKind, StandsClass, StandsValue}
+use Rattle.holding_laws.specs.ExpansionHolds.{scope_signature, NamesOnce}
+
+-- Read: the signature of the scope is well typed, and declares each name once.
+pub record IsTypedScope (scope : Scope) : Type 0 where
+  pub typed : IsSignature (scope_signature scope)
+  pub once : NamesOnce (scope_signature scope)
+
+-- Read: an object that stands at a family checks against it.
+abbrev pub StandingObjectChecks : Type 0
+StandingObjectChecks =
+    (scope : Scope) (locals : Locals) (expression : Expr) (family : Family) (object : Object) → IsTypedScope scope
+    → IsContext (scope_signature scope) (context_of locals) → IsFamily (scope_signature scope) (context_of locals) family
+    → StandsObject scope locals expression family object → Checks (scope_signature scope) (context_of locals) object family
+
+-- Read: a family that stands is one.
+abbrev pub StandingFamilyIsFamily : Type 0
+StandingFamilyIsFamily =
+    (scope : Scope) (locals : Locals) (expression : Expr) (family : Family) → IsTypedScope scope
+    → IsContext (scope_signature scope) (context_of locals) → StandsFamily scope locals expression family
+    → IsFamily (scope_signature scope) (context_of locals) family
+
+-- Read: a kind that stands is one.
+abbrev pub StandingKindIsKind : Type 0
+StandingKindIsKind =
+    (scope : Scope) (locals : Locals) (expression : Expr) (kind : Kind) → IsTypedScope scope
+    → IsContext (scope_signature scope) (context_of locals) → StandsKind scope locals expression kind
+    → IsKind (scope_signature scope) (context_of locals) kind
+
+-- Read: a class that stands is one.
+abbrev pub StandingClassIsClass : Type 0
+StandingClassIsClass = (scope : Scope) (expression : Expr) (class : Class) → IsTypedScope scope → StandsClass scope expression class → IsClass (scope_signature scope) class
+
+-- Read: a value that stands at a class fits it.
+abbrev pub StandingValueFits : Type 0
+StandingValueFits =
+    (scope : Scope) (expression : Expr) (class : Class) (value : Value) → IsTypedScope scope → IsClass (scope_signature scope) class
+    → StandsValue scope expression class value → Fits (scope_signature scope) value class
