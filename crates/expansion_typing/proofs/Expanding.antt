@@ -23,7 +23,9 @@ use Rattle.holding_laws.specs.ExpansionHolds.{scope_signature}
 use Rattle.holding_laws.proofs.Declared.{place_of, class_in}
 use Rattle.holding_laws.proofs.Expanding.{scope_member}
 use Rattle.expansion_typing.specs.TypingOfExpansion.{IsTypedScope, StandingObjectChecks, StandingFamilyIsFamily, StandingKindIsKind, StandingClassIsClass, StandingValueFits}
-use Rattle.expansion_typing.proofs.HeadsTyped.{domains_append, OnSpine, UnderBinders, HeadTyped, object_checks, head_taken, domain_typed, family_whole}
+use Rattle.translation_typing.proofs.KindDomains.{domains_append}
+use Rattle.translation_typing.proofs.TypedHeads.{OnSpine, UnderBinders, family_whole}
+use Rattle.expansion_typing.proofs.HeadsTyped.{HeadTyped, object_checks, head_taken, domain_typed}
 
 local_there : (locals : Locals) (index : ℕ) (family : Family) → family_at locals index ≡ Some family → (own : Family) × (slice_get (context_of locals) index ≡ Some own) × (family ≡ raise_family (suc index) 0 own)
 local_there locals index family h = by locals index (slice_get locals index) refl h
@@ -149,9 +151,9 @@ module _ (scope : Scope) (ok : IsTypedScope scope) where
     family_typed (TypeExpr span) locals family c s = absurd s
     family_typed (LamExpr span binder body) locals family c s = absurd s
     family_typed (TypedLamExpr span binder domain body) locals family c s = absurd s
-    family_typed (NameExpr span path) locals family c s = family_whole sig ok.typed (context_of locals) c s.0 family (name_typed locals path (FamilyHead s.0 family Ty) c s.1).0
+    family_typed (NameExpr span path) locals family c s = family_whole sig (context_of locals) s.0 family (name_typed locals path (FamilyHead s.0 family Ty) c s.1).0
     family_typed (AppExpr span function arguments) locals family c s =
-        let b = s.1 in family_whole sig ok.typed (context_of locals) c s.0 family (arguments_typed arguments locals b.first (FamilyHead s.0 family Ty) c (head_typed function locals b.first c b.begins) b.takes).0
+        let b = s.1 in family_whole sig (context_of locals) s.0 family (arguments_typed arguments locals b.first (FamilyHead s.0 family Ty) c (head_typed function locals b.first c b.begins) b.takes).0
 
   pub kind_typed : (e : Expr) (locals : Locals) (kind : Kind) → IsContext sig (context_of locals) → StandsKind scope locals e kind → IsKind sig (context_of locals) kind
   kind_typed (TypeExpr span) locals kind c s = subst (IsKind sig (context_of locals)) (sym s) tt
@@ -176,7 +178,7 @@ module _ (scope : Scope) (ok : IsTypedScope scope) where
   -- ---- values
 
   at_type : (locals : Locals) (kind : Kind) (binders : ℕ) (family : Family) (c : IsContext sig (context_of locals)) → kind ≡ Ty → HeadTyped sig ok.typed (context_of locals) c (FamilyHead binders family Ty) → IsFamily sig (with_domains kind (context_of locals)) family
-  at_type locals kind binders family c e h = subst (λ k. IsFamily sig (with_domains k (context_of locals)) family) (sym e) (family_whole sig ok.typed (context_of locals) c binders family h.0)
+  at_type locals kind binders family c e h = subst (λ k. IsFamily sig (with_domains k (context_of locals)) family) (sym e) (family_whole sig (context_of locals) binders family h.0)
 
   pub family_value_typed : (e : Expr) (locals : Locals) (kind : Kind) (family : Family) → IsContext sig (context_of locals) → IsKind sig (context_of locals) kind → StandsFamilyValue scope locals e kind family → IsFamily sig (with_domains kind (context_of locals)) family
   family_value_typed (LamExpr span binder body) locals kind family c k s =
