@@ -6,7 +6,8 @@ use Rattle.lf_meaning.specs.Raising.{map_family}
 use Rattle.lf_meaning.specs.Substitution.{substitute, substitute_family, substitute_kind}
 use Rattle.lf_meaning.specs.Signatures.{KindClass, FamilyValue, Signature}
 use Rattle.translation_meaning.specs.Heads.{Head, ObjectHead, FamilyHead, family_takes, family_head_takes, head_takes}
-use Rattle.library_meaning.specs.Holding.{IsFamilyConstant, ObjectHolds, ArgumentsHold, FamilyHolds, KindHolds, ValueHolds, IsValueBody}
+use Rattle.translation_meaning.specs.ProperValues.{IsValueBody}
+use Rattle.library_meaning.specs.Holding.{IsFamilyConstant, ObjectHolds, ArgumentsHold, FamilyHolds, KindHolds, ValueHolds}
 use Rattle.expansion_meaning.specs.Expansion.{domain_of}
 use Rattle.expansion_meaning.specs.Stands.{IsAtomicFamily}
 use Rattle.holding_laws.specs.HoldingLaws.{Grows}

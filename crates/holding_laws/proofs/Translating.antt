@@ -8,7 +8,8 @@ use Rattle.lf_substitution_laws.specs.Uniform.{of_constants}
 use Rattle.translation_meaning.specs.Heads.{Head, ObjectHead, FamilyHead, family_head_takes, head_takes}
 use Rattle.translation_meaning.specs.HeadMaps.{Mapping, HeadMap, image_of}
 use Rattle.translation_meaning.specs.Translation.{object_image, headed_image, translate_object, family_image, family_head_image, translate_head, family_of, translate_family, translate_kind, translate_class, object_value, family_value, same_image, translate_value, translate_image, compose}
-use Rattle.library_meaning.specs.Holding.{IsObjectConstant, IsFamilyConstant, ObjectHolds, ArgumentsHold, FamilyHolds, KindHolds, ClassHolds, ValueHolds, AlikeClasses, IsValueBody}
+use Rattle.translation_meaning.specs.ProperValues.{IsValueBody}
+use Rattle.library_meaning.specs.Holding.{IsObjectConstant, IsFamilyConstant, ObjectHolds, ArgumentsHold, FamilyHolds, KindHolds, ClassHolds, ValueHolds, AlikeClasses}
 use Rattle.library_meaning.specs.Coherence.{declared_names, mapped_names}
 use Rattle.expansion_meaning.specs.Stands.{IsAtomicFamily}
 use Rattle.expansion_meaning.proofs.Binding.{some_same}

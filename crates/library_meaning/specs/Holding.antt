@@ -4,6 +4,7 @@ use Rattle.std.specs.Prelude.{◌≡◌, ℕ, suc, ◌<◌, Some, None, Option, 
 use Rattle.lf_meaning.specs.Terms.{Constant, Object, Lam, At, Atomic, Var, Con, App, Family, Pi, AtFamily, AtomicFamily, FamilyCon, FamilyApp, Kind, Ty, PiKind, family_argument_count, domain_count}
 use Rattle.lf_meaning.specs.Erasure.{head_constant}
 use Rattle.lf_meaning.specs.Signatures.{Class, FamilyClass, KindClass, Value, SameAs, TermValue, FamilyValue, Signature, class_of}
+use Rattle.translation_meaning.specs.ProperValues.{IsNoConstant, IsValueBody}
 
 -- Read: the constant is one of objects.
 abbrev pub IsObjectConstant : Signature → Constant → Type 0
@@ -47,19 +48,6 @@ ClassHolds signature (KindClass kind) = KindHolds signature 0 kind
 abbrev pub SameLevel : Signature → Constant → Class → Type 0
 SameLevel signature constant (FamilyClass family) = IsObjectConstant signature constant
 SameLevel signature constant (KindClass kind) = IsFamilyConstant signature constant (domain_count kind)
-
--- Read: the object is no constant without arguments; as a value such a one is the same as the constant.
-abbrev pub IsNoConstant : Object → Type 0
-IsNoConstant (Lam body) = ⊤
-IsNoConstant (At (Var index)) = ⊤
-IsNoConstant (At (Con constant)) = ⊥
-IsNoConstant (At (App r argument)) = ⊤
-
--- Read: the body of a family value is atomic and, where there is no binder, no constant without arguments.
-abbrev pub IsValueBody : ℕ → Family → Type 0
-IsValueBody binders (Pi domain body) = ⊥
-IsValueBody binders (AtFamily (FamilyCon constant)) = 0 < binders
-IsValueBody binders (AtFamily (FamilyApp p argument)) = ⊤
 
 -- Read: a closed value of the level of its class. A family value has as many binders as the kind has domains.
 abbrev pub ValueHolds : Signature → Class → Value → Type 0

@@ -24,7 +24,7 @@ module _ (sig : Signature) (first second : HeadMap) (agree : AgreeOn sig first s
     replace_agrees n (Lam m) h = ap Lam (replace_agrees (suc n) m h)
     replace_agrees n (At r) h = ap object_of (replace_head_agrees n r h)
 
-    replace_head_agrees : (n : ℕ) (r : Atomic) → AtomicKnown sig r → replace_head (of_constants (by_images first)) n r ≡ replace_head (of_constants (by_images second)) n r
+    pub replace_head_agrees : (n : ℕ) (r : Atomic) → AtomicKnown sig r → replace_head (of_constants (by_images first)) n r ≡ replace_head (of_constants (by_images second)) n r
     replace_head_agrees n (Var i) h = refl
     replace_head_agrees n (Con c) h = ap (headed_image c) (agree c h.0 h.1)
     replace_head_agrees n (App r m) h = ap₂ takes (replace_head_agrees n r h.0) (replace_agrees n m h.1)
@@ -33,7 +33,7 @@ module _ (sig : Signature) (first second : HeadMap) (agree : AgreeOn sig first s
   unfolding translate_object
   object_agrees m h = replace_agrees zero m h
 
-  head_agrees : (p : AtomicFamily) → HeadKnown sig p → translate_head first p ≡ translate_head second p
+  pub head_agrees : (p : AtomicFamily) → HeadKnown sig p → translate_head first p ≡ translate_head second p
   unfolding translate_head
   head_agrees (FamilyCon c) h = ap (family_head_image c) (agree c h.0 h.1)
   head_agrees (FamilyApp p m) h = ap₂ head_takes (head_agrees p h.0) (object_agrees m h.1)

@@ -23,7 +23,19 @@ use Rattle.translation_typing.proofs.Kinded.{IsKinded, family_kinded, kind_kinde
 use Rattle.translation_typing.proofs.Bases.{bases, erase_translated}
 use Rattle.translation_typing.proofs.Images.{IsMap, by_images}
 use Rattle.translation_typing.proofs.Commuting.{raise_family_translated, substitute_family_translated, substitute_kind_translated}
-use Rattle.translation_typing.proofs.TypedHeads.{domains_context, FamilyTyped, OnSpine, UnderBinders, kind_of_body, spine_taken, binder_taken, family_whole}
+use Rattle.translation_typing.proofs.TypedHeads.{HeadIs, domains_context, FamilyTyped, OnSpine, UnderBinders, kind_of_body, spine_taken, binder_taken, family_whole}
+
+-- ---- the domains of a translated kind
+
+pub domains_translated : (along : HeadMap) (k : Kind) (xs : Context) → translate_context along (with_domains k xs) ≡ with_domains (translate_kind along k) (translate_context along xs)
+unfolding translate_kind
+domains_translated along Ty xs = refl
+domains_translated along (PiKind a k) xs = domains_translated along k (a ∷ xs)
+
+pub count_translated : (along : HeadMap) (k : Kind) → domain_count k ≡ domain_count (translate_kind along k)
+unfolding translate_kind
+count_translated along Ty = refl
+count_translated along (PiKind a k) = ap suc (count_translated along k)
 
 module _ (from to : Signature) (along : HeadMap) (source : IsSignature from) (target : IsSignature to) (map_is : IsMap from to along) where
   abbrev there : Context → Context
@@ -79,7 +91,7 @@ module _ (from to : Signature) (along : HeadMap) (source : IsSignature from) (ta
     checks_translated context (At r) (AtFamily p) c c' f f' h =
         headed_checks (there context) (headed r) (translate_family along (AtFamily p)) (bases along (head_constant p)) (erase_translated along map_is.atomic (AtFamily p)) (synthesises_translated context r (AtFamily p) c c' h).0
 
-    synthesises_translated : (context : Context) (r : Atomic) (a : Family) → IsContext from context → IsContext to (there context) → Synthesises from context r a → HeadedHas to (there context) (headed r) (translate_family along a) × IsFamily to (there context) (translate_family along a)
+    pub synthesises_translated : (context : Context) (r : Atomic) (a : Family) → IsContext from context → IsContext to (there context) → Synthesises from context r a → HeadedHas to (there context) (headed r) (translate_family along a) × IsFamily to (there context) (translate_family along a)
     synthesises_translated context (Var i) a c c' h =
         let v = variable_translated context i a c h in
         (v, synthesised_is_family to target (there context) (Var i) (translate_family along a) c' v)
@@ -100,39 +112,35 @@ module _ (from to : Signature) (along : HeadMap) (source : IsSignature from) (ta
 
   -- ---- families and kinds
 
-  abbrev HeadIs : Context → Kind → Head → Type 0
-  HeadIs context k (ObjectHead object classifier) = ⊥
-  HeadIs context k (FamilyHead binders family kind) = (kind ≡ k) × FamilyTyped to context binders family k × IsKind to context k
-
-  image_is : (context : Context) (c : Constant) (k : Kind) (value : Value) → IsKind to [] k → Fits to value (KindClass k) → HeadIs context k (family_image c (KindClass k) value)
+  image_is : (context : Context) (c : Constant) (k : Kind) (value : Value) → IsKind to [] k → Fits to value (KindClass k) → HeadIs to context k (family_image c (KindClass k) value)
   image_is context c k (SameAs d) is h = (refl, OnSpine (FamilyCon d) refl refl h, more_kind to to (λ x l q. q) [] context k is)
   image_is context c k (TermValue m) is h = absurd h
   image_is context c k (FamilyValue n body) is h =
       (refl, UnderBinders h.0 (subst (λ z. IsFamily to z body) (sym (domains_append k [] context)) (more_family to to (λ x l q. q) (with_domains k []) context body h.1)), more_kind to to (λ x l q. q) [] context k is)
 
-  constant_is : (context : Context) (c : Constant) (k : Kind) → class_of from c ≡ Some (KindClass k) → HeadIs context (translate_kind along k) (family_head_image c (image_of along c))
+  constant_is : (context : Context) (c : Constant) (k : Kind) → class_of from c ≡ Some (KindClass k) → HeadIs to context (translate_kind along k) (family_head_image c (image_of along c))
   constant_is context c k e =
       let i = map_is.images c (KindClass k) e in
       let fits : Fits to i.image.value (KindClass (translate_kind along k)) = subst (Fits to i.image.value) i.class_is i.fits in
-      let at : HeadIs context (translate_kind along k) (family_image c i.image.class i.image.value) =
-      subst (λ z. HeadIs context (translate_kind along k) (family_image c z i.image.value)) (sym i.class_is) (image_is context c (translate_kind along k) i.image.value (map_is.classes c (KindClass k) e) fits) in
-      subst (λ z. HeadIs context (translate_kind along k) (family_head_image c z)) (sym i.mapped) at
+      let at : HeadIs to context (translate_kind along k) (family_image c i.image.class i.image.value) =
+      subst (λ z. HeadIs to context (translate_kind along k) (family_image c z i.image.value)) (sym i.class_is) (image_is context c (translate_kind along k) i.image.value (map_is.classes c (KindClass k) e) fits) in
+      subst (λ z. HeadIs to context (translate_kind along k) (family_head_image c z)) (sym i.mapped) at
 
   pi_taken : (context : Context) → IsContext to context → (a : Family) (k : Kind) (m : Object) (binders : ℕ) (family : Family) → FamilyTyped to context binders family (PiKind a k) → IsKind to context (PiKind a k) → Checks to context m a
-      → HeadIs context (substitute_kind m (erase a) 0 k) (head_takes (FamilyHead binders family (PiKind a k)) m)
+      → HeadIs to context (substitute_kind m (erase a) 0 k) (head_takes (FamilyHead binders family (PiKind a k)) m)
   pi_taken context c a k m zero family f is g = (refl, spine_taken to target context c family a k m f g, kind_of_body to target context c a k m is g)
   pi_taken context c a k m (suc binders) family f is g = (refl, binder_taken to target context c binders family a k m f is g, kind_of_body to target context c a k m is g)
 
-  head_taken : (context : Context) → IsContext to context → (a : Family) (k : Kind) (m : Object) (head : Head) → HeadIs context (PiKind a k) head → Checks to context m a → HeadIs context (substitute_kind m (erase a) 0 k) (head_takes head m)
+  head_taken : (context : Context) → IsContext to context → (a : Family) (k : Kind) (m : Object) (head : Head) → HeadIs to context (PiKind a k) head → Checks to context m a → HeadIs to context (substitute_kind m (erase a) 0 k) (head_takes head m)
   head_taken context c a k m (ObjectHead object classifier) h g = absurd h
   head_taken context c a k m (FamilyHead binders family kind) h g =
-      subst (λ z. HeadIs context (substitute_kind m (erase a) 0 k) (head_takes (FamilyHead binders family z) m)) (sym h.0) (pi_taken context c a k m binders family h.1 h.2 g)
+      subst (λ z. HeadIs to context (substitute_kind m (erase a) 0 k) (head_takes (FamilyHead binders family z) m)) (sym h.0) (pi_taken context c a k m binders family h.1 h.2 g)
 
-  domain_of_head : (context : Context) (a : Family) (k : Kind) (head : Head) → HeadIs context (PiKind a k) head → IsFamily to context a
+  domain_of_head : (context : Context) (a : Family) (k : Kind) (head : Head) → HeadIs to context (PiKind a k) head → IsFamily to context a
   domain_of_head context a k (ObjectHead object classifier) h = absurd h
   domain_of_head context a k (FamilyHead binders family kind) h = (h.2).0
 
-  head_translated : (context : Context) (p : AtomicFamily) (k : Kind) → IsContext from context → IsContext to (there context) → SynthesisesKind from context p k → HeadIs (there context) (translate_kind along k) (translate_head along p)
+  pub head_translated : (context : Context) (p : AtomicFamily) (k : Kind) → IsContext from context → IsContext to (there context) → SynthesisesKind from context p k → HeadIs to (there context) (translate_kind along k) (translate_head along p)
   unfolding translate_head translate_kind
   head_translated context (FamilyCon c) k c0 c' h = constant_is (there context) c k h
   head_translated context (FamilyApp p m) k c c' h =
@@ -144,10 +152,10 @@ module _ (from to : Signature) (along : HeadMap) (source : IsSignature from) (ta
       ap (translate_kind along) h.is
       ∙ substitute_kind_translated from to along map_is (erase_context context) m (erase h.domain) (checks_sort from context m h.domain h.argument_has) [] h.body (kind_kinded from (h.domain ∷ context) h.body pi.1)
       ∙ ap (λ t. substitute_kind (translate_object along m) t 0 (translate_kind along h.body)) (sym (erase_translated along map_is.atomic h.domain)) in
-      subst (λ z. HeadIs (there context) z (head_takes (translate_head along p) (translate_object along m))) (sym is)
+      subst (λ z. HeadIs to (there context) z (head_takes (translate_head along p) (translate_object along m))) (sym is)
       (head_taken (there context) c' (translate_family along h.domain) (translate_kind along h.body) (translate_object along m) (translate_head along p) head argument)
 
-  whole : (context : Context) (head : Head) (p : AtomicFamily) → HeadIs context Ty head → IsFamily to context (family_of head p)
+  whole : (context : Context) (head : Head) (p : AtomicFamily) → HeadIs to context Ty head → IsFamily to context (family_of head p)
   whole context (ObjectHead object classifier) p h = absurd h
   whole context (FamilyHead binders family kind) p h = family_whole to context binders family h.1
 
@@ -177,16 +185,6 @@ module _ (from to : Signature) (along : HeadMap) (source : IsSignature from) (ta
 
   -- ---- values
 
-  domains_translated : (k : Kind) (xs : Context) → there (with_domains k xs) ≡ with_domains (translate_kind along k) (there xs)
-  unfolding translate_kind
-  domains_translated Ty xs = refl
-  domains_translated (PiKind a k) xs = domains_translated k (a ∷ xs)
-
-  count_translated : (k : Kind) → domain_count k ≡ domain_count (translate_kind along k)
-  unfolding translate_kind
-  count_translated Ty = refl
-  count_translated (PiKind a k) = ap suc (count_translated k)
-
   object_value_fits : (m : Object) (a : Family) → Checks to [] m a → Fits to (object_value m) (FamilyClass a)
   object_value_fits (Lam m) a h = h
   object_value_fits (At (Var i)) a h = h
@@ -213,4 +211,4 @@ module _ (from to : Signature) (along : HeadMap) (source : IsSignature from) (ta
   value_translated (KindClass k) (FamilyValue n body) is h =
       let context : IsContext from (with_domains k []) = domains_context from k [] tt is in
       let body_is : IsFamily to (there (with_domains k [])) (translate_family along body) = family_translated (with_domains k []) body context (context_translated (with_domains k []) context) h.1 in
-      family_value_fits n (translate_family along body) (translate_kind along k) (h.0 ∙ count_translated k) (subst (λ z. IsFamily to z (translate_family along body)) (domains_translated k []) body_is)
+      family_value_fits n (translate_family along body) (translate_kind along k) (h.0 ∙ count_translated along k) (subst (λ z. IsFamily to z (translate_family along body)) (domains_translated along k []) body_is)

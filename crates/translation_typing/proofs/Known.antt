@@ -48,7 +48,7 @@ module _ (sig : Signature) where
     object_known context (At r) (Arrow s t) h = absurd h
     object_known context (At r) (Base c) h = atomic_known context r (Base c) h
 
-    atomic_known : (context : SimpleContext) (r : Atomic) (t : Simple) → SynthesisesSort (sorts_of sig) context r t → AtomicKnown r
+    pub atomic_known : (context : SimpleContext) (r : Atomic) (t : Simple) → SynthesisesSort (sorts_of sig) context r t → AtomicKnown r
     atomic_known context (Var i) t h = tt
     atomic_known context (Con c) t h = sorted_constant c t (class_of sig c) refl h
     atomic_known context (App r m) t h = (atomic_known context r (Arrow h.domain t) h.head_has, object_known context m h.domain h.argument_has)
@@ -57,7 +57,7 @@ module _ (sig : Signature) where
   kinded_constant c rest None e h = absurd (cc)
   kinded_constant c rest (Some class) e h = (class, e)
 
-  head_known : (context : SimpleContext) (p : AtomicFamily) (rest : List Simple) → HasDomains sig context p rest → HeadKnown p
+  pub head_known : (context : SimpleContext) (p : AtomicFamily) (rest : List Simple) → HasDomains sig context p rest → HeadKnown p
   head_known context (FamilyCon c) rest h = kinded_constant c rest (class_of sig c) refl h
   head_known context (FamilyApp p m) rest h = (head_known context p (h.domain ∷ rest) h.head_has, object_known context m h.domain h.argument_has)
 

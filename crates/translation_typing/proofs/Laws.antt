@@ -2,32 +2,37 @@
 -- well typed follows by the order of declarations.
 use Rattle.std.proofs.Common.{◌≡◌, ℕ, zero, suc, ◌+◌, ◌≤◌, [], ◌∷◌, ◌++◌, length, length-append, Bool, true, false, cond, Option, Some, None, refl, sym, ap, ap₂, ◌∙◌, subst, subst₂, arith}
 use Rattle.std.specs.Prelude.{slice_get}
-use Rattle.lf_meaning.specs.Terms.{Constant, Object, Family, Kind, Context, Simple, SimpleContext}
+use Rattle.lf_meaning.specs.Terms.{Constant, Object, Atomic, Family, AtomicFamily, Kind, Context, Simple, SimpleContext}
 use Rattle.lf_meaning.specs.Erasure.{erase, erase_context}
 use Rattle.lf_meaning.specs.Raising.{raise, raise_family, raise_kind}
 use Rattle.lf_meaning.specs.Substitution.{substitute, substitute_family, substitute_kind}
 use Rattle.lf_meaning.specs.Sorts.{HasSort, sorts_of}
 use Rattle.lf_meaning.specs.Signatures.{Class, Value, Declaration, Signature, same_constant, declaration_of, undefined_class, class_of}
-use Rattle.lf_meaning.specs.Judgements.{Checks, IsFamily, IsKind, IsContext, IsSignature, IsClass, IsDeclaration, Fits}
+use Rattle.lf_meaning.specs.Judgements.{Checks, Synthesises, SynthesisesKind, IsFamily, IsKind, IsContext, IsSignature, IsClass, IsDeclaration, Fits}
 use Rattle.lf_meaning.proofs.Equality.{same_constant_sound}
 use Rattle.lf_metatheory.proofs.Declared.{declared_as, found_in, class_more}
 use Rattle.lf_metatheory.proofs.Closed.{class_is_class}
 use Rattle.lf_metatheory.proofs.Growing.{signature_shrinks}
-use Rattle.lf_metatheory.proofs.Typed.{checks_sort}
+use Rattle.lf_metatheory.proofs.Typed.{checks_sort, synthesises_sort}
+use Rattle.lf_metatheory.proofs.HeadTyping.{synthesised_is_family, synthesised_is_kind, HeadedHas}
+use Rattle.lf_meaning.specs.Replacement.{replace_head}
+use Rattle.lf_substitution_laws.specs.Uniform.{of_constants}
 use Rattle.lf_metatheory.proofs.Regular.{erase_split, length_erased}
 use Rattle.translation_meaning.specs.HeadMaps.{HeadMap, image_of}
-use Rattle.translation_meaning.specs.Translation.{translate_object, translate_family, translate_kind, translate_class, translate_value}
+use Rattle.translation_meaning.specs.Translation.{translate_object, translate_head, translate_family, translate_kind, translate_class, translate_value}
 use Rattle.translation_meaning.specs.TypedMaps.{IsTypedMap}
 use Rattle.translation_typing.specs.AtomicBodies.{BodiesAreAtomic}
 use Rattle.translation_typing.specs.TypedTranslation.{translate_context, IsTypedTranslation, TypingIsCarried, ContextsAreCarried, FamiliesAreCarried, KindsAreCarried, ClassesAreCarried, ValuesAreCarried, RaisedObjectsAreTranslated, RaisedFamiliesAreTranslated, RaisedKindsAreTranslated, SubstitutedObjectsAreTranslated, SubstitutedFamiliesAreTranslated, SubstitutedKindsAreTranslated}
-use Rattle.translation_typing.proofs.Kinded.{IsKinded, IsKindedKind, family_kinded, kind_kinded}
-use Rattle.translation_typing.proofs.Known.{object_known, family_known, kind_known, raised_object_known, raised_family_known, raised_kind_known, substituted_object_known, substituted_family_known, substituted_kind_known}
+use Rattle.translation_typing.proofs.Kinded.{kind_has_domains, IsKinded, IsKindedKind, family_kinded, kind_kinded}
+use Rattle.translation_typing.proofs.Known.{AtomicKnown, HeadKnown, atomic_known, head_known, object_known, family_known, kind_known, raised_object_known, raised_family_known, raised_kind_known, substituted_object_known, substituted_family_known, substituted_kind_known}
 use Rattle.translation_typing.proofs.Bases.{renamed, erase_translated}
 use Rattle.translation_typing.proofs.Commuting.{raise_translated, raise_family_translated, raise_kind_translated, substitute_translated, substitute_family_translated, substitute_kind_translated}
-use Rattle.translation_typing.proofs.Images.{TypedImage, IsMap}
+use Rattle.translation_typing.proofs.Images.{TypedImage, IsMap, by_images}
+use Rattle.translation_typing.proofs.TypedHeads.{HeadIs}
+use Rattle.translation_typing.proofs.KindDomains.{domains_of}
 use Rattle.translation_typing.proofs.Restricted.{restrict, restricted_there, restricted_declared}
-use Rattle.translation_typing.proofs.Agreeing.{AgreeOn, class_agrees, context_agrees, object_agrees, family_agrees, kind_agrees, checked_agrees, typed_family_agrees, typed_kind_agrees, value_agrees}
-use Rattle.translation_typing.proofs.Carrying.{class_translated, context_translated, family_translated, kind_translated, checks_translated, value_translated}
+use Rattle.translation_typing.proofs.Agreeing.{AgreeOn, replace_head_agrees, head_agrees, class_agrees, context_agrees, object_agrees, family_agrees, kind_agrees, checked_agrees, typed_family_agrees, typed_kind_agrees, value_agrees}
+use Rattle.translation_typing.proofs.Carrying.{synthesises_translated, head_translated, class_translated, context_translated, family_translated, kind_translated, checks_translated, value_translated}
 
 some_is : {A : Type 0} {x y : A} → Some x ≡ Some y → x ≡ y
 some_is e = cc
@@ -51,10 +56,10 @@ classified : (o : Option Value) (class found : Class) → undefined_class o clas
 classified None class found h = some_is h
 classified (Some v) class found h = absurd (cc)
 
-abbrev Images : Signature → Signature → HeadMap → Type 0
+abbrev pub Images : Signature → Signature → HeadMap → Type 0
 Images from to along = (c : Constant) (class : Class) → class_of from c ≡ Some class → TypedImage to along c class
 
-typed_images : (from to : Signature) (along : HeadMap) → IsTypedMap from to along → Images from to along
+pub typed_images : (from to : Signature) (along : HeadMap) → IsTypedMap from to along → Images from to along
 typed_images from to along typed c class h =
     let d = declared_as from c class h in
     let p = placed from c d.declaration d.found in
@@ -143,6 +148,23 @@ module _ (from to : Signature) (along : HeadMap) (is : IsTypedTranslation from t
       subst (λ z. Checks to z (translate_object along m) (translate_family along a)) (context_agrees from within along agrees context c)
       (subst₂ (Checks to (translate_context within context)) (checked_agrees from within along agrees context m a h) (typed_family_agrees from within along agrees context a f) at)
 
+  -- heads, of objects and of families
+  pub atomic_carried : (context : Context) (r : Atomic) (a : Family) → IsContext from context → Synthesises from context r a → HeadedHas to (translate_context along context) (replace_head (of_constants (by_images along)) 0 r) (translate_family along a)
+  atomic_carried context r a c h =
+      let there : IsContext to (translate_context within context) = context_translated from to within is.source is.target map_is context c in
+      let known : AtomicKnown from r = atomic_known from (erase_context context) r (erase a) (synthesises_sort from context r a h) in
+      subst (λ z. HeadedHas to z (replace_head (of_constants (by_images along)) 0 r) (translate_family along a)) (context_agrees from within along agrees context c)
+      (subst₂ (HeadedHas to (translate_context within context)) (replace_head_agrees from within along agrees 0 r known) (typed_family_agrees from within along agrees context a (synthesised_is_family from is.source context r a c h))
+      (synthesises_translated from to within is.source is.target map_is context r a c there h).0)
+
+  pub head_carried : (context : Context) (p : AtomicFamily) (k : Kind) → IsContext from context → SynthesisesKind from context p k → HeadIs to (translate_context along context) (translate_kind along k) (translate_head along p)
+  head_carried context p k c h =
+      let there : IsContext to (translate_context within context) = context_translated from to within is.source is.target map_is context c in
+      let known : HeadKnown from p = head_known from (erase_context context) p (domains_of k) (kind_has_domains from context p k h) in
+      subst (λ z. HeadIs to z (translate_kind along k) (translate_head along p)) (context_agrees from within along agrees context c)
+      (subst₂ (HeadIs to (translate_context within context)) (typed_kind_agrees from within along agrees context k (synthesised_is_kind from is.source context p k c h)) (head_agrees from within along agrees p known)
+      (head_translated from to within is.source is.target map_is context p k c there h))
+
 pub typing_is_carried : TypingIsCarried
 typing_is_carried from to along context m a is h =
     record {
@@ -178,20 +200,20 @@ module _ (from to : Signature) (along : HeadMap) (is : IsTypedTranslation from t
   inner_is : IsMap from to inner
   inner_is = map_is from to along is
 
-  raised_object : (context : Context) (m : Object) (a : Family) (by at : ℕ) → Checks from context m a → translate_object along (raise by at m) ≡ raise by at (translate_object along m)
+  pub raised_object : (context : Context) (m : Object) (a : Family) (by at : ℕ) → Checks from context m a → translate_object along (raise by at m) ≡ raise by at (translate_object along m)
   raised_object context m a by at h =
       sym (object_agrees from inner along same (raise by at m) (raised_object_known from by at m (object_known from (erase_context context) m (erase a) (checks_sort from context m a h))))
       ∙ raise_translated from to inner inner_is by at m
       ∙ ap (raise by at) (checked_agrees from inner along same context m a h)
 
-  raised_family : (context : Context) (a : Family) (by at : ℕ) → IsFamily from context a → translate_family along (raise_family by at a) ≡ raise_family by at (translate_family along a)
+  pub raised_family : (context : Context) (a : Family) (by at : ℕ) → IsFamily from context a → translate_family along (raise_family by at a) ≡ raise_family by at (translate_family along a)
   raised_family context a by at h =
       let kinded : IsKinded from (erase_context context) a = family_kinded from context a h in
       sym (family_agrees from inner along same (raise_family by at a) (raised_family_known from by at a (family_known from (erase_context context) a kinded)))
       ∙ raise_family_translated from to inner inner_is by at (erase_context context) a kinded
       ∙ ap (raise_family by at) (typed_family_agrees from inner along same context a h)
 
-  raised_kind : (context : Context) (k : Kind) (by at : ℕ) → IsKind from context k → translate_kind along (raise_kind by at k) ≡ raise_kind by at (translate_kind along k)
+  pub raised_kind : (context : Context) (k : Kind) (by at : ℕ) → IsKind from context k → translate_kind along (raise_kind by at k) ≡ raise_kind by at (translate_kind along k)
   raised_kind context k by at h =
       let kinded : IsKindedKind from (erase_context context) k = kind_kinded from context k h in
       sym (kind_agrees from inner along same (raise_kind by at k) (raised_kind_known from by at k (kind_known from (erase_context context) k kinded)))
@@ -220,7 +242,7 @@ module _ (from to : Signature) (along : HeadMap) (is : IsTypedTranslation from t
     renamed_type : renamed inner type ≡ erase (translate_family along of)
     renamed_type = sym (erase_translated inner inner_is.atomic of) ∙ ap erase (typed_family_agrees from inner along same before of of_is)
 
-    substituted_object : (m : Object) (a : Family) → Checks from (after ++ (of ∷ before)) m a
+    pub substituted_object : (m : Object) (a : Family) → Checks from (after ++ (of ∷ before)) m a
         → translate_object along (substitute v type (length after) m) ≡ substitute (translate_object along v) (erase (translate_family along of)) (length after) (translate_object along m)
     substituted_object m a h =
         let has : HasSort (sorts_of from) (inside ++ (type ∷ behind)) m (erase a) = subst (λ z. HasSort (sorts_of from) z m (erase a)) whole (checks_sort from (after ++ (of ∷ before)) m a h) in
@@ -230,7 +252,7 @@ module _ (from to : Signature) (along : HeadMap) (is : IsTypedTranslation from t
         ∙ ap₂ (λ w s. substitute w s (length inside) (translate_object inner m)) (checked_agrees from inner along same before v of value) renamed_type
         ∙ ap (substitute (translate_object along v) (erase (translate_family along of)) (length inside)) (checked_agrees from inner along same (after ++ (of ∷ before)) m a h))
 
-    substituted_family : (a : Family) → IsFamily from (after ++ (of ∷ before)) a
+    pub substituted_family : (a : Family) → IsFamily from (after ++ (of ∷ before)) a
         → translate_family along (substitute_family v type (length after) a) ≡ substitute_family (translate_object along v) (erase (translate_family along of)) (length after) (translate_family along a)
     substituted_family a h =
         let kinded : IsKinded from (inside ++ (type ∷ behind)) a = subst (λ z. IsKinded from z a) whole (family_kinded from (after ++ (of ∷ before)) a h) in
@@ -240,7 +262,7 @@ module _ (from to : Signature) (along : HeadMap) (is : IsTypedTranslation from t
         ∙ ap₂ (λ w s. substitute_family w s (length inside) (translate_family inner a)) (checked_agrees from inner along same before v of value) renamed_type
         ∙ ap (substitute_family (translate_object along v) (erase (translate_family along of)) (length inside)) (typed_family_agrees from inner along same (after ++ (of ∷ before)) a h))
 
-    substituted_kind : (k : Kind) → IsKind from (after ++ (of ∷ before)) k
+    pub substituted_kind : (k : Kind) → IsKind from (after ++ (of ∷ before)) k
         → translate_kind along (substitute_kind v type (length after) k) ≡ substitute_kind (translate_object along v) (erase (translate_family along of)) (length after) (translate_kind along k)
     substituted_kind k h =
         let kinded : IsKindedKind from (inside ++ (type ∷ behind)) k = subst (λ z. IsKindedKind from z k) whole (kind_kinded from (after ++ (of ∷ before)) k h) in

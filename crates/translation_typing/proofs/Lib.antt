@@ -11,3 +11,5 @@ pub mod Known
 pub mod Agreeing
 pub mod Restricted
 pub mod Laws
+pub mod Composing
+pub mod Composed

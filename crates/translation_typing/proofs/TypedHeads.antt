@@ -7,13 +7,18 @@ use Rattle.lf_meaning.specs.Signatures.{Signature}
 use Rattle.lf_meaning.specs.Judgements.{Checks, SynthesisesKind, IsFamily, IsKind, IsContext, IsSignature}
 use Rattle.lf_metatheory.proofs.Regular.{context_sorted}
 use Rattle.lf_metatheory.proofs.SubstitutionTyping.{substitute_is_family, substitute_is_kind}
-use Rattle.translation_meaning.specs.Heads.{family_takes}
+use Rattle.translation_meaning.specs.Heads.{Head, ObjectHead, FamilyHead, family_takes}
 use Rattle.translation_typing.proofs.KindDomains.{domains_append, domains_length, domains_map, domains_count}
 
 -- arguments go on the spine, or for the binders
 pub data FamilyTyped (sig : Signature) (context : Context) (binders : ℕ) (family : Family) (kind : Kind) : Type 0 where
   OnSpine : (p : AtomicFamily) → binders ≡ zero → family ≡ AtFamily p → SynthesisesKind sig context p kind → FamilyTyped sig context binders family kind
   UnderBinders : binders ≡ domain_count kind → IsFamily sig (with_domains kind context) family → FamilyTyped sig context binders family kind
+
+-- a head of this kind
+abbrev pub HeadIs : Signature → Context → Kind → Head → Type 0
+HeadIs sig context k (ObjectHead object classifier) = ⊥
+HeadIs sig context k (FamilyHead binders family kind) = (kind ≡ k) × FamilyTyped sig context binders family k × IsKind sig context k
 
 pub family_whole : (sig : Signature) (context : Context) (binders : ℕ) (family : Family) → FamilyTyped sig context binders family Ty → IsFamily sig context family
 family_whole sig context binders family (OnSpine p b f h) = subst (IsFamily sig context) (sym f) h

@@ -1,2 +1,3 @@
 pub mod AtomicBodies
 pub mod TypedTranslation
+pub mod Composition

@@ -1,5 +1,6 @@
 //! Translation along a typed map keeps typing, and commutes with raising and substitution.
 
+ghost use Rattle.translation_typing.specs.Composition.{ObjectsAreComposed, FamiliesAreComposed, KindsAreComposed, ClassesAreComposed, ValuesAreComposed, CompositionIsTyped, CompositionIsProper};
 ghost use Rattle.translation_typing.specs.TypedTranslation.{TypingIsCarried, ContextsAreCarried, FamiliesAreCarried, KindsAreCarried, ClassesAreCarried, ValuesAreCarried, RaisedObjectsAreTranslated, RaisedFamiliesAreTranslated, RaisedKindsAreTranslated, SubstitutedObjectsAreTranslated, SubstitutedFamiliesAreTranslated, SubstitutedKindsAreTranslated};
 
 /// What is well typed is carried to what is.
@@ -24,4 +25,15 @@ pub fn law_translation_substitutes()
     ensures object { SubstitutedObjectsAreTranslated }
     ensures family { SubstitutedFamiliesAreTranslated }
     ensures kind { SubstitutedKindsAreTranslated }
+{}
+
+/// Translation along a composition is translation along one map and then the other; the composition is typed.
+pub fn law_translation_composes()
+    ensures object { ObjectsAreComposed }
+    ensures family { FamiliesAreComposed }
+    ensures kind { KindsAreComposed }
+    ensures class { ClassesAreComposed }
+    ensures value { ValuesAreComposed }
+    ensures typed { CompositionIsTyped }
+    ensures proper { CompositionIsProper }
 {}

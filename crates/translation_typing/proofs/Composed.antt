@@ -1,0 +1,146 @@
+-- The composition of typed maps is typed, and its values are proper.
+use Rattle.std.proofs.Common.{◌≡◌, ℕ, zero, suc, [], ◌∷◌, ◌++◌, take, drop, slice_get, Option, Some, None, option_map, refl, sym, ap, ◌∙◌, subst, append-nil, arith}
+use Rattle.lf_meaning.specs.Terms.{Constant, Object, Lam, At, Var, Con, App, Family, Pi, AtFamily, FamilyCon, FamilyApp, with_domains}
+use Rattle.lf_meaning.specs.Signatures.{Class, FamilyClass, KindClass, Value, SameAs, TermValue, FamilyValue, Declaration, Signature, class_of}
+use Rattle.lf_meaning.specs.Judgements.{IsFamily, IsClass, Fits, ValueFits, IsDeclaration, IsSignature}
+use Rattle.lf_metatheory.proofs.Declared.{class_more}
+use Rattle.lf_metatheory.proofs.Typed.{more_checks, more_family, more_kind}
+use Rattle.translation_meaning.specs.HeadMaps.{Image, HeadMap, image_of}
+use Rattle.translation_meaning.specs.Translation.{translate_object, translate_family, translate_class, translate_value, translate_image, object_value, family_value, same_image, compose}
+use Rattle.translation_meaning.specs.ProperValues.{IsProperValue, ValuesAreProper}
+use Rattle.translation_meaning.specs.TypedMaps.{KeepsValue, IsTypedAt}
+use Rattle.translation_meaning.proofs.Spines.{composed}
+use Rattle.translation_typing.specs.AtomicBodies.{IsAtomic, HasAtomicBody, BodiesAreAtomic}
+use Rattle.translation_typing.specs.Composition.{AreComposable, ObjectsAreComposed, FamiliesAreComposed, KindsAreComposed, ClassesAreComposed, ValuesAreComposed, CompositionIsTyped, CompositionIsProper}
+use Rattle.translation_typing.proofs.Bases.{atomic_translated}
+use Rattle.translation_typing.proofs.Laws.{class_carried, value_carried}
+use Rattle.translation_typing.proofs.Composing.{object_composed, family_composed, kind_composed, class_composed, value_composed}
+
+some_is : {A : Type 0} {x y : A} → Some x ≡ Some y → x ≡ y
+some_is e = cc
+
+-- ---- declarations of a well-typed signature
+
+split_at : (sig : Signature) (place : ℕ) (d : Declaration) → slice_get sig place ≡ Some d → sig ≡ take place sig ++ (d ∷ drop (suc place) sig)
+split_at [] place d e = absurd (cc)
+split_at (x ∷ sig) zero d e = ap (λ z. z ∷ sig) (some_is e)
+split_at (x ∷ sig) (suc place) d e = ap (λ z. x ∷ z) (split_at sig place d e)
+
+module _ (before sig : Signature) (more : (c : Constant) (k : Class) → class_of before c ≡ Some k → class_of sig c ≡ Some k) where
+  class_grows : (class : Class) → IsClass before class → IsClass sig class
+  class_grows (FamilyClass a) h = more_family before sig more [] [] a h
+  class_grows (KindClass k) h = more_kind before sig more [] [] k h
+
+  fits_more : (class : Class) (value : Value) → Fits before value class → Fits sig value class
+  fits_more class (SameAs c) h = more c class h
+  fits_more (FamilyClass a) (TermValue m) h = more_checks before sig more [] [] m a h
+  fits_more (KindClass k) (TermValue m) h = h
+  fits_more (FamilyClass a) (FamilyValue n body) h = h
+  fits_more (KindClass k) (FamilyValue n body) h = (h.0, subst (λ z. IsFamily sig z body) (append-nil (with_domains k [])) (more_family before sig more (with_domains k []) [] body h.1))
+
+record DeclaredTyped (sig : Signature) (d : Declaration) : Type 0 where
+  class : IsClass sig d.class
+  value : (v : Value) → d.value ≡ Some v → Fits sig v d.class
+
+declared_typed : (sig : Signature) → IsSignature sig → (place : ℕ) (d : Declaration) → slice_get sig place ≡ Some d → DeclaredTyped sig d
+declared_typed sig typed place d e =
+    let before : Signature = take place sig in
+    let parts = split_at sig place d e in
+    let is : IsDeclaration (take place sig) d = typed (take place sig) d (drop (suc place) sig) parts in
+    let more : (c : Constant) (k : Class) → class_of (take place sig) c ≡ Some k → class_of sig c ≡ Some k =
+    (λ c k h. subst (λ z. class_of z c ≡ Some k) (sym parts) (class_more (take place sig) (d ∷ drop (suc place) sig) c k h)) in
+    record {
+      class = class_grows (take place sig) sig more d.class is.class_is;
+      value = λ v q. fits_more (take place sig) sig more d.class v (subst (λ z. ValueFits (take place sig) z d.class) q is.value_fits);
+    }
+
+-- ---- proper values
+
+proper_atomic : (value : Value) → IsProperValue value → HasAtomicBody value
+proper_atomic (SameAs c) h = tt
+proper_atomic (TermValue m) h = tt
+proper_atomic (FamilyValue n (Pi a b)) h = absurd h
+proper_atomic (FamilyValue n (AtFamily p)) h = tt
+
+object_value_proper : (o : Object) → IsProperValue (object_value o)
+object_value_proper (Lam m) = tt
+object_value_proper (At (Var i)) = tt
+object_value_proper (At (Con c)) = tt
+object_value_proper (At (App r m)) = tt
+
+family_value_proper : (n : ℕ) (family : Family) → IsAtomic family → IsProperValue (family_value n family)
+family_value_proper n (Pi a b) h = absurd h
+family_value_proper zero (AtFamily (FamilyCon c)) h = tt
+family_value_proper zero (AtFamily (FamilyApp p m)) h = tt
+family_value_proper (suc n) (AtFamily (FamilyCon c)) h = omega arith
+family_value_proper (suc n) (AtFamily (FamilyApp p m)) h = tt
+
+same_image_proper : (along : HeadMap) → ValuesAreProper along → (c : Constant) (o : Option Image) → image_of along c ≡ o → IsProperValue (same_image c o)
+same_image_proper along h c None e = tt
+same_image_proper along h c (Some image) e = h c image e
+
+pub value_proper : (along : HeadMap) → BodiesAreAtomic along → ValuesAreProper along → (value : Value) → HasAtomicBody value → IsProperValue (translate_value along value)
+unfolding translate_value
+value_proper along atomic proper (SameAs c) h = same_image_proper along proper c (image_of along c) refl
+value_proper along atomic proper (TermValue m) h = object_value_proper (translate_object along m)
+value_proper along atomic proper (FamilyValue n (Pi a b)) h = absurd h
+value_proper along atomic proper (FamilyValue n (AtFamily p)) h = family_value_proper n (translate_family along (AtFamily p)) (atomic_translated along atomic p)
+
+-- ---- the composition
+
+image_in : (second : HeadMap) (o : Option Image) (image : Image) → option_map (translate_image second) o ≡ Some image → (i : Image) × (o ≡ Some i) × (image ≡ translate_image second i)
+image_in second None image h = absurd (cc)
+image_in second (Some i) image h = (i, refl, some_is (sym h))
+
+module _ (from middle to : Signature) (first second : HeadMap) (is : AreComposable from middle to first second) where
+  composed_image : (c : Constant) (image : Image) → image_of (compose first second) c ≡ Some image → (i : Image) × (image_of first c ≡ Some i) × (image ≡ translate_image second i)
+  composed_image c image e = image_in second (image_of first c) image (sym (composed first second c) ∙ e)
+
+  proper : ValuesAreProper (compose first second)
+  proper c image e =
+      let i = composed_image c image e in
+      subst (λ (z : Image). IsProperValue z.value) (sym i.2) (value_proper second is.second_is.atomic is.second_proper i.0.value (is.first_is.atomic c i.0 i.1))
+
+  keeps : (o : Option Value) (class : Class) (i : Image) → IsClass from class → ((v : Value) → o ≡ Some v → Fits from v class) → KeepsValue first o i → KeepsValue (compose first second) o (translate_image second i)
+  keeps None class i k f h = tt
+  keeps (Some v) class i k f h = ap (translate_value second) h ∙ value_composed from middle to first second is class v k (f v refl)
+
+  typed_at : (place : ℕ) (d : Declaration) → slice_get from place ≡ Some d → IsTypedAt to (compose first second) d
+  typed_at place d e =
+      let t = is.first_is.typed place d e in
+      let known = declared_typed from is.first_is.source place d e in
+      let class : IsClass middle t.image.class = subst (IsClass middle) (sym t.class) (class_carried from middle first is.first_is d.class known.class) in
+      record {
+        image = translate_image second t.image;
+        mapped = composed first second d.name ∙ ap (option_map (translate_image second)) t.mapped;
+        class = ap (translate_class second) t.class ∙ class_composed from middle to first second is d.class known.class;
+        fits = value_carried middle to second is.second_is t.image.class t.image.value class t.fits;
+        value = keeps d.value d.class t.image known.class known.value t.value;
+      }
+
+pub objects_are_composed : ObjectsAreComposed
+objects_are_composed from middle to first second context m a is c f h = sym (object_composed from middle to first second is context m a c f h)
+
+pub families_are_composed : FamiliesAreComposed
+families_are_composed from middle to first second context a is c h = sym (family_composed from middle to first second is context a c h)
+
+pub kinds_are_composed : KindsAreComposed
+kinds_are_composed from middle to first second context k is c h = sym (kind_composed from middle to first second is context k c h)
+
+pub classes_are_composed : ClassesAreComposed
+classes_are_composed from middle to first second class is h = sym (class_composed from middle to first second is class h)
+
+pub values_are_composed : ValuesAreComposed
+values_are_composed from middle to first second class value is i h = sym (value_composed from middle to first second is class value i h)
+
+pub composition_is_proper : CompositionIsProper
+composition_is_proper from middle to first second is = proper from middle to first second is
+
+pub composition_is_typed : CompositionIsTyped
+composition_is_typed from middle to first second is =
+    record {
+      source = is.first_is.source;
+      target = is.second_is.target;
+      typed = λ place d e. typed_at from middle to first second is place d e;
+      atomic = λ c image e. proper_atomic image.value (proper from middle to first second is c image e);
+    }
