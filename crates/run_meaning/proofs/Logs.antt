@@ -14,7 +14,7 @@ use Rattle.walk_meaning.specs.Walks.{Dependencies, is_grounded}
 use Rattle.run_meaning.specs.ScriptCommands.{Command, EditCommand, ReportCommand, CheckCommand, FlatCommand, CarryCommand, LogCommand, BlankCommand}
 use Rattle.run_meaning.specs.ScriptItems.{Item, Spoken, script_of}
 use Rattle.run_meaning.specs.ScriptOutput.{log_after}
-use Rattle.run_meaning.specs.ScriptLogs.{command_of, commands_of, edits_of, log_through, script_log, Telling, told_of, command_told, told_from, script_told, is_told_of}
+use Rattle.run_meaning.specs.ScriptLogs.{command_of, commands_of, edits_of, log_through, script_log, Telling, told_of, told_of_all, command_told, told_from, script_told, is_told_of}
 use Rattle.run_meaning.specs.RunLaws.{Fault, BadLine, UnendedText, fault_items}
 
 -- ---- a log grows at its end
@@ -135,6 +135,11 @@ module _ (dependencies : Dependencies) where
       ∙ and_from (list_all is_told (command_told dependencies log command)) (list_all is_told (told_from dependencies (log_after log command) commands))
       (subst (λ (l : Log). list_all (is_told_of dependencies l) (command_told dependencies log command) ≡ true) (sym more.1) (command_at log more.0 command))
       (from_at (log_after log command) commands)
+
+  pub all_told_at : (log : Log) → list_all (is_told_of dependencies log) (told_of_all dependencies log) ≡ true
+  all_told_at log =
+      subst (λ (l : Log). list_all (is_told_of dependencies l) (told_of_all dependencies log) ≡ true) (append-nil log)
+      (all_flat (is_told_of dependencies (log ++ [])) (told_of dependencies log) (names_of (library_of log)) (told_at log []))
 
   pub tellings_are_grounded : (bytes : List ℕ) → list_all (is_told_of dependencies (script_log bytes)) (script_told dependencies bytes) ≡ true
   unfolding script_log script_told

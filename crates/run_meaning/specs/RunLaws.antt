@@ -12,6 +12,8 @@ use Rattle.run_meaning.specs.ScriptCommands.{kept, Command}
 use Rattle.run_meaning.specs.ScriptItems.{Item, Spoken, BadAt, UnendedAt, script_of}
 use Rattle.run_meaning.specs.ScriptOutput.{command_text, log_after, output_of, has_fault}
 use Rattle.run_meaning.specs.ScriptLogs.{edits_of, script_log, told_from, script_told, is_told_of}
+use Rattle.run_meaning.specs.Files.{File, load}
+use Rattle.run_meaning.specs.Folders.{folder_told}
 use Rattle.run_meaning.specs.WordLists.{Run, run_of}
 
 -- Read: a bad line, or a text without an end that begins at this line.
@@ -73,6 +75,11 @@ LongerBeginsWithIt =
 abbrev pub TellingsAreGrounded : Type 0
 TellingsAreGrounded =
     (dependencies : Dependencies) (bytes : List ℕ) → list_all (is_told_of dependencies (script_log bytes)) (script_told dependencies bytes) ≡ true
+
+-- Read: the same of what the lines of a folder tell.
+abbrev pub FolderTellingsAreGrounded : Type 0
+FolderTellingsAreGrounded =
+    (dependencies : Dependencies) (files : List File) → list_all (is_told_of dependencies (load files).log) (folder_told dependencies files) ≡ true
 
 -- Read: the log answers to a kept text what it answers to the text, and is left as by the text; and the same is printed.
 pub record IsKeptAlike (log : Log) (name : Name) (text : Text) : Type 0 where
