@@ -37,7 +37,8 @@ spoken_text judging log [] = []
 spoken_text judging log (command ∷ commands) = command_text judging log command ++ spoken_text judging (log_after log command) commands
 
 -- Read: a script is some commands and at most one fault, behind them; its output is the lines of the commands in order, and
--- then the line of the fault, if there is one; and the log that it leaves is that after the edits of the commands, in order.
+-- then the line of the fault, if there is one; the log that it leaves is that after the edits of the commands, in order; and
+-- its lines tell what those of the commands tell.
 pub record IsPlayed (judging : Judging) (bytes : List ℕ) : Type 0 where
   pub commands : List Command
   pub fault : Option Fault

@@ -27,7 +27,7 @@ edit_of (CarryCommand view judgement) = None
 edit_of LogCommand = None
 edit_of BlankCommand = None
 
--- Read: the edits that commands ask for, in order, those that are not made among them.
+-- Read: the edits that commands ask for, in order, whether they are made or not.
 abbrev pub edits_of : List Command → List Edit
 edits_of commands = filter_map edit_of commands
 
@@ -44,13 +44,13 @@ pub record Telling : Type 0 where
   pub name : Name
   pub version : ℕ
 
--- Read: what is told by the lines of a name over a log. Of an absent name there is nothing to tell, and an ungrounded one
--- has its verdict without an install.
+-- Read: what the lines of a name over a log tell of a module that is present and grounded. Of an absent name there is nothing
+-- to tell, and an ungrounded one has its verdict without an install.
 abbrev pub told_of : Dependencies → Log → Name → List Telling
 told_of dependencies log name =
     if is_grounded dependencies (library_of log) name then record { name = name; version = version_of log } ∷ [] else []
 
--- Read: what is told by the lines of all modules.
+-- Read: what the lines of all modules tell.
 abbrev pub told_of_all : Dependencies → Log → List Telling
 told_of_all dependencies log = flat_map (told_of dependencies log) (names_of (library_of log))
 
