@@ -65,7 +65,7 @@ pub record GoesOn (judging : Judging) (bytes longer : List ℕ) : Type 0 where
   pub edits : Log
   pub log : script_log longer ≡ script_log bytes ++ edits
 
--- Read: an input of whole commands, and one that begins with it: its output begins with that of the first.
+-- Read: an input of whole commands, and one that begins with it: its output and its log begin with those of the first.
 abbrev pub LongerBeginsWithIt : Type 0
 LongerBeginsWithIt =
     (judging : Judging) (bytes more : List ℕ) → ends_in_feed bytes ≡ true → has_fault (script_of bytes) ≡ false
