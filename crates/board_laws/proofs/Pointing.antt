@@ -12,7 +12,7 @@ use Rattle.board_meaning.specs.Claims.{claimed_name, claim_at, ends_claim, is_en
 use Rattle.board_meaning.specs.Ready.{is_closed, least_ready}
 use Rattle.board_meaning.specs.Machine.{Job, answers_of, job_after, job_of, claim_reply, edit_reply, Installed, IsInstalled, IsStale, install_event, install_reply, Call, EditCall, ClaimCall, InstallCall, ReleaseCall, CloseCall, event_of, is_by, may_call, after_call}
 use Rattle.board_meaning.specs.Legal.{MayFollow, IsLegal}
-use Rattle.board_meaning.specs.Points.{entries_of, are_of_others, IsPoint, BoardCall, Makes, Reports, AsksAnswers, AsksClosed, Reply, may_ask, added_by, Happens}
+use Rattle.board_meaning.specs.Points.{entries_of, are_of_others, IsPoint, BoardCall, Makes, Reports, AsksAnswers, AsksClosed, Reply, may_ask, added_by, Happens, FindsNoMemory}
 use Rattle.board_laws.specs.PointLaws.{IsSeenAfter}
 use Rattle.log_meaning.proofs.Places.{place_within, get_front, get_last, get_take, get_behind, take_front, take_length, length_take}
 use Rattle.board_meaning.proofs.Claiming.{claim_within, claim_front}
@@ -167,7 +167,7 @@ added_legal dependencies H pass (AsksAnswers name) l m = subst (IsLegal dependen
 added_legal dependencies H pass AsksClosed l m = subst (IsLegal dependencies) (sym (append-nil H)) l
 
 pub calls_are_seen : {Answer : Type 0} (subject : Subject Answer) (seen : History) (pass : ℕ) (call : BoardCall) (reply : Reply Answer) (after : History)
-    → (h : Happens subject seen pass call reply after) → IsSeenAfter subject seen pass call h.point after
+    → (h : Happens subject seen pass call reply after) → IsSeenAfter subject.dependencies seen pass (added_by subject.dependencies h.point pass call) after
 calls_are_seen subject seen pass call reply after h =
     let added : History = added_by subject.dependencies h.point pass call in
     record {
@@ -178,6 +178,20 @@ calls_are_seen subject seen pass call reply after h =
           ∙ ap (λ (z : History). z ++ entries_of pass added) (point_has_own subject.dependencies seen pass h.point h.at_point)
           ∙ ap (λ (z : History). entries_of pass seen ++ z) (added_own subject.dependencies h.point pass call);
     }
+
+pub wants_are_seen : (dependencies : Dependencies) (seen : History) (pass : ℕ) (call : BoardCall) (after : History) → FindsNoMemory dependencies seen pass call after
+    → IsSeenAfter dependencies seen pass [] after
+    × ((c : ℕ) → may_call seen pass (InstallCall c) ≡ true → may_call after pass (InstallCall c) ≡ true)
+wants_are_seen dependencies seen pass call after w =
+    let p : IsPoint dependencies seen pass after = subst (IsPoint dependencies seen pass) (sym w.sees) w.at_point in (
+      record {
+        legal = p.legal;
+        later = p.later;
+        begins = p.begins;
+        own = point_has_own dependencies seen pass after p ∙ sym (append-nil (entries_of pass seen));
+      },
+      λ c. (point_ends_no_claim dependencies seen pass after c p).0,
+    )
 
 -- ---- the job of a claim
 
@@ -215,11 +229,11 @@ job_name {Answer = Answer} subject H n job h = by (text_of (library_after H) n) 
     by None e = absurd (cc)
     by (Some t) e = let q : record { claim = length H; name = n; text = t; inputs = inputs_after subject.dependencies H n; answers = answers_of subject (library_after H) n } ≡ job = cc in ap (λ (z : Job Answer). z.claim) (sym q)
 
-pub job_may_end : {Answer : Type 0} (subject : Subject Answer) (H : History) (pass : ℕ) (job : Job Answer) → IsLegal subject.dependencies H → claim_reply subject H ≡ Some job
+job_stands : {Answer : Type 0} (subject : Subject Answer) (H : History) (pass : ℕ) (job : Job Answer) → IsLegal subject.dependencies H → claim_reply subject H ≡ Some job
     → (job_of subject (after_call subject.dependencies H pass ClaimCall) job.claim ≡ Some job)
     × (may_call (after_call subject.dependencies H pass ClaimCall) pass (InstallCall job.claim) ≡ true)
 unfolding after_call event_of job_of may_call is_open
-job_may_end {Answer = Answer} subject H pass job l h = by (least_ready subject.dependencies H) h
+job_stands {Answer = Answer} subject H pass job l h = by (least_ready subject.dependencies H) h
   where
     by : (o : Option Name) → option_and_then (job_after subject H) o ≡ Some job
         → (option_and_then (job_after subject (take job.claim (H ++ option_to_list (option_map (entry_of H pass) (option_map Claim o))))) (claim_at (H ++ option_to_list (option_map (entry_of H pass) (option_map Claim o))) job.claim) ≡ Some job)
@@ -237,3 +251,10 @@ job_may_end {Answer = Answer} subject H pass job l h = by (least_ready subject.d
       where
         claimed : claim_at (H ++ entry_of H pass (Claim n) ∷ []) (length H) ≡ Some n
         claimed = ap (option_and_then (λ (entry : Entry). claimed_name entry.event)) (get_last H (entry_of H pass (Claim n)))
+
+pub job_may_end : {Answer : Type 0} (subject : Subject Answer) (H : History) (pass : ℕ) (job : Job Answer) → IsLegal subject.dependencies H → claim_reply subject H ≡ Some job
+    → (job_of subject (after_call subject.dependencies H pass ClaimCall) job.claim ≡ Some job)
+    × (may_call (after_call subject.dependencies H pass ClaimCall) pass (InstallCall job.claim) ≡ true)
+    × (may_call (after_call subject.dependencies H pass ClaimCall) pass (ReleaseCall job.claim) ≡ true)
+unfolding may_call
+job_may_end subject H pass job l h = let q = job_stands subject H pass job l h in (q.0, q.1, q.1)

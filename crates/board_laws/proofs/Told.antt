@@ -133,8 +133,25 @@ unchanged_decides dependencies H c = (λ all. by (find (λ (input : Input). not 
         let found = find_found (λ (input : Input). not (is_unchanged H input)) (inputs_of dependencies H c) x e in
         absurd (true≢false (sym found.1 ∙ ap not (all_at (is_unchanged H) (inputs_of dependencies H c) x all found.0)))
 
-pub installed_decides : (dependencies : Dependencies) (H : History) (c : ℕ) (m : Name) → claim_at H c ≡ Some m → Decides (is_unedited dependencies H c) (install_reply dependencies H c ≡ IsInstalled)
-installed_decides dependencies H c m h = (unedited_installed dependencies H c m h, installed_unedited dependencies H c m h)
+no_inputs : (dependencies : Dependencies) (H : History) (c : ℕ) → claim_at H c ≡ None → inputs_of dependencies H c ≡ []
+unfolding inputs_of
+no_inputs dependencies H c e = ap (inputs_by dependencies (take c H)) e
+
+-- without a claim there are no inputs
+no_claim_decides : (dependencies : Dependencies) (H : History) (c : ℕ) → claim_at H c ≡ None → Decides (is_unedited dependencies H c) (install_reply dependencies H c ≡ IsInstalled)
+unfolding is_unedited install_reply first_changed
+no_claim_decides dependencies H c e =
+    let none = no_inputs dependencies H c e in (
+      λ u. ap (λ (inputs : List Input). installed_by (first_changed H inputs)) none,
+      λ r. ap (λ (inputs : List Input). not (list_any (is_edited_after H c) (input_names inputs))) none,
+    )
+
+pub installed_decides : (dependencies : Dependencies) (H : History) (c : ℕ) → Decides (is_unedited dependencies H c) (install_reply dependencies H c ≡ IsInstalled)
+installed_decides dependencies H c = by (claim_at H c) refl
+  where
+    by : (o : Option Name) → claim_at H c ≡ o → Decides (is_unedited dependencies H c) (install_reply dependencies H c ≡ IsInstalled)
+    by None e = no_claim_decides dependencies H c e
+    by (Some m) e = (unedited_installed dependencies H c m e, installed_unedited dependencies H c m e)
 
 pub report_tells : {Answer : Type 0} (subject : Subject Answer) (H : History) (n : Name) (answer : Answer) (version : ℕ)
     → (report_reply subject H n ≡ IsVerdict answer version → IsToldVerdict subject H n answer version)
@@ -177,16 +194,31 @@ claim_gives_job {Answer = Answer} subject H = by (least_ready subject.dependenci
         job_of_present subject H n
         (and_parts (is_present (library_after H) n) (not (is_ungrounded subject.dependencies (library_after H) n)) (ready_parts subject.dependencies H n (least_is_ready subject.dependencies H n e)).grounded).0
 
-pub report_tells_others : {Answer : Type 0} (subject : Subject Answer) (H : History) (n : Name) → AnswersPresent subject
+absent_told : {Answer : Type 0} (subject : Subject Answer) (H : History) (n : Name)
     → Decides (not (is_present (library_after H) n)) (report_reply subject H n ≡ IsAbsent (version_after H))
-    × Decides (is_present (library_after H) n && not (is_known subject.dependencies H n)) (report_reply subject H n ≡ IsPending (version_after H))
 unfolding report_reply
-report_tells_others {Answer = Answer} subject H n a =
+absent_told {Answer = Answer} subject H n = by (is_present (library_after H) n) (is_known subject.dependencies H n) (subject.answer (library_after H) n)
+  where
+    by : (present known : Bool) (o : Option Answer) → Decides (not present) (told_by (version_after H) present known o ≡ IsAbsent (version_after H))
+    by false known o = (λ h. refl, λ h. refl)
+    by true false o = (λ h. absurd (true≢false (sym h)), λ h. absurd (cc))
+    by true true None = (λ h. absurd (true≢false (sym h)), λ h. absurd (cc))
+    by true true (Some x) = (λ h. absurd (true≢false (sym h)), λ h. absurd (cc))
+
+pending_told : {Answer : Type 0} (subject : Subject Answer) (H : History) (n : Name) → AnswersPresent subject
+    → Decides (is_present (library_after H) n && not (is_known subject.dependencies H n)) (report_reply subject H n ≡ IsPending (version_after H))
+unfolding report_reply
+pending_told {Answer = Answer} subject H n a =
     by (is_known subject.dependencies H n) (subject.answer (library_after H) n) (is_present (library_after H) n) (a (library_after H) n (library_ascending (log_of H)))
   where
-    by : (known : Bool) (o : Option Answer) (present : Bool) → is_some o ≡ present
-        → Decides (not present) (told_by (version_after H) present known o ≡ IsAbsent (version_after H)) × Decides (present && not known) (told_by (version_after H) present known o ≡ IsPending (version_after H))
+    by : (known : Bool) (o : Option Answer) (present : Bool) → is_some o ≡ present → Decides (present && not known) (told_by (version_after H) present known o ≡ IsPending (version_after H))
     by known None true e = absurd (true≢false (sym e))
-    by known o false e = ((λ h. refl, λ h. refl), (λ h. absurd (true≢false (sym h)), λ h. absurd (cc)))
-    by true (Some x) true e = ((λ h. absurd (true≢false (sym h)), λ h. absurd (cc)), (λ h. absurd (true≢false (sym h)), λ h. absurd (cc)))
-    by false (Some x) true e = ((λ h. absurd (true≢false (sym h)), λ h. absurd (cc)), (λ h. refl, λ h. refl))
+    by known o false e = (λ h. absurd (true≢false (sym h)), λ h. absurd (cc))
+    by true (Some x) true e = (λ h. absurd (true≢false (sym h)), λ h. absurd (cc))
+    by false (Some x) true e = (λ h. refl, λ h. refl)
+
+pub report_tells_others : {Answer : Type 0} (subject : Subject Answer) (H : History) (n : Name)
+    → Decides (not (is_present (library_after H) n)) (report_reply subject H n ≡ IsAbsent (version_after H))
+    × (AnswersPresent subject
+    → Decides (is_present (library_after H) n && not (is_known subject.dependencies H n)) (report_reply subject H n ≡ IsPending (version_after H)))
+report_tells_others subject H n = (absent_told subject H n, pending_told subject H n)

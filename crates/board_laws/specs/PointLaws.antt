@@ -1,5 +1,5 @@
 -- Laws of the points of calls (this profile).
-use Rattle.std.specs.Prelude.{◌≡◌, ℕ, true, ◌++◌, take, Some}
+use Rattle.std.specs.Prelude.{◌≡◌, ℕ, true, [], ◌++◌, take, Some}
 use Rattle.log_meaning.specs.Names.{Name}
 use Rattle.walk_meaning.specs.Walks.{Dependencies}
 use Rattle.walk_meaning.specs.Subject.{Subject}
@@ -7,7 +7,7 @@ use Rattle.board_meaning.specs.Events.{History}
 use Rattle.board_meaning.specs.Claims.{claim_at}
 use Rattle.board_meaning.specs.Machine.{Job, job_of, claim_reply, ClaimCall, InstallCall, ReleaseCall, may_call, after_call}
 use Rattle.board_meaning.specs.Legal.{IsLegal}
-use Rattle.board_meaning.specs.Points.{entries_of, IsPoint, BoardCall, Reply, added_by, Happens}
+use Rattle.board_meaning.specs.Points.{entries_of, IsPoint, BoardCall, Reply, added_by, Happens, FindsNoMemory}
 
 -- Read: where no other pass has made an entry, what a pass has seen is the point.
 abbrev pub SeenIsPoint : Type 0
@@ -35,23 +35,35 @@ PointHasOwnEntries =
     (dependencies : Dependencies) (seen : History) (pass : ℕ) (point : History) → IsPoint dependencies seen pass point
     → entries_of pass point ≡ entries_of pass seen
 
--- Read: after a call that happens at a point the pass has seen a legal history, which begins with what it had seen; and its
--- own entries are those that it had made, and then the call's.
-pub record IsSeenAfter {Answer : Type 0} (subject : Subject Answer) (seen : History) (pass : ℕ) (call : BoardCall) (point after : History) : Type 0 where
-  pub legal : IsLegal subject.dependencies after
+-- Read: after a call that added these entries the pass has seen a legal history, which begins with what it had seen; and its
+-- own entries are those that it had made, and then these.
+pub record IsSeenAfter (dependencies : Dependencies) (seen : History) (pass : ℕ) (added after : History) : Type 0 where
+  pub legal : IsLegal dependencies after
   pub later : History
   pub begins : after ≡ seen ++ later
-  pub own : entries_of pass after ≡ entries_of pass seen ++ added_by subject.dependencies point pass call
+  pub own : entries_of pass after ≡ entries_of pass seen ++ added
 
+-- Read: a call that happens at a point adds its entry, if it makes one.
 abbrev pub CallsAreSeen : Type 0 → Type 0
 CallsAreSeen Answer =
     (subject : Subject Answer) (seen : History) (pass : ℕ) (call : BoardCall) (reply : Reply Answer) (after : History)
-    → (happens : Happens subject seen pass call reply after) → IsSeenAfter subject seen pass call happens.point after
+    → (happens : Happens subject seen pass call reply after)
+    → IsSeenAfter subject.dependencies seen pass (added_by subject.dependencies happens.point pass call) after
 
--- Read: the pass that was handed a job by a claim may end that claim, and the job is that of the claim.
+-- Read: a call that finds no memory adds nothing, and leaves its pass each claim that it could end.
+abbrev pub WantsAreSeen : Type 0
+WantsAreSeen =
+    (dependencies : Dependencies) (seen : History) (pass : ℕ) (call : BoardCall) (after : History)
+    → FindsNoMemory dependencies seen pass call after
+    → IsSeenAfter dependencies seen pass [] after
+    × ((claim : ℕ) → may_call seen pass (InstallCall claim) ≡ true → may_call after pass (InstallCall claim) ≡ true)
+
+-- Read: the pass that was handed a job by a claim may end that claim, by an install or a release, and the job is that of the
+-- claim.
 abbrev pub JobsMayBeEnded : Type 0 → Type 0
 JobsMayBeEnded Answer =
     (subject : Subject Answer) (history : History) (pass : ℕ) (job : Job Answer) → IsLegal subject.dependencies history
     → claim_reply subject history ≡ Some job
     → (job_of subject (after_call subject.dependencies history pass ClaimCall) job.claim ≡ Some job)
     × (may_call (after_call subject.dependencies history pass ClaimCall) pass (InstallCall job.claim) ≡ true)
+    × (may_call (after_call subject.dependencies history pass ClaimCall) pass (ReleaseCall job.claim) ≡ true)

@@ -119,7 +119,7 @@ StaleTellsFirstChanged =
 -- the claim.
 abbrev pub InstalledIsUnedited : Type 0
 InstalledIsUnedited =
-    (dependencies : Dependencies) (history : History) (claim : ℕ) (of : Name) → claim_at history claim ≡ Some of
+    (dependencies : Dependencies) (history : History) (claim : ℕ)
     → Decides (is_unedited dependencies history claim) (install_reply dependencies history claim ≡ IsInstalled)
 
 abbrev pub InstalledIsUnchanged : Type 0
@@ -147,9 +147,11 @@ abbrev pub ClaimGivesJob : Type 0 → Type 0
 ClaimGivesJob Answer =
     (subject : Subject Answer) (history : History) → is_some (claim_reply subject history) ≡ is_some (least_ready subject.dependencies history)
 
--- Read: a report tells that a name is absent, or that its verdict is to come, exactly where it is so.
+-- Read: a report tells that a name is absent exactly where it is; and of a subject that answers of the present names that a
+-- verdict is to come exactly where it is so.
 abbrev pub ReportTellsOthers : Type 0 → Type 0
 ReportTellsOthers Answer =
-    (subject : Subject Answer) (history : History) (name : Name) → AnswersPresent subject
+    (subject : Subject Answer) (history : History) (name : Name)
     → Decides (not (is_present (library_after history) name)) (report_reply subject history name ≡ IsAbsent (version_after history))
-    × Decides (is_present (library_after history) name && not (is_known subject.dependencies history name)) (report_reply subject history name ≡ IsPending (version_after history))
+    × (AnswersPresent subject
+    → Decides (is_present (library_after history) name && not (is_known subject.dependencies history name)) (report_reply subject history name ≡ IsPending (version_after history)))

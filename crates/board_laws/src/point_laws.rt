@@ -1,6 +1,6 @@
 //! The points of calls through passes.
 
-ghost use Rattle.board_laws.specs.PointLaws.{SeenIsPoint, OthersEndNoClaim, PointHasOwnEntries, PointKeepsJob, JobsMayBeEnded, CallsAreSeen};
+ghost use Rattle.board_laws.specs.PointLaws.{SeenIsPoint, OthersEndNoClaim, PointHasOwnEntries, PointKeepsJob, JobsMayBeEnded, CallsAreSeen, WantsAreSeen};
 
 /// What a pass has seen of its claims holds at the point of its call.
 pub fn law_points()
@@ -15,7 +15,9 @@ pub fn law_jobs<A>()
     ensures may_end { JobsMayBeEnded A }
 {}
 
-/// After a call that happens at a point the pass has seen a legal history, with its own entries in their order.
+/// After a call that happens at a point, or finds no memory there, the pass has seen a legal history, with its own entries in
+/// their order.
 pub fn law_calls<A>()
-    ensures { CallsAreSeen A }
+    ensures happens { CallsAreSeen A }
+    ensures no_memory { WantsAreSeen }
 {}

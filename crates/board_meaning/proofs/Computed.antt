@@ -11,7 +11,7 @@ use Rattle.board_meaning.specs.Standing.{installed_claims, is_edited, is_unedite
 use Rattle.board_meaning.specs.Ready.{is_closed, dependencies_stand, is_ready, least_ready}
 use Rattle.board_meaning.specs.Machine.{answers_of, job_after, job_of, install_reply, report_reply, answers_reply, event_of, may_call, after_call}
 use Rattle.board_meaning.specs.Legal.{after_calls, may_make_all}
-use Rattle.board_meaning.specs.Examples.{JobHasStamps, InstallIsStale, WayBackIsStale, StaleIsPending, ClaimedAgain, SecondInstallIsInstalled, VerdictIsTold, NothingIsReady, CallsMayBeMade, AbsentNameIsInput, BothStand, OnlyDependantFalls, DependencyComesFirst, RingIsTold, RingIsNotReady, DroppedIsAbsent, ClosedIsNotReady, OthersMayNotCall}
+use Rattle.board_meaning.specs.Examples.{JobHasStamps, InstallIsStale, WayBackIsStale, StaleIsPending, ClaimedAgain, SecondInstallIsInstalled, VerdictIsTold, NothingIsReady, CallsMayBeMade, AbsentNameIsInput, BothStand, OnlyDependantFalls, DependencyComesFirst, RingIsTold, RingIsNotReady, DroppedIsAbsent, ClosedIsNotReady, ClosedIsUsed, ClosedTellsVerdict, OthersMayNotCall}
 
 -- What all examples compute with.
 abbrev machine : Unit {0}
@@ -85,6 +85,14 @@ dropped_is_absent = refl
 pub closed_is_not_ready : ClosedIsNotReady
 unfolding machine
 closed_is_not_ready = refl
+
+pub closed_is_used : ClosedIsUsed
+unfolding machine
+closed_is_used = refl
+
+pub closed_tells_verdict : ClosedTellsVerdict
+unfolding machine
+closed_tells_verdict = refl
 
 pub others_may_not_call : OthersMayNotCall
 unfolding machine

@@ -7,7 +7,7 @@ use Rattle.walk_meaning.specs.Subject.{Subject}
 use Rattle.board_meaning.specs.Events.{History}
 use Rattle.board_meaning.specs.Claims.{Input}
 use Rattle.board_meaning.specs.Standing.{stands}
-use Rattle.board_meaning.specs.Machine.{claim_reply, IsInstalled, IsStale, install_reply, IsVerdict, IsPending, IsAbsent, report_reply, Call, EditCall, ClaimCall, InstallCall, CloseCall}
+use Rattle.board_meaning.specs.Machine.{claim_reply, IsInstalled, IsStale, install_reply, IsVerdict, IsPending, IsAbsent, report_reply, Call, EditCall, ClaimCall, InstallCall, ReleaseCall, CloseCall}
 use Rattle.board_meaning.specs.Legal.{PassCall, after_calls, may_make_all}
 
 -- Read: a small subject. Each byte of a text is the name of a dependency, and the answer of a name is the number of
@@ -133,9 +133,20 @@ RingIsNotReady = claim_reply counted (played ring) ≡ None
 abbrev pub DroppedIsAbsent : Type 0
 DroppedIsAbsent = report_reply counted (played (put A [] ∷ by_front (EditCall (Drop A)) ∷ [])) A ≡ IsAbsent 2
 
--- Once the board is closed nothing is ready, and what was claimed may still be installed.
+-- Once the board is closed nothing is ready.
 abbrev pub ClosedIsNotReady : Type 0
 ClosedIsNotReady = claim_reply counted (played (put A [] ∷ by_front CloseCall ∷ [])) ≡ None
+
+-- What was claimed before may still be installed or released, and edits are still made.
+abbrev pub used_after_close : List PassCall
+used_after_close =
+    put A [] ∷ put C [] ∷ by_worker ClaimCall ∷ by_worker ClaimCall ∷ by_front CloseCall ∷ by_worker (InstallCall 2) ∷ by_worker (ReleaseCall 3) ∷ put B [] ∷ []
+
+abbrev pub ClosedIsUsed : Type 0
+ClosedIsUsed = may_make_all letters [] used_after_close ≡ true
+
+abbrev pub ClosedTellsVerdict : Type 0
+ClosedTellsVerdict = map (report_reply counted (played used_after_close)) (A ∷ B ∷ C ∷ []) ≡ IsVerdict 1 3 ∷ IsPending 3 ∷ IsPending 3 ∷ []
 
 -- A worker may not edit, nor install what another pass has claimed.
 abbrev pub OthersMayNotCall : Type 0

@@ -84,3 +84,11 @@ pub record Happens {Answer : Type 0} (subject : Subject Answer) (seen : History)
   pub may : may_ask point pass call ≡ true
   pub replies : reply ≡ reply_of subject point call
   pub sees : after ≡ point ++ added_by subject.dependencies point pass call
+
+-- Read: a call through a pass that has seen these entries finds no memory: it has a point, at which the pass may make it; it
+-- makes no entry there, and the pass has then seen the point.
+pub record FindsNoMemory (dependencies : Dependencies) (seen : History) (pass : ℕ) (call : BoardCall) (after : History) : Type 0 where
+  pub point : History
+  pub at_point : IsPoint dependencies seen pass point
+  pub may : may_ask point pass call ≡ true
+  pub sees : after ≡ point

@@ -1,6 +1,6 @@
 //! Worked examples: each function does nothing, and its contract is proved by computing.
 
-ghost use Rattle.board_meaning.specs.Examples.{JobHasStamps, InstallIsStale, WayBackIsStale, StaleIsPending, ClaimedAgain, SecondInstallIsInstalled, VerdictIsTold, NothingIsReady, CallsMayBeMade, AbsentNameIsInput, BothStand, OnlyDependantFalls, DependencyComesFirst, RingIsTold, RingIsNotReady, DroppedIsAbsent, ClosedIsNotReady, OthersMayNotCall};
+ghost use Rattle.board_meaning.specs.Examples.{JobHasStamps, InstallIsStale, WayBackIsStale, StaleIsPending, ClaimedAgain, SecondInstallIsInstalled, VerdictIsTold, NothingIsReady, CallsMayBeMade, AbsentNameIsInput, BothStand, OnlyDependantFalls, DependencyComesFirst, RingIsTold, RingIsNotReady, DroppedIsAbsent, ClosedIsNotReady, ClosedIsUsed, ClosedTellsVerdict, OthersMayNotCall};
 
 /// A name is put again, and put back, between a claim and its install.
 pub fn stale_install()
@@ -29,5 +29,7 @@ pub fn other_replies()
     ensures ring_not_ready { RingIsNotReady }
     ensures dropped { DroppedIsAbsent }
     ensures closed { ClosedIsNotReady }
+    ensures closed_used { ClosedIsUsed }
+    ensures closed_told { ClosedTellsVerdict }
     ensures may_not { OthersMayNotCall }
 {}

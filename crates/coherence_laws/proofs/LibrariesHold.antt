@@ -1,11 +1,11 @@
 -- The faces of all accepted modules of a library are coherent.
-use Rattle.std.proofs.Common.{◌≡◌, ℕ, zero, suc, Bool, true, false, cond, not, [], ◌∷◌, filter, length, Option, Some, None, is_some, Ok, Err, ◌⊎◌, inl, inr, ⊎_elim, refl, sym, ap, ◌∙◌, subst, true≢false}
+use Rattle.std.proofs.Common.{◌≡◌, ℕ, zero, suc, Bool, true, false, cond, not, List, [], ◌∷◌, filter, length, Option, Some, None, is_some, Ok, Err, ◌⊎◌, inl, inr, ⊎_elim, refl, sym, ap, ◌∙◌, subst, true≢false}
 use Rattle.std.specs.Prelude.{⊤}
 use Rattle.std.proofs.lemmas.Bool.{cases_Bool}
 use Rattle.lf_meaning.specs.Signatures.{same_name as same_bytes}
 use Rattle.lf_meaning.proofs.Equality.{same_name_sound}
 use Rattle.log_meaning.specs.Names.{Name, Text, same_name, is_among}
-use Rattle.log_meaning.specs.Log.{Library, text_of}
+use Rattle.log_meaning.specs.Log.{Library, text_of, is_present}
 use Rattle.log_meaning.proofs.Members.{Member, filter_in}
 use Rattle.log_meaning.proofs.Order.{member_among, same_sound, same_itself}
 use Rattle.walk_meaning.specs.Walks.{of_text, direct, walking, is_ungrounded}
@@ -25,12 +25,12 @@ use Rattle.link_meaning.proofs.Valued.{demand_holds}
 use Rattle.verdict_meaning.specs.Dependencies.{Dependency, first_name, dependencies}
 use Rattle.verdict_meaning.specs.Modules.{empty_theory, declare_all, checked_view}
 use Rattle.verdict_meaning.specs.Verdicts.{Interface, Theory, View, Verdict, Accepted, Refused, verdict_by, known_by, written_name, checked, cycle_at, judge_tree, judge_answer, judge}
-use Rattle.verdict_meaning.specs.Rounds.{verdict_under, known_if, others_reached, ungrounded_names, verdicts, verdict_of}
+use Rattle.verdict_meaning.specs.Rounds.{verdict_under, known_if, known_of, others_reached, ungrounded_names, verdicts, verdict_of}
 use Rattle.verdict_meaning.specs.VerdictLaws.{known_to}
 use Rattle.verdict_meaning.proofs.Shortness.{Short, short_reached, reach_within_reach}
 use Rattle.verdict_meaning.proofs.Rounds.{in_others}
 use Rattle.verdict_meaning.proofs.Verdicts.{not_ungrounded, verdict_exactly, verdict_is_judged, ungrounded_is_cycle}
-use Rattle.coherence_laws.specs.CoherenceLaws.{told_by, FacesAreCoherent, GroundedKnowCoherent}
+use Rattle.coherence_laws.specs.CoherenceLaws.{told_by, AreClosed, FacesAreCoherent, GroundedKnowCoherent, ClosedAreCoherent}
 use Rattle.coherence_laws.proofs.ModulesHold.{declare_all_holds, empty_holds, view_holds}
 use Rattle.coherence_laws.proofs.Transfer.{Extends, theory_transfers, view_transfers}
 
@@ -259,6 +259,49 @@ module _ (library : Library) where
             view_transfers (known_to library name) (told_by library) d.coherent (tells_more name) name face (view_shown (known_to library name) name v.verdict face v.known_is (d.holds v.verdict v.is)));
       }
 
+  -- ---- names that are closed under their reach
+
+  known_in : (names : List Name) (y : Name) (b : Bool) → is_among names y ≡ b → known_of names (verdicts library) y ≡ cond b (known_if (verdict_under (verdicts library) y)) IsAbsent
+  known_in names y b e = ap (λ z. cond z (known_if (verdict_under (verdicts library) y)) IsAbsent) e
+
+  none_known : (o : Option Verdict) → is_some o ≡ false → known_if o ≡ IsAbsent
+  none_known None h = refl
+  none_known (Some verdict) h = absurd (true≢false h)
+
+  absent_known : (y : Name) → is_present library y ≡ false → known_if (verdict_under (verdicts library) y) ≡ IsAbsent
+  absent_known y e = sym (told_under y) ∙ none_known (verdict_of library y) (verdict_exactly library y ∙ e)
+
+  closed_extends : (names : List Name) → AreClosed library names → (name : Name) → is_among names name ≡ true → Extends (known_to library name) (known_of names (verdicts library))
+  closed_extends names closed name n y = by (is_among (others_reached library name) y) (is_present library y) refl refl
+    where
+      by : (b p : Bool) → is_among (others_reached library name) y ≡ b → is_present library y ≡ p
+          → (known_to library name y ≡ IsAbsent) ⊎ (known_of names (verdicts library) y ≡ known_to library name y)
+      by false p e q = inl (known_here name y false e)
+      by true false e q = inl (known_here name y true e ∙ absent_known y q)
+      by true true e q =
+          inr (known_in names y true (closed name y n (member_among (reach dependencies library name) y (in_others library name y e).0) q) ∙ sym (known_here name y true e))
+
+  listed : (names : List Name) (x : Name) (known : Known) → known_of names (verdicts library) x ≡ known → (known ≡ IsAbsent → ⊥)
+      → (is_among names x ≡ true) × Told (verdict_of library x) known
+  listed names x known e q = by (is_among names x) refl
+    where
+      by : (b : Bool) → is_among names x ≡ b → (is_among names x ≡ true) × Told (verdict_of library x) known
+      by true g = (g, told (verdict_of library x) known (told_under x ∙ sym (known_in names x true g) ∙ e) q)
+      by false g = absurd (q (sym e ∙ known_in names x false g))
+
+  closed_coherent : (names : List Name) → AreClosed library names → IsCoherent (known_of names (verdicts library))
+  closed_coherent names closed =
+      record {
+        theories = λ name face e. (let r = listed names name (IsTheory face) e (λ q. absurd (cc)) in
+            let v = r.1 in
+            let d = sound (length library) name (accepted_theory name v.verdict face v.is v.known_is) in
+            theory_transfers (known_to library name) (known_of names (verdicts library)) d.coherent (closed_extends names closed name r.0) name face (theory_shown (known_to library name) name v.verdict face v.known_is (d.holds v.verdict v.is)));
+        views = λ name face e. (let r = listed names name (IsView face) e (λ q. absurd (cc)) in
+            let v = r.1 in
+            let d = sound (length library) name (accepted_view name v.verdict face v.is v.known_is) in
+            view_transfers (known_to library name) (known_of names (verdicts library)) d.coherent (closed_extends names closed name r.0) name face (view_shown (known_to library name) name v.verdict face v.known_is (d.holds v.verdict v.is)));
+      }
+
 pub grounded_know_coherent : GroundedKnowCoherent
 unfolding ungrounded_names
 grounded_know_coherent library name g =
@@ -267,3 +310,6 @@ grounded_know_coherent library name g =
 
 pub faces_are_coherent : FacesAreCoherent
 faces_are_coherent library = library_coherent library
+
+pub closed_are_coherent : ClosedAreCoherent
+closed_are_coherent library names closed = closed_coherent library names closed

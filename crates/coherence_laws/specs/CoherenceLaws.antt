@@ -1,13 +1,14 @@
 -- Laws of coherence (this profile).
-use Rattle.std.specs.Prelude.{◌≡◌, true}
-use Rattle.log_meaning.specs.Names.{Name}
-use Rattle.log_meaning.specs.Log.{Library}
+use Rattle.std.specs.Prelude.{◌≡◌, true, List}
+use Rattle.log_meaning.specs.Names.{Name, is_among}
+use Rattle.log_meaning.specs.Log.{Library, is_present}
 use Rattle.library_meaning.specs.Faces.{Environment}
 use Rattle.library_meaning.specs.Coherence.{IsCoherent}
 use Rattle.verdict_meaning.specs.Dependencies.{dependencies}
-use Rattle.verdict_meaning.specs.Rounds.{known_if, verdict_of}
+use Rattle.verdict_meaning.specs.Rounds.{known_if, known_of, verdicts, verdict_of}
 use Rattle.verdict_meaning.specs.VerdictLaws.{known_to}
 use Rattle.walk_meaning.specs.Walks.{is_grounded}
+use Rattle.walk_meaning.specs.Reach.{reach}
 
 -- Read: what the verdicts of a library tell of each name.
 abbrev pub told_by : Library → Environment
@@ -20,3 +21,13 @@ FacesAreCoherent = (library : Library) → IsCoherent (told_by library)
 -- Read: so is all that a grounded module knows of others.
 abbrev pub GroundedKnowCoherent : Type 0
 GroundedKnowCoherent = (library : Library) (name : Name) → is_grounded dependencies library name ≡ true → IsCoherent (known_to library name)
+
+-- Read: with each of these names they have every present name of its reach.
+abbrev pub AreClosed : Library → List Name → Type 0
+AreClosed library names =
+    (name other : Name) → is_among names name ≡ true → is_among (reach dependencies library name) other ≡ true
+    → is_present library other ≡ true → is_among names other ≡ true
+
+-- Read: so is what the verdicts of a library tell of such names, where of all others nothing is known.
+abbrev pub ClosedAreCoherent : Type 0
+ClosedAreCoherent = (library : Library) (names : List Name) → AreClosed library names → IsCoherent (known_of names (verdicts library))

@@ -42,8 +42,8 @@ CarriedJudgement =
 
 abbrev pub ChangedPrefix : Type 0
 ChangedPrefix =
-    play_output (put_view (codes "x1 : u.\n") ++ codes "flat F\n")
-    ≡ codes "@1 put S\n@2 put U\n@3 put F\nF @3 map 4\nt := u.\nz := z.\nf := [x'1] g x'1 x'1.\napp := [x'1] x'1 (x'1 z).\n"
+    play_output (put_view (codes "x1 : u.\n") ++ codes "carry F f (f z) : t\ncarry F app ([x] f x) : t\ncarry F f f : t\ncarry S z : t\nflat F\n")
+    ≡ codes "@1 put S\n@2 put U\n@3 put F\nF @3 carries g (g z z) (g z z) : u\nF @3 carries g (g z z) (g z z) : u\nF @3 ill 3 mismatch\nS @3 no-view\nF @3 map 4\nt := u.\nz := z.\nf := [x'1] g x'1 x'1.\napp := [x'1] x'1 (x'1 z).\n"
 
 abbrev pub Cycle : Type 0
 Cycle =

@@ -1,8 +1,8 @@
 -- The judging of the rules: that of the verdict of each module over its library (this profile).
-use Rattle.std.specs.Prelude.{ℕ, List, [], ◌∷◌, Option, Some, None, codes}
+use Rattle.std.specs.Prelude.{[], Option, Some, None}
 use Rattle.log_meaning.specs.Names.{Name, Text}
 use Rattle.log_meaning.specs.Log.{Library}
-use Rattle.library_meaning.specs.Faces.{Known, IsAbsent, Environment}
+use Rattle.library_meaning.specs.Faces.{Environment}
 use Rattle.link_meaning.specs.Refusals as refusals
 use Rattle.expansion_meaning.specs.Rules.{word_of}
 use Rattle.verdict_meaning.specs.Dependencies.{dependencies}

@@ -1,5 +1,5 @@
--- What holds of all that is known of modules when it was made by the rules (this profile). Every operation over an
--- environment asks for it.
+-- What holds of all that is known of modules when it was made by the rules (this profile). The laws of links and of faces ask
+-- for it; those of resolution and expansion ask for nothing.
 use Rattle.std.specs.Prelude.{◌≡◌, ◌≢◌, ℕ, ◌<◌, true, List, [], ◌∷◌, map, take, length, slice_get, Some, IsSome}
 use Rattle.lf_meaning.specs.Terms.{Name, Path, Constant}
 use Rattle.lf_meaning.specs.Signatures.{Declaration, Signature, declaration_of}

@@ -68,8 +68,7 @@ the_only [] = Unknown
 the_only (declaration ∷ []) = Declared declaration
 the_only (first ∷ second ∷ declarations) = Ambiguous
 
--- Read: the first of these that applies: a bound variable; an own constant; a constant of an included theory that is named
--- in front; the one constant that included theories have at the path.
+-- Read: the variable, if there is one; the declaration, if there is one; else what else the path stands for.
 abbrev pub or_variable : Option ℕ → Resolved → Resolved
 or_variable None otherwise = otherwise
 or_variable (Some index) otherwise = Variable index
@@ -78,6 +77,8 @@ abbrev pub or_declared : Option Declaration → Resolved → Resolved
 or_declared None otherwise = otherwise
 or_declared (Some declaration) otherwise = Declared declaration
 
+-- Read: the first of these that applies: a bound variable; an own constant; a constant of an included theory that is named
+-- in front; the one constant that included theories have at the path.
 unfoldable pub resolve : Scope → Variables → Path → Resolved
 resolve scope variables path =
     or_variable (bound_variable variables path)

@@ -11,9 +11,9 @@ use Rattle.link_meaning.specs.Assignments.{Setting, Assigned, Covering, Sharing,
 abbrev pub Means : Setting → List Written → Link → Type 0
 Means setting words by = row_meaning setting.environment setting.here (paths_of words) ≡ RowMeans by
 
--- Read: a value is for an own constant of the domain; an inclusion has a link whose ends meet those of the covering; a
--- structure of the domain, or of a structure's domain and so on, has a link whose ends meet its own. No target overlaps an
--- earlier one.
+-- Read: a value is for an own constant of the domain; an inclusion has a link from a theory that the domain includes into the
+-- codomain, or into a theory that this includes; a structure of the domain, or of a structure's domain and so on, has a link
+-- from its own domain, or from a theory that includes that, and into the same. No target overlaps an earlier one.
 abbrev pub AssignReads : Setting → List Path → Assign → Assigned → Type 0
 AssignReads setting earlier (ConstAssign target value) assigned =
     IsSome (own_at (own_part setting.environment setting.domain) target.path) × (is_free earlier target.path ≡ true) × (assigned ≡ Giving target.path value)

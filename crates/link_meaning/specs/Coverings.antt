@@ -20,12 +20,13 @@ pub record Cover : Type 0 where
   pub first : Span
   pub map : HeadMap
 
--- Read: the assignment covers the theory: its link is from that theory, or from one that includes it.
+-- Read: this map, with the place of its first word, where it covers.
 abbrev pub cover_if : Bool → Span → HeadMap → Option Cover
 cover_if true first map = Some (record { first = first; map = map })
 cover_if false first map = None
 
--- Read: what an assignment covers a theory by, if it does.
+-- Read: what an assignment covers a theory by, if it does: it is an inclusion, and its link is from that theory, or from one
+-- that includes it.
 abbrev pub cover_by : Environment → Name → Assigned → Option Cover
 cover_by environment theory (Covering first by) = cover_if (is_or_includes environment by.domain theory) first by.map
 cover_by environment theory (Sharing target structure first by) = None

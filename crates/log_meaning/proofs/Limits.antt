@@ -1,9 +1,12 @@
 -- What an edit that is made has passed, and the limits of the log.
 use Rattle.std.proofs.Common.{◌≡◌, ℕ, suc, ◌+◌, ◌<◌, ◌≤◌, Bool, true, false, not, cond, [], ◌∷◌, ◌++◌, length, filter, nat_le, nat_lt, ◌&&◌, ◌⊎◌, inl, inr, ⊎_elim, refl, sym, ap, ◌∙◌, subst, true≢false, arith, leb-false, ltb-false, length-append}
-use Rattle.std.proofs.lemmas.Bool.{and_cases, or_parts}
+use Rattle.std.specs.List.{list_all}
+use Rattle.std.proofs.lemmas.Bool.Decides.{nat_tests}
+use Rattle.std.proofs.lemmas.List.Folds.{list_all-append}
+use Rattle.std.proofs.lemmas.Bool.{and_cases, and_from, or_parts}
 use Rattle.log_meaning.specs.Names.{Name, Text, same_name, comes_before, is_ascending}
 use Rattle.log_meaning.specs.Log.{Edit, Put, Drop, Log, Module, Library, names_of, with_module, without_module, edited, library_of, text_of, is_present, version_of}
-use Rattle.log_meaning.specs.Append.{text_limit, module_limit, edit_limit, total_limit, Edited, Made, Same, Absent, Full, TooLong, TooMany, size_of, total_size, is_full, is_text, append_answer, log_after, appended}
+use Rattle.log_meaning.specs.Append.{text_limit, module_limit, edit_limit, total_limit, Edited, Made, Same, Absent, Full, TooLong, TooMany, size_of, is_short, total_size, is_full, is_text, append_answer, log_after, appended}
 use Rattle.log_meaning.specs.LogLaws.{IsWithinLimits}
 use Rattle.log_meaning.proofs.Libraries.{fold_last, library_last, library_ascending, names_with, present_among}
 use Rattle.log_meaning.proofs.Order.{among_member, with_present}
@@ -28,7 +31,17 @@ made_not_full log (Drop n) v h =
     let a = tested (not (is_present (library_of log) n)) (Absent (version_of log)) _ v (λ e. cc) h in
     last_test (is_full log (Drop n)) v (suc (version_of log)) a.1
 
--- a text that is put is no longer than its limit, and its name is there or there is room for it
+-- a text that is put is no longer than its limit
+pub made_short : (log : Log) (e : Edit) (v : ℕ) → append_answer log e ≡ Made v → is_short e ≡ true
+unfolding append_answer
+made_short log (Put n t) v h =
+    let a = tested (nat_lt text_limit (length t)) TooLong _ v (λ e. cc) h in by (length t) text_limit (ltb-false text_limit (length t) a.0)
+  where
+    by : (k l : ℕ) → k ≤ l → nat_le k l ≡ true
+    by k l le = grind (arith, nat_tests)
+made_short log (Drop n) v h = refl
+
+-- the name of a text that is put is there, or there is room for it
 pub made_put : (log : Log) (n : Name) (t : Text) (v : ℕ) → append_answer log (Put n t) ≡ Made v → (is_present (library_of log) n ≡ true) ⊎ (length (library_of log) < module_limit)
 unfolding append_answer
 made_put log n t v h =
@@ -87,6 +100,7 @@ made_within log e v h w =
     let p = made_not_full log e v h in
     let q = or_parts (nat_le edit_limit (version_of log)) (nat_lt total_limit (total_size log + size_of e)) p.0 in
     record {
+      texts = list_all-append is_short log (e ∷ []) ∙ and_from (list_all is_short log) (list_all is_short (e ∷ [])) w.texts (and_from (is_short e) true (made_short log e v h) refl);
       edits = let a = leb-false edit_limit (version_of log) q.0 in let b = length-append log (e ∷ []) in omega (arith, a, b);
       modules = subst (λ l. length l ≤ module_limit) (sym (library_last log e)) (room_after log e v h w.modules);
       total = let a = ltb-false total_limit (total_size log + size_of e) q.1 in let b = total_last log e in omega (arith, a, b);
@@ -106,4 +120,4 @@ limits_kept log e w = kept_by log e (append_answer log e) refl w
 
 pub empty_within : IsWithinLimits []
 unfolding library_of
-empty_within = record { edits = omega arith; modules = omega arith; total = omega arith }
+empty_within = record { texts = refl; edits = omega arith; modules = omega arith; total = omega arith }

@@ -1,5 +1,5 @@
 -- Which edits a log takes, and what it answers (this profile).
-use Rattle.std.specs.Prelude.{ℕ, suc, Bool, false, [], ◌∷◌, ◌++◌, ◌+◌, ◌^◌, ◌&&◌, ◌||◌, not, length, sum_by, nat_lt, nat_le, Option, Some, None, if◌then◌else◌}
+use Rattle.std.specs.Prelude.{ℕ, suc, Bool, false, List, [], ◌∷◌, ◌++◌, ◌+◌, ◌^◌, ◌&&◌, ◌||◌, not, length, sum_by, fold, nat_lt, nat_le, Option, Some, None, if◌then◌else◌}
 use Rattle.std.specs.Str.{bytes_eq}
 use Rattle.log_meaning.specs.Names.{Text}
 use Rattle.log_meaning.specs.Log.{Edit, Put, Drop, Log, library_of, text_of, is_present, version_of}
@@ -34,6 +34,10 @@ pub data Edited : Type 0 where
 abbrev pub size_of : Edit → ℕ
 size_of (Put name text) = length text
 size_of (Drop name) = 0
+
+-- Read: the edit puts no text that is longer than the limit of a text.
+abbrev pub is_short : Edit → Bool
+is_short edit = nat_le (size_of edit) text_limit
 
 -- Read: the sum of the lengths of all texts ever put.
 abbrev pub total_size : Log → ℕ
@@ -74,3 +78,7 @@ log_after log edit TooMany = log
 -- Read: the log after the edit.
 unfoldable pub appended : Log → Edit → Log
 appended log edit = log_after log edit (append_answer log edit)
+
+-- Read: the log after these edits, one after another.
+unfoldable pub appended_all : Log → List Edit → Log
+appended_all log edits = fold appended log edits

@@ -1,8 +1,9 @@
 -- Laws of the log and of the library that it leaves (this profile).
-use Rattle.std.specs.Prelude.{◌≡◌, suc, ◌≤◌, [], ◌∷◌, ◌++◌, length, Option, Some, None, if◌then◌else◌}
+use Rattle.std.specs.Prelude.{◌≡◌, true, suc, ◌≤◌, [], ◌∷◌, ◌++◌, length, Option, Some, None, if◌then◌else◌}
+use Rattle.std.specs.List.{list_all}
 use Rattle.log_meaning.specs.Names.{Name, Text, same_name, is_among}
 use Rattle.log_meaning.specs.Log.{Edit, Put, Drop, edited_name, Log, Library, names_of, library_of, text_of, is_present, version_of, stamp_of, IsLibrary}
-use Rattle.log_meaning.specs.Append.{module_limit, edit_limit, total_limit, total_size, appended}
+use Rattle.log_meaning.specs.Append.{module_limit, edit_limit, total_limit, is_short, total_size, appended}
 
 -- Read: what an edit leaves of its name.
 abbrev pub left_by : Edit → Option Text
@@ -33,8 +34,10 @@ EditDecidesStamp =
 abbrev pub StampsArePast : Type 0
 StampsArePast = (log : Log) (name : Name) → stamp_of log name ≤ version_of log
 
--- Read: the log keeps to all limits.
+-- Read: the log keeps to all limits: of each text that was put, of the edits, of the modules that are left, and of all texts
+-- together.
 pub record IsWithinLimits (log : Log) : Type 0 where
+  pub texts : list_all is_short log ≡ true
   pub edits : version_of log ≤ edit_limit
   pub modules : length (library_of log) ≤ module_limit
   pub total : total_size log ≤ total_limit

@@ -176,7 +176,7 @@ VerdictIsPrinted = judged_line logic (codes "Monoid") 3 (place_text []) (Accepte
 abbrev pub ViewVerdictIsPrinted : Type 0
 ViewVerdictIsPrinted = judged_line (library own_U) (codes "F") 3 (place_text []) (AcceptedView face_F) ≡ codes "F @3 accepted view 4\n"
 
--- The text of the theory of natural numbers with a misspelled name at byte 48, of the fourth line.
+-- The text of the theory of natural numbers with a misspelled name at byte 45, in the fourth line.
 abbrev pub RefusalIsPrinted : Type 0
 RefusalIsPrinted =
     judged_line logic (codes "Nat") 1 (place_text (codes "%sig Nat = {\nnat : type.\nz : nat.\ns : nat -> nta.\n}.\n"))
@@ -209,8 +209,8 @@ DefinitionsArePrinted =
     theory_text logic (codes "Nat") 2 numbers
     ≡ codes "Nat @2 flat 6\nnat : type.\nz : nat.\ns : nat -> nat.\nplus : nat -> nat -> nat.\nm.a : type = nat.\nm.op : nat -> nat -> nat = plus.\n"
 
--- A number of a binder counts the bodies that hold it, and not the domains: `{x1:{x1:nat} eq x1 x1} {x2:nat} eq x2 x2`
--- where the outer variable is used, and a family value prints its binders.
+-- A number of a binder counts the bodies that hold it, and not the domains: both binders of `{x1:{x1:nat} eq x1 x1} ..` have
+-- number 1.
 abbrev pub eq_of : ℕ → ℕ → Family
 eq_of first second = AtFamily (FamilyApp (FamilyApp (FamilyCon (in_Nat (codes "eq" ∷ []))) (variable first)) (variable second))
 
@@ -226,6 +226,7 @@ abbrev pub DomainsAreParenthesized : Type 0
 DomainsAreParenthesized =
     kind_text seen_from_Nat 0 (PiKind (Pi nat nat) (PiKind nat Ty)) ≡ codes "(nat -> nat) -> nat -> type"
 
+-- A family value prints its binders.
 abbrev pub FamilyValueIsPrinted : Type 0
 FamilyValueIsPrinted = value_text seen_from_Nat (FamilyValue 2 (eq_of 0 1)) ≡ codes "[x1] [x2] eq x2 x1"
 

@@ -1,8 +1,9 @@
 -- The names of printed variables: a prefix that no constant of the theory clashes with, and a number (this profile).
-use Rattle.std.specs.Prelude.{ℕ, zero, suc, Bool, false, List, [], ◌∷◌, ◌++◌, ◌&&◌, length, drop, sum_by, nat_eq, nat_le, if◌then◌else◌, codes}
+use Rattle.std.specs.Prelude.{ℕ, zero, suc, Bool, false, List, [], ◌∷◌, ◌++◌, ◌&&◌, length, drop, sum_by, nat_eq, if◌then◌else◌, codes}
 use Rattle.std.specs.List.{list_any, starts_with}
 use Rattle.lf_meaning.specs.Terms.{Name, Path}
 use Rattle.lf_meaning.specs.Signatures.{Declaration, Signature}
+use Rattle.printing_meaning.specs.Numbers.{is_digit}
 
 -- Read: so many marks `'`.
 unfoldable pub marks : ℕ → List ℕ
@@ -16,7 +17,7 @@ prefix_with count = codes "x" ++ marks count
 -- Read: the bytes begin with a digit.
 abbrev pub begins_with_digit : List ℕ → Bool
 begins_with_digit [] = false
-begins_with_digit (byte ∷ bytes) = nat_le 48 byte && nat_le byte 57
+begins_with_digit (byte ∷ bytes) = is_digit byte
 
 -- Read: the name begins with the prefix and a digit.
 abbrev pub is_numbered : List ℕ → Name → Bool
@@ -37,15 +38,16 @@ unfoldable pub free_from : Signature → ℕ → ℕ → ℕ
 free_from own zero count = count
 free_from own (suc tries) count = if is_taken own (prefix_with count) then free_from own tries (suc count) else count
 
--- Read: more bytes than any name of a path has that is one name.
+-- Read: how many bytes the names of a path have.
 abbrev pub length_of_path : Path → ℕ
 length_of_path path = sum_by length path
 
+-- Read: how many bytes the names of all own paths have: at least as many as any of these names has.
 abbrev pub enough : Signature → ℕ
 enough own = sum_by (λ (declaration : Declaration). length_of_path declaration.name.path) own
 
 -- Read: the prefix of the variables in what is seen from a theory with these own constants: `x` and the least number of
--- marks such that no own constant of one name begins with it and a digit. A prefix longer than every name is free, so the
--- search ends.
+-- marks such that no own constant of one name begins with it and a digit. A prefix that is as long as every name is free, so
+-- the search ends.
 unfoldable pub prefix_of : Signature → List ℕ
 prefix_of own = prefix_with (free_from own (enough own) 0)

@@ -8,7 +8,7 @@ pub fn law_prefix()
     ensures least { PrefixIsLeast }
 {}
 
-/// Numbers are printed in decimal digits.
+/// Numbers of at most 64 digits are printed in decimal digits, without a leading zero.
 pub fn law_numbers()
     ensures { NumbersAreDecimal }
 {}

@@ -12,7 +12,7 @@ use Rattle.printing_meaning.specs.Constants.{path_text}
 use Rattle.run_meaning.specs.Files.{with_file, module_files, pieces_answer, file_answer, load}
 use Rattle.run_meaning.specs.Folders.{folder_output}
 use Rattle.run_meaning.specs.Generator.{number_after, first_puts, later_puts, generated}
-use Rattle.run_meaning.specs.FolderExamples.{EmptyFolder, OtherFiles, BadFiles, PlacesAreInFiles, SecondOfName, DrawsAreMade, ParentsAreDrawn, EditsAreDrawn, TextsAreMade, FirstHasNoParent, EditsStandInOrder}
+use Rattle.run_meaning.specs.FolderExamples.{EmptyFolder, OtherFiles, BadFiles, PlacesAreInFiles, SecondOfName, SecondInFile, EndingAlone, DrawsAreMade, ParentsAreDrawn, EditsAreDrawn, TextsAreMade, FirstHasNoParent, EditsStandInOrder}
 
 abbrev computing : Unit {0}
 unfolding is_utf8 chars digits encode is_among with_module without_module library_of text_of append_answer appended lex cut_on divide_on divide path_text with_file module_files pieces_answer file_answer load folder_output number_after first_puts later_puts generated
@@ -37,6 +37,14 @@ places_are_in_files = refl
 pub second_of_name : SecondOfName
 unfolding computing
 second_of_name = refl
+
+pub second_in_file : SecondInFile
+unfolding computing
+second_in_file judging = refl
+
+pub ending_alone : EndingAlone
+unfolding computing
+ending_alone judging = refl
 
 pub draws_are_made : DrawsAreMade
 unfolding computing

@@ -7,7 +7,7 @@ use Rattle.output_meaning.specs.Commands.{text_before, behind_end}
 use Rattle.output_meaning.specs.Script.{line_after}
 use Rattle.output_meaning.proofs.Items.{behind_end-shorter}
 use Rattle.log_meaning.specs.Log.{Put}
-use Rattle.run_meaning.specs.ScriptCommands.{Command, EditCommand, Said, Puts, Says, Wrong, said_by, put_limit, Next, Ends, Gives, Bad, Unended, ended, put_of, next_by, next_of}
+use Rattle.run_meaning.specs.ScriptCommands.{kept, Command, EditCommand, Said, Puts, Says, Wrong, said_by, put_limit, Next, Ends, Gives, Bad, Unended, ended, put_of, next_by, next_of}
 use Rattle.run_meaning.specs.ScriptItems.{Item, Spoken, items_by, items_within, items_of}
 use Rattle.run_meaning.specs.ScriptOutput.{has_fault}
 use Rattle.run_meaning.specs.RunLaws.{Fault, BadLine, UnendedText, fault_items}
@@ -96,7 +96,7 @@ put_by true name text behind more spoken rest e = absurd cc
 put_by false name text None more spoken rest e = absurd cc
 put_by false name text (Some lines) more spoken rest e =
     let same : lines ≡ rest = cc in
-    let put : EditCommand (Put name text) ≡ spoken = cc in
+    let put : EditCommand (Put name (kept text)) ≡ spoken = cc in
     (ap Some same, ap (λ (c : Command). Gives c (rest ++ more)) put)
 
 put_of-append : (name : List ℕ) (lines more : List (List ℕ)) (spoken : Command) (rest : List (List ℕ)) → put_of name lines ≡ Gives spoken rest

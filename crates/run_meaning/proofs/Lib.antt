@@ -1,5 +1,7 @@
 pub mod Lines
 pub mod Items
+pub mod Logs
+pub mod Kept
 pub mod Outputs
 pub mod Workers
 pub mod ScriptsComputed

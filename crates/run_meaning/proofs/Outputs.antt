@@ -10,6 +10,7 @@ use Rattle.run_meaning.specs.ScriptOutput.{command_text, log_after, output_from,
 use Rattle.run_meaning.specs.RunLaws.{Fault, BadLine, UnendedText, fault_items, fault_text, spoken_text, IsPlayed, ends_in_feed, GoesOn}
 use Rattle.run_meaning.proofs.Lines.{lines_of-append}
 use Rattle.run_meaning.proofs.Items.{shape_within, items_of-append}
+use Rattle.run_meaning.proofs.Logs.{log_of_edits, told_of_commands, log_goes_on}
 
 fault_output : (judging : Judging) (log : Log) (fault : Option Fault) → output_from judging log (fault_items fault) ≡ fault_text fault
 unfolding output_from
@@ -34,6 +35,8 @@ output_is_in_order judging bytes =
       fault = shape.fault;
       script = shape.is;
       output = ap (λ (items : List Item). output_from judging [] items) shape.is ∙ spoken_output judging [] shape.commands shape.fault;
+      log = log_of_edits bytes shape.commands shape.fault shape.is;
+      told = told_of_commands bytes shape.commands shape.fault shape.is;
     }
 
 -- without a fault, what follows prints behind
@@ -61,9 +64,12 @@ longer_begins_with_it judging bytes more whole h =
     let script : items_of 1 (lines_of (bytes ++ more)) ≡ items_of 1 (lines_of bytes) ++ items_of follow.line (lines_of more) =
     ap (λ (lines : List (List ℕ)). items_of 1 lines) (lines_of-append bytes more whole) ∙ follow.is in
     let behind = printed_behind judging [] (items_of 1 (lines_of bytes)) (items_of follow.line (lines_of more)) h in
+    let further = log_goes_on bytes (bytes ++ more) (items_of follow.line (lines_of more)) script in
     record {
       items = items_of follow.line (lines_of more);
       script = script;
       rest = behind.rest;
       output = ap (λ (items : List Item). output_from judging [] items) script ∙ behind.is;
+      edits = further.0;
+      log = further.1;
     }

@@ -12,10 +12,13 @@ use Rattle.printing_meaning.specs.EditLines.{entry_lines}
 use Rattle.run_meaning.specs.ScriptCommands.{parted_at_space}
 use Rattle.run_meaning.specs.ScriptItems.{items_within, script_of}
 use Rattle.run_meaning.specs.ScriptOutput.{report_text, flat_text, carry_text, command_text, log_after, output_from, output_of}
-use Rattle.run_meaning.specs.ScriptExamples.{NothingIsPrinted, PutTwiceDroppedTwice, LogIsPrinted, UnendedText, BadCommand, LongComment, TooLongComment, CutInCommand, CutBehindCommand, CutInEndLine, CutBehindEndLine, CutInName, NoJudgement, LastReturnCounts, OtherLines}
+use Rattle.log_meaning.specs.Names.{is_ascending, with_name, with_names}
+use Rattle.walk_meaning.specs.Walks.{direct, walking, is_ungrounded}
+use Rattle.run_meaning.specs.ScriptLogs.{script_log, command_told, told_from, script_told}
+use Rattle.run_meaning.specs.ScriptExamples.{NothingIsPrinted, PutTwiceDroppedTwice, LogIsPrinted, UnendedText, BadCommand, LongComment, TooLongComment, CutInCommand, CutBehindCommand, CutInEndLine, CutBehindEndLine, CutInName, NoJudgement, LastReturnCounts, LastReturnIsBlank, CommentOfBytes, OtherLines, LogIsLeft, TellsGrounded}
 
 abbrev computing : Unit {0}
-unfolding is_utf8 chars digits encode lines_of text_before behind_end is_among with_module without_module library_of text_of append_answer appended entry_lines parted_at_space items_within script_of report_text flat_text carry_text command_text log_after output_from output_of
+unfolding is_utf8 chars digits encode lines_of text_before behind_end is_among with_module without_module library_of text_of append_answer appended entry_lines parted_at_space items_within script_of report_text flat_text carry_text command_text log_after output_from output_of is_ascending with_name with_names direct walking is_ungrounded script_log command_told told_from script_told
 computing = tt
 
 pub nothing_is_printed : NothingIsPrinted
@@ -74,6 +77,22 @@ pub last_return_counts : LastReturnCounts
 unfolding computing
 last_return_counts judging = refl
 
+pub last_return_is_blank : LastReturnIsBlank
+unfolding computing
+last_return_is_blank judging = refl
+
+pub comment_of_bytes : CommentOfBytes
+unfolding computing
+comment_of_bytes judging = refl
+
 pub other_lines : OtherLines
 unfolding computing
 other_lines judging = refl
+
+pub log_is_left : LogIsLeft
+unfolding computing
+log_is_left = refl
+
+pub tells_grounded : TellsGrounded
+unfolding computing
+tells_grounded = refl

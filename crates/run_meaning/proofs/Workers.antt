@@ -5,7 +5,8 @@ use Rattle.std.specs.List.{starts_with}
 use Rattle.std.specs.Str.{bytes_eq}
 use Rattle.std.specs.Str.Parse.{digits_value}
 use Rattle.std.proofs.lemmas.Bool.Decides.{nat_tests}
-use Rattle.run_meaning.specs.WordLists.{Task, Run, is_number, workers_of, worker_part, task_of, with_part, without_part, part_in_front, part_at_end, first_of, run_of}
+use Rattle.printing_meaning.specs.Numbers.{is_number}
+use Rattle.run_meaning.specs.WordLists.{Task, Run, workers_of, worker_part, task_of, with_part, without_part, part_in_front, part_at_end, first_of, run_of}
 
 between : (a b : Bool) (value greatest : ℕ) (n : ℕ) → cond ((a && b) && nat_le value greatest) (Some value) None ≡ Some n → n ≤ greatest
 between true true value greatest n e = by_test (nat_le value greatest) refl e

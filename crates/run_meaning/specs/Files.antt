@@ -93,7 +93,7 @@ pub data FileAnswer : Type 0 where
   Loaded : Log → List Origin → FileAnswer
   Faulty : FileFault → FileAnswer
 
--- Read: the answer of the pieces behind one that has a fault, or that was loaded.
+-- Read: the fault of this piece, if it has one, else the answer of those behind it.
 abbrev pub piece_answer : Piece → Option FileWord → FileAnswer → FileAnswer
 piece_answer piece None behind = behind
 piece_answer piece (Some word) behind = Faulty (piece_fault piece word)

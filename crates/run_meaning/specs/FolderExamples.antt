@@ -62,11 +62,21 @@ PlacesAreInFiles =
     folder_output judging_so (numbers_file ∷ file (codes "bad.elf") (codes "foo") ∷ [])
     ≡ codes "bad.elf refused 1:1 syntax\nNat @2 accepted theory 3\nUser @2 refused nat.elf:8:15 unknown-name one\nfiles 2 modules 2 accepted 1 refused 1\n"
 
--- A name that an earlier file has, or an earlier module of the same file; nothing of the file is loaded.
+-- A name that an earlier file has; nothing of the file is loaded.
 abbrev pub SecondOfName : Type 0
 SecondOfName =
     folder_output judging_so (numbers_file ∷ file (codes "z.elf") (codes "%sig B = { }.\n%sig Nat = { }.") ∷ [])
     ≡ codes "z.elf refused 2:6 duplicate-name Nat\nNat @2 accepted theory 3\nUser @2 refused nat.elf:8:15 unknown-name one\nfiles 2 modules 2 accepted 1 refused 1\n"
+
+-- A name that an earlier module of the same file has.
+abbrev pub SecondInFile : Type 0
+SecondInFile =
+    PrintsFolder (file (codes "a.elf") (codes "%sig A = { }.\n%sig B = { }.\n%sig A = { }.") ∷ [])
+    (codes "a.elf refused 3:6 duplicate-name A\nfiles 1 modules 0 accepted 0 refused 0\n")
+
+-- A file whose name is the ending alone.
+abbrev pub EndingAlone : Type 0
+EndingAlone = PrintsFolder (file (codes ".elf") [] ∷ []) (codes "files 1 modules 0 accepted 0 refused 0\n")
 
 -- The draws of `gen 1 5 3`: four parents and three edited modules.
 abbrev pub DrawsAreMade : Type 0

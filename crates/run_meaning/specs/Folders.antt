@@ -6,6 +6,8 @@ use Rattle.output_meaning.specs.Printed.{absent_line}
 use Rattle.printing_meaning.specs.VerdictLines.{Judged, Refused, AcceptedTheory, AcceptedView, judged_line}
 use Rattle.printing_meaning.specs.FolderLines.{file_line, place_in_file, files_line}
 use Rattle.run_meaning.specs.Judging.{Judging, environment_of}
+use Rattle.walk_meaning.specs.Walks.{Dependencies}
+use Rattle.run_meaning.specs.ScriptLogs.{Telling, told_of_all}
 use Rattle.run_meaning.specs.Files.{File, module_files, Origin, Damaged, Loading, load}
 
 -- Read: the origin of a loaded module.
@@ -47,6 +49,10 @@ loading_text judging files loading =
 -- Read: the output of a checked folder with these files.
 unfoldable pub folder_output : Judging → List File → List ℕ
 folder_output judging files = loading_text judging (length (module_files files)) (load files)
+
+-- Read: what the lines of a checked folder tell.
+abbrev pub folder_told : Dependencies → List File → List Telling
+folder_told dependencies files = told_of_all dependencies (load files).log
 
 -- Read: a module or a file is refused.
 unfoldable pub has_refusal : Judging → List File → Bool

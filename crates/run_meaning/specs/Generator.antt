@@ -1,9 +1,9 @@
 -- The generator: a library that is made from a number, its edits, and what is printed of them (this profile).
-use Rattle.std.specs.Prelude.{ℕ, zero, suc, List, [], ◌∷◌, ◌++◌, ◌+◌, ◌*◌, ◌-◌, ◌/◌, ◌%◌, ◌^◌, length, filter, sum_by, fold, nat_eq, if◌then◌else◌, codes}
+use Rattle.std.specs.Prelude.{ℕ, zero, suc, List, [], ◌∷◌, ◌++◌, ◌+◌, ◌*◌, ◌-◌, ◌/◌, ◌%◌, ◌^◌, length, filter, sum_by, nat_eq, if◌then◌else◌, codes}
 use Rattle.std.specs.Fmt.{decimal}
 use Rattle.log_meaning.specs.Names.{Name, Text, is_among}
 use Rattle.log_meaning.specs.Log.{Edit, Put, edited_name, Log, Library, names_of, library_of, version_of}
-use Rattle.log_meaning.specs.Append.{Edited, Made, Same, Absent, Full, TooLong, TooMany, append_answer, appended}
+use Rattle.log_meaning.specs.Append.{Edited, Made, Same, Absent, Full, TooLong, TooMany, append_answer, appended, appended_all}
 use Rattle.walk_meaning.specs.Walks.{Dependencies, is_grounded}
 use Rattle.walk_meaning.specs.Reach.{reach}
 use Rattle.library_meaning.specs.Faces.{Environment, flat_signature}
@@ -69,14 +69,11 @@ later_puts start modules (suc before) =
 unfoldable pub generated : ℕ → ℕ → ℕ → List Edit
 generated start modules edits = first_puts start modules ++ later_puts start modules edits
 
--- Read: the log after these edits.
-unfoldable pub log_with : Log → List Edit → Log
-log_with log edits = fold appended log edits
-
--- Read: how many grounded names of the library have this name in their reach.
+-- Read: the grounded names of the library, in byte order.
 abbrev pub grounded_names : Dependencies → Library → List Name
 grounded_names dependencies library = filter (is_grounded dependencies library) (names_of library)
 
+-- Read: how many grounded names of the library have this name in their reach.
 abbrev pub reaching_count : Dependencies → Library → Name → ℕ
 reaching_count dependencies library name =
     length (filter (λ (other : Name). is_among (reach dependencies library other) name) (grounded_names dependencies library))
@@ -99,8 +96,8 @@ asked_after dependencies log (edit ∷ edits) =
 -- later edit: the grounded ones, and then those whose reach holds the edited module.
 unfoldable pub installs_of : Dependencies → ℕ → ℕ → ℕ → ℕ
 installs_of dependencies start modules edits =
-    length (grounded_names dependencies (library_of (log_with [] (first_puts start modules))))
-    + asked_after dependencies (log_with [] (first_puts start modules)) (later_puts start modules edits)
+    length (grounded_names dependencies (library_of (appended_all [] (first_puts start modules))))
+    + asked_after dependencies (appended_all [] (first_puts start modules)) (later_puts start modules edits)
 
 -- Read: the K of an accepted module.
 abbrev pub size_of : Environment → Judged → ℕ
@@ -125,5 +122,5 @@ counts_of judging modules edits log = record {
 -- Read: the line of the counts, and without workers the line of the installs as well.
 unfoldable pub generator_output : Judging → ℕ → ℕ → ℕ → ℕ → List ℕ
 generator_output judging start modules edits workers =
-    generator_line (counts_of judging modules edits (log_with [] (generated start modules edits)))
+    generator_line (counts_of judging modules edits (appended_all [] (generated start modules edits)))
     ++ (if nat_eq workers 0 then installs_line (installs_of judging.dependencies start modules edits) else [])

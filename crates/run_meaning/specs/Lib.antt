@@ -2,6 +2,7 @@ pub mod Judging
 pub mod ScriptCommands
 pub mod ScriptItems
 pub mod ScriptOutput
+pub mod ScriptLogs
 pub mod WordLists
 pub mod Files
 pub mod Folders

@@ -1,15 +1,20 @@
 -- How the lines of a script are cut into commands, all of them (this profile).
-use Rattle.std.specs.Prelude.{ℕ, List, [], ◌∷◌, ◌==◌, ◌^◌, length, drop, nat_eq, nat_lt, Option, Some, None, option_map, if◌then◌else◌, codes}
+use Rattle.std.specs.Prelude.{ℕ, suc, List, [], ◌∷◌, ◌==◌, ◌^◌, length, take, drop, nat_eq, nat_lt, Option, Some, None, option_map, if◌then◌else◌, codes}
 use Rattle.std.specs.List.{starts_with}
 use Rattle.std.specs.Str.{bytes_eq}
 use Rattle.output_meaning.specs.Lines.{content_of}
 use Rattle.output_meaning.specs.Commands.{line_limit, is_name, is_silent, text_before, behind_end}
 use Rattle.log_meaning.specs.Names.{Name, Text}
 use Rattle.log_meaning.specs.Log.{Edit, Put, Drop}
+use Rattle.log_meaning.specs.Append.{text_limit}
 
 -- Read: the greatest number of bytes between a `put` line and its end line, or the end of the input.
 abbrev pub put_limit : ℕ
 put_limit = 2 ^ 26
+
+-- Read: what is kept of a text that is put: all of it, or as many bytes as show that it is longer than the limit of a text.
+abbrev pub kept : Text → Text
+kept text = take (suc text_limit) text
 
 -- Read: an edit; the report of a name; the verdicts of all modules; the flat text of a name; the judgement of this text,
 -- carried along a view; the log; or nothing, by a blank line or a comment.
@@ -78,12 +83,12 @@ pub data Next : Type 0 where
   Bad : Next
   Unended : Next
 
--- Read: the `put` of a text that stands in front of these lines, or unended where there is no end line.
+-- Read: the `put` of what is kept of a text that stands in front of these lines, or unended where there is no end line.
 abbrev pub ended : Name → Text → Option (List (List ℕ)) → Next
 ended name text None = Unended
-ended name text (Some rest) = Gives (EditCommand (Put name text)) rest
+ended name text (Some rest) = Gives (EditCommand (Put name (kept text))) rest
 
--- Read: the `put` of the text that the lines begin with. A longer text than the limit is bad, ended or not.
+-- Read: the `put` of the text that the lines begin with. A longer text than the limit of a `put` is bad, ended or not.
 abbrev pub put_of : Name → List (List ℕ) → Next
 put_of name lines =
     if nat_lt put_limit (length (text_before lines)) then Bad else ended name (text_before lines) (behind_end lines)

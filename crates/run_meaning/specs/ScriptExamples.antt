@@ -1,7 +1,10 @@
 -- Worked examples of scripts, for any judging.
-use Rattle.std.specs.Prelude.{◌≡◌, ℕ, List, [], ◌++◌, replicate, codes}
+use Rattle.std.specs.Prelude.{◌≡◌, ℕ, List, [], ◌∷◌, ◌++◌, take, replicate, codes}
+use Rattle.log_meaning.specs.Names.{Name, Text}
+use Rattle.log_meaning.specs.Log.{Put, Drop}
 use Rattle.run_meaning.specs.Judging.{Judging}
 use Rattle.run_meaning.specs.ScriptOutput.{output_of}
+use Rattle.run_meaning.specs.ScriptLogs.{script_log, script_told}
 
 abbrev pub Prints : List ℕ → List ℕ → Type 0
 Prints script text = (judging : Judging) → output_of judging script ≡ text
@@ -57,5 +60,28 @@ NoJudgement = Prints (codes "carry V \n") (codes "line 1: bad command\n")
 abbrev pub LastReturnCounts : Type 0
 LastReturnCounts = Prints (codes "report A\r\nreport A\r") (codes "A @0 absent\nline 2: bad command\n")
 
+-- A lone carriage return at the end is white space; a comment may have any bytes.
+abbrev pub LastReturnIsBlank : Type 0
+LastReturnIsBlank = Prints (codes "\n\r") []
+
+abbrev pub CommentOfBytes : Type 0
+CommentOfBytes = Prints (codes "#" ++ 255 ∷ 10 ∷ []) []
+
 abbrev pub OtherLines : Type 0
 OtherLines = Prints (codes "check\n\n \t\nflat Nat\nlog\ncheck \n") (codes "Nat @0 absent\n@0 log\nline 6: bad command\n")
+
+-- The log has the edits that are made, and not the second put and the second drop.
+abbrev pub LogIsLeft : Type 0
+LogIsLeft =
+    script_log (codes "put A\nB\n%%end\nput A\nB\n%%end\nreport A\ndrop A\ndrop A\nbad")
+    ≡ Put (codes "A") (codes "B\n") ∷ Drop (codes "A") ∷ []
+
+-- Each text begins with the name of its dependency: A names itself, so that it is ungrounded, and D is absent. B and C are
+-- grounded.
+abbrev pub first_byte : Name → Text → List Name
+first_byte name text = take 1 text ∷ []
+
+abbrev pub TellsGrounded : Type 0
+TellsGrounded =
+    script_told first_byte (codes "put A\nA\n%%end\nput B\nD\n%%end\ncheck\nput C\nB\n%%end\nreport A\nreport C\nreport D\nflat B\ncarry C z : t\nlog\n")
+    ≡ record { name = codes "B"; version = 2 } ∷ record { name = codes "C"; version = 3 } ∷ record { name = codes "B"; version = 3 } ∷ record { name = codes "C"; version = 3 } ∷ []

@@ -1,8 +1,9 @@
 -- The lists of words that are accepted (this profile).
 use Rattle.std.specs.Prelude.{ℕ, Bool, false, List, [], ◌∷◌, ◌-◌, ◌==◌, ◌^◌, ◌&&◌, not, length, take, drop, nat_eq, nat_le, Option, Some, None, is_some, option_map, option_and_then, if◌then◌else◌, codes}
-use Rattle.std.specs.List.{list_all, starts_with}
+use Rattle.std.specs.List.{starts_with}
 use Rattle.std.specs.Str.{bytes_eq}
 use Rattle.std.specs.Str.Parse.{digits_value}
+use Rattle.printing_meaning.specs.Numbers.{is_number}
 
 -- Read: a script is played; the modules of a folder are checked; or the generator makes so many modules and edits, beginning
 -- with this number.
@@ -19,15 +20,6 @@ pub record Run : Type 0 where
 -- Read: the number of workers where the words name none.
 abbrev pub default_workers : ℕ
 default_workers = 4
-
-abbrev pub is_digit : ℕ → Bool
-is_digit byte = nat_le 48 byte && nat_le byte 57
-
--- Read: decimal digits without a leading zero, `0` itself excepted.
-abbrev pub is_number : List ℕ → Bool
-is_number [] = false
-is_number (digit ∷ []) = is_digit digit
-is_number (digit ∷ second ∷ digits) = not (digit == 48) && list_all is_digit (digit ∷ second ∷ digits)
 
 -- Read: the number that the word writes, where it is one from the first to the second.
 abbrev pub number_between : ℕ → ℕ → List ℕ → Option ℕ

@@ -1,10 +1,10 @@
 //! Worked examples: each function does nothing, and its contract is proved by computing.
 
-ghost use Rattle.run_meaning.specs.ScriptExamples.{NothingIsPrinted, PutTwiceDroppedTwice, LogIsPrinted, UnendedText, BadCommand, LongComment, TooLongComment, CutInCommand, CutBehindCommand, CutInEndLine, CutBehindEndLine, CutInName, NoJudgement, LastReturnCounts, OtherLines};
-ghost use Rattle.run_meaning.specs.FolderExamples.{EmptyFolder, OtherFiles, BadFiles, PlacesAreInFiles, SecondOfName, DrawsAreMade, ParentsAreDrawn, EditsAreDrawn, TextsAreMade, FirstHasNoParent, EditsStandInOrder};
+ghost use Rattle.run_meaning.specs.ScriptExamples.{NothingIsPrinted, PutTwiceDroppedTwice, LogIsPrinted, UnendedText, BadCommand, LongComment, TooLongComment, CutInCommand, CutBehindCommand, CutInEndLine, CutBehindEndLine, CutInName, NoJudgement, LastReturnCounts, LastReturnIsBlank, CommentOfBytes, OtherLines, LogIsLeft, TellsGrounded};
+ghost use Rattle.run_meaning.specs.FolderExamples.{EmptyFolder, OtherFiles, BadFiles, PlacesAreInFiles, SecondOfName, SecondInFile, EndingAlone, DrawsAreMade, ParentsAreDrawn, EditsAreDrawn, TextsAreMade, FirstHasNoParent, EditsStandInOrder};
 ghost use Rattle.run_meaning.specs.WordExamples.{PlaysAreAccepted, ChecksAreAccepted, GeneratorsAreAccepted, OthersAreNot};
 
-/// Scripts, for any judging: what is printed, and faults.
+/// Scripts, for any judging: what is printed, and faults; the log that a script leaves, and of what it tells.
 pub fn scripts()
     ensures nothing_is_printed { NothingIsPrinted }
     ensures put_twice_dropped_twice { PutTwiceDroppedTwice }
@@ -20,7 +20,11 @@ pub fn scripts()
     ensures cut_in_name { CutInName }
     ensures no_judgement { NoJudgement }
     ensures last_return_counts { LastReturnCounts }
+    ensures last_return_is_blank { LastReturnIsBlank }
+    ensures comment_of_bytes { CommentOfBytes }
     ensures other_lines { OtherLines }
+    ensures log_is_left { LogIsLeft }
+    ensures tells_grounded { TellsGrounded }
 {}
 
 /// Folders: files that are loaded, left out or refused, and places in files.
@@ -30,6 +34,8 @@ pub fn folders()
     ensures bad_files { BadFiles }
     ensures places_are_in_files { PlacesAreInFiles }
     ensures second_of_name { SecondOfName }
+    ensures second_in_file { SecondInFile }
+    ensures ending_alone { EndingAlone }
 {}
 
 /// What the generator draws, and the texts that it makes.

@@ -16,7 +16,7 @@ family_takes (AtFamily p) argument = AtFamily (FamilyApp p argument)
 family_takes (Pi domain body) argument = Pi domain body
 
 -- Read: a family with no binder left takes an argument on its spine; one with binders left takes it for its outermost
--- binder, which stands below the others, at the erasure of the domain.
+-- binder, which is the one with the highest number, at the erasure of the domain.
 abbrev pub family_head_takes : ℕ → Family → Family → Kind → Object → Head
 family_head_takes zero family domain kind argument = FamilyHead zero (family_takes family argument) (substitute_kind argument (erase domain) 0 kind)
 family_head_takes (suc binders) family domain kind argument =

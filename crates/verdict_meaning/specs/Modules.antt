@@ -36,7 +36,7 @@ scope_in environment face = record { own = face.own; includes = face.includes; e
 abbrev pub is_used : TheoryFace → Name → Bool
 is_used here name = is_some (own_at here.own (name ∷ [])) || is_some (structure_of here.structures name)
 
--- Read: a declared name is one name.
+-- Read: no constant or structure declared above has the declared name, which is one name.
 abbrev pub unused_test : TheoryFace → Written → Outcome ⊤
 unused_test here name = demand (not (is_used here (first_name name.path))) name.span Rule.DuplicateName name.path
 

@@ -1,4 +1,4 @@
-use Rattle.board_meaning.proofs.Computed.{ring_is_told, ring_is_not_ready, dropped_is_absent, closed_is_not_ready, others_may_not_call}
+use Rattle.board_meaning.proofs.Computed.{ring_is_told, ring_is_not_ready, dropped_is_absent, closed_is_not_ready, closed_is_used, closed_tells_verdict, others_may_not_call}
 use Rattle.board_meaning.proofs.examples.other_replies.Goals as goal
 
 pub returns-clause-ring : goal.returns-clause-ring
@@ -12,6 +12,12 @@ returns-clause-dropped c = dropped_is_absent
 
 pub returns-clause-closed : goal.returns-clause-closed
 returns-clause-closed c = closed_is_not_ready
+
+pub returns-clause-closed_used : goal.returns-clause-closed_used
+returns-clause-closed_used c = closed_is_used
+
+pub returns-clause-closed_told : goal.returns-clause-closed_told
+returns-clause-closed_told c = closed_tells_verdict
 
 pub returns-clause-may_not : goal.returns-clause-may_not
 returns-clause-may_not c = others_may_not_call

@@ -1,4 +1,4 @@
-use Rattle.run_meaning.proofs.FoldersComputed.{empty_folder, other_files, bad_files, places_are_in_files, second_of_name}
+use Rattle.run_meaning.proofs.FoldersComputed.{empty_folder, other_files, bad_files, places_are_in_files, second_of_name, second_in_file, ending_alone}
 use Rattle.run_meaning.proofs.examples.folders.Goals as goal
 
 pub returns-clause-empty_folder : goal.returns-clause-empty_folder
@@ -15,3 +15,9 @@ returns-clause-places_are_in_files c = places_are_in_files
 
 pub returns-clause-second_of_name : goal.returns-clause-second_of_name
 returns-clause-second_of_name c = second_of_name
+
+pub returns-clause-second_in_file : goal.returns-clause-second_in_file
+returns-clause-second_in_file c = second_in_file
+
+pub returns-clause-ending_alone : goal.returns-clause-ending_alone
+returns-clause-ending_alone c = ending_alone

@@ -1,4 +1,4 @@
-use Rattle.run_meaning.proofs.ScriptsComputed.{nothing_is_printed, put_twice_dropped_twice, log_is_printed, unended_text, bad_command, long_comment, too_long_comment, cut_in_command, cut_behind_command, cut_in_end_line, cut_behind_end_line, cut_in_name, no_judgement, last_return_counts, other_lines}
+use Rattle.run_meaning.proofs.ScriptsComputed.{nothing_is_printed, put_twice_dropped_twice, log_is_printed, unended_text, bad_command, long_comment, too_long_comment, cut_in_command, cut_behind_command, cut_in_end_line, cut_behind_end_line, cut_in_name, no_judgement, last_return_counts, last_return_is_blank, comment_of_bytes, other_lines, log_is_left, tells_grounded}
 use Rattle.run_meaning.proofs.examples.scripts.Goals as goal
 
 pub returns-clause-nothing_is_printed : goal.returns-clause-nothing_is_printed
@@ -45,3 +45,15 @@ returns-clause-last_return_counts c = last_return_counts
 
 pub returns-clause-other_lines : goal.returns-clause-other_lines
 returns-clause-other_lines c = other_lines
+
+pub returns-clause-last_return_is_blank : goal.returns-clause-last_return_is_blank
+returns-clause-last_return_is_blank c = last_return_is_blank
+
+pub returns-clause-comment_of_bytes : goal.returns-clause-comment_of_bytes
+returns-clause-comment_of_bytes c = comment_of_bytes
+
+pub returns-clause-log_is_left : goal.returns-clause-log_is_left
+returns-clause-log_is_left c = log_is_left
+
+pub returns-clause-tells_grounded : goal.returns-clause-tells_grounded
+returns-clause-tells_grounded c = tells_grounded
