@@ -56,7 +56,7 @@ module _ (environment : Environment) (coherent : IsCoherent environment) (name :
       let w = view_holds environment coherent written domain codomain assigns d.item d.came in
       subst (Shows environment name) (good_same d.goes) (subst (λ n. IsCoherentView environment n d.item) (w.1 ∙ e) w.0)
 
-  cycle_refuses : (o : Option Dependency) (interface : Interface) → cycle_at name o ≡ Ok interface → ⊥
+  pub cycle_refuses : (o : Option Dependency) (interface : Interface) → cycle_at name o ≡ Ok interface → ⊥
   cycle_refuses None interface h = absurd (cc)
   cycle_refuses (Some dependency) interface h = absurd (cc)
 
@@ -94,13 +94,13 @@ module _ (library : Library) where
   none_direct name e = ap (of_text (dependencies name)) e
 
   -- an absent name reaches itself alone
-  absent_reach : (name x : Name) → Short dependencies library zero name → Member x (reach dependencies library name) → x ≡ name
+  pub absent_reach : (name x : Name) → Short dependencies library zero name → Member x (reach dependencies library name) → x ≡ name
   absent_reach name x s m =
       ⊎_elim (λ e. e) (λ e. absurd e)
       (reach_least dependencies library name (name ∷ [])
       (λ y d p q. absurd (subst (Member d) (none_direct name (text_by name (text_of library name) refl s)) (⊎_elim (λ e. subst (λ z. Member d (direct dependencies library z)) e q) (λ e. absurd e) p))) (inl refl) x m)
 
-  others_not : (name x : Name) → same_name name x ≡ false → x ≡ name → ⊥
+  pub others_not : (name x : Name) → same_name name x ≡ false → x ≡ name → ⊥
   others_not name x f e = true≢false (sym (same_itself name) ∙ ap (same_name name) (sym e) ∙ f)
 
   -- of two names, where walks end, not each reaches the other
@@ -122,7 +122,7 @@ module _ (library : Library) where
   known_here : (name y : Name) (b : Bool) → is_among (others_reached library name) y ≡ b → known_to library name y ≡ cond b (known_if (verdict_under (verdicts library) y)) IsAbsent
   known_here name y b e = ap (λ z. cond z (known_if (verdict_under (verdicts library) y)) IsAbsent) e
 
-  extends_to : (n : ℕ) (name x : Name) → Short dependencies library n name → is_among (others_reached library name) x ≡ true → Extends (known_to library x) (known_to library name)
+  pub extends_to : (n : ℕ) (name x : Name) → Short dependencies library n name → is_among (others_reached library name) x ≡ true → Extends (known_to library x) (known_to library name)
   extends_to n name x s p y = by (is_among (others_reached library x) y) refl
     where
       reached : is_among (others_reached library x) y ≡ true → is_among (others_reached library name) y ≡ true
@@ -137,7 +137,7 @@ module _ (library : Library) where
       by false e = inl (known_here x y false e)
 
   -- a name does not reach itself among others
-  itself_absent : (name : Name) → known_to library name name ≡ IsAbsent
+  pub itself_absent : (name : Name) → known_to library name name ≡ IsAbsent
   itself_absent name = by (is_among (others_reached library name) name) refl
     where
       by : (b : Bool) → is_among (others_reached library name) name ≡ b → known_to library name name ≡ IsAbsent
@@ -150,16 +150,16 @@ module _ (library : Library) where
   unfolding verdict_of
   told_under x = refl
 
-  record Told (o : Option Verdict) (known : Known) : Type 0 where
-    verdict : Verdict
-    is : o ≡ Some verdict
-    known_is : known_by verdict ≡ known
+  pub record Told (o : Option Verdict) (known : Known) : Type 0 where
+    pub verdict : Verdict
+    pub is : o ≡ Some verdict
+    pub known_is : known_by verdict ≡ known
 
-  told : (o : Option Verdict) (known : Known) → known_if o ≡ known → (known ≡ IsAbsent → ⊥) → Told o known
+  pub told : (o : Option Verdict) (known : Known) → known_if o ≡ known → (known ≡ IsAbsent → ⊥) → Told o known
   told None known h f = absurd (f (sym h))
   told (Some verdict) known h f = record { verdict = verdict; is = refl; known_is = h }
 
-  theory_shown : (environment : Environment) (name : Name) (verdict : Verdict) (face : TheoryFace) → known_by verdict ≡ IsTheory face → Holds environment name verdict → IsCoherentTheory environment name face
+  pub theory_shown : (environment : Environment) (name : Name) (verdict : Verdict) (face : TheoryFace) → known_by verdict ≡ IsTheory face → Holds environment name verdict → IsCoherentTheory environment name face
   theory_shown environment name (Accepted (Theory found size)) face e h = subst (IsCoherentTheory environment name) (same e) h
     where
       same : {x y : TheoryFace} → IsTheory x ≡ IsTheory y → x ≡ y
@@ -167,7 +167,7 @@ module _ (library : Library) where
   theory_shown environment name (Accepted (View found)) face e h = absurd (cc)
   theory_shown environment name (Refused refusal) face e h = absurd (cc)
 
-  view_shown : (environment : Environment) (name : Name) (verdict : Verdict) (face : ViewFace) → known_by verdict ≡ IsView face → Holds environment name verdict → IsCoherentView environment name face
+  pub view_shown : (environment : Environment) (name : Name) (verdict : Verdict) (face : ViewFace) → known_by verdict ≡ IsView face → Holds environment name verdict → IsCoherentView environment name face
   view_shown environment name (Accepted (Theory found size)) face e h = absurd (cc)
   view_shown environment name (Accepted (View found)) face e h = subst (IsCoherentView environment name) (same e) h
     where
@@ -175,11 +175,11 @@ module _ (library : Library) where
       same q = cc
   view_shown environment name (Refused refusal) face e h = absurd (cc)
 
-  record Sound (name : Name) : Type 0 where
-    coherent : IsCoherent (known_to library name)
-    holds : (verdict : Verdict) → verdict_of library name ≡ Some verdict → Holds (known_to library name) name verdict
+  pub record Sound (name : Name) : Type 0 where
+    pub coherent : IsCoherent (known_to library name)
+    pub holds : (verdict : Verdict) → verdict_of library name ≡ Some verdict → Holds (known_to library name) name verdict
 
-  verdict_text : (name : Name) (o : Option Text) (verdict : Verdict) → text_of library name ≡ o → verdict_of library name ≡ Some verdict → (text : Text) × (text_of library name ≡ Some text)
+  pub verdict_text : (name : Name) (o : Option Text) (verdict : Verdict) → text_of library name ≡ o → verdict_of library name ≡ Some verdict → (text : Text) × (text_of library name ≡ Some text)
   verdict_text name None verdict e h = absurd (true≢false (sym (ap is_some h) ∙ has_verdict ∙ ap is_some e))
     where
       has_verdict : is_some (verdict_of library name) ≡ is_some (text_of library name)
@@ -194,28 +194,29 @@ module _ (library : Library) where
             subst (Holds (known_to library name) name) (some_same (sym (verdict_is_judged library name t.0 t.1) ∙ h)) (judge_holds (known_to library name) c name (itself_absent name) (is_among (ungrounded_names library)) t.0));
       }
 
+  -- what is known to a name comes from the verdict on one that it reaches
+  pub verdict_reached : (name x : Name) (known : Known) → known_to library name x ≡ known → (known ≡ IsAbsent → ⊥) → (is_among (others_reached library name) x ≡ true) × Told (verdict_of library x) known
+  verdict_reached name x known e q = by (is_among (others_reached library name) x) refl
+    where
+      by : (b : Bool) → is_among (others_reached library name) x ≡ b → (is_among (others_reached library name) x ≡ true) × Told (verdict_of library x) known
+      by true g = (g, told (verdict_of library x) known (told_under x ∙ sym (known_here name x true g) ∙ e) q)
+      by false g = absurd (q (sym e ∙ known_here name x false g))
+
   -- from the names that a name reaches
   coherent_by : (n : ℕ) (name : Name) → Short dependencies library n name → ((x : Name) → is_among (others_reached library name) x ≡ true → (verdict : Verdict) → verdict_of library x ≡ Some verdict → Sound x) → IsCoherent (known_to library name)
   coherent_by n name s f =
       record {
-        theories = λ x face e. (let r = reached x (IsTheory face) e (λ q. absurd (cc)) in
+        theories = λ x face e. (let r = verdict_reached name x (IsTheory face) e (λ q. absurd (cc)) in
             let v = r.1 in
             let d = f x r.0 v.verdict v.is in
             theory_transfers (known_to library x) (known_to library name) d.coherent (extends_to n name x s r.0) x face (theory_shown (known_to library x) x v.verdict face v.known_is (d.holds v.verdict v.is)));
-        views = λ x face e. (let r = reached x (IsView face) e (λ q. absurd (cc)) in
+        views = λ x face e. (let r = verdict_reached name x (IsView face) e (λ q. absurd (cc)) in
             let v = r.1 in
             let d = f x r.0 v.verdict v.is in
             view_transfers (known_to library x) (known_to library name) d.coherent (extends_to n name x s r.0) x face (view_shown (known_to library x) x v.verdict face v.known_is (d.holds v.verdict v.is)));
       }
-    where
-      reached : (x : Name) (known : Known) → known_to library name x ≡ known → (known ≡ IsAbsent → ⊥) → (is_among (others_reached library name) x ≡ true) × Told (verdict_of library x) known
-      reached x known e q = by (is_among (others_reached library name) x) refl
-        where
-          by : (b : Bool) → is_among (others_reached library name) x ≡ b → (is_among (others_reached library name) x ≡ true) × Told (verdict_of library x) known
-          by true g = (g, told (verdict_of library x) known (told_under x ∙ sym (known_here name x true g) ∙ e) q)
-          by false g = absurd (q (sym e ∙ known_here name x false g))
 
-  sound : (n : ℕ) (name : Name) → Short dependencies library n name → Sound name
+  pub sound : (n : ℕ) (name : Name) → Short dependencies library n name → Sound name
   sound zero name s =
       sound_by name (coherent_by zero name s (λ x p verdict h. absurd (
       let r = in_others library name x p in others_not name x r.1 (absent_reach name x s r.0))))
@@ -233,22 +234,22 @@ module _ (library : Library) where
       clash : {i : Interface} {r : Refusal} → Accepted i ≡ Refused r → ⊥
       clash e = absurd (cc)
 
-  tells_more : (name : Name) → Extends (known_to library name) (told_by library)
+  pub tells_more : (name : Name) → Extends (known_to library name) (told_by library)
   tells_more name y = by (is_among (others_reached library name) y) refl
     where
       by : (b : Bool) → is_among (others_reached library name) y ≡ b → (known_to library name y ≡ IsAbsent) ⊎ (told_by library y ≡ known_to library name y)
       by true e = inr (told_under y ∙ sym (known_here name y true e))
       by false e = inl (known_here name y false e)
 
-  accepted_theory : (name : Name) (verdict : Verdict) (face : TheoryFace) → verdict_of library name ≡ Some verdict → known_by verdict ≡ IsTheory face → Short dependencies library (length library) name
+  pub accepted_theory : (name : Name) (verdict : Verdict) (face : TheoryFace) → verdict_of library name ≡ Some verdict → known_by verdict ≡ IsTheory face → Short dependencies library (length library) name
   accepted_theory name (Accepted interface) face h e = accepted_short name interface h
   accepted_theory name (Refused refusal) face h e = absurd (cc)
 
-  accepted_view : (name : Name) (verdict : Verdict) (face : ViewFace) → verdict_of library name ≡ Some verdict → known_by verdict ≡ IsView face → Short dependencies library (length library) name
+  pub accepted_view : (name : Name) (verdict : Verdict) (face : ViewFace) → verdict_of library name ≡ Some verdict → known_by verdict ≡ IsView face → Short dependencies library (length library) name
   accepted_view name (Accepted interface) face h e = accepted_short name interface h
   accepted_view name (Refused refusal) face h e = absurd (cc)
 
-  library_coherent : IsCoherent (told_by library)
+  pub library_coherent : IsCoherent (told_by library)
   library_coherent =
       record {
         theories = λ name face e. (let v = told (verdict_of library name) (IsTheory face) e (λ q. absurd (cc)) in

@@ -49,13 +49,13 @@ record KnownTheory (known : Known) : Type 0 where
   face : TheoryFace
   is : known ≡ IsTheory face
 
-known_by_test : (span : Span) (label : Path) (known : Known) (face : TheoryFace) → theory_known span label known ≡ Ok face → known ≡ IsTheory face
+pub known_by_test : (span : Span) (label : Path) (known : Known) (face : TheoryFace) → theory_known span label known ≡ Ok face → known ≡ IsTheory face
 known_by_test span label IsAbsent face h = absurd (cc)
 known_by_test span label IsRefused face h = absurd (cc)
 known_by_test span label (IsTheory found) face h = ap IsTheory (good_same h)
 known_by_test span label (IsView found) face h = absurd (cc)
 
-theory_there : (environment : Environment) (name : Name) (face : TheoryFace) → environment name ≡ IsTheory face → theory_of environment name ≡ Some face
+pub theory_there : (environment : Environment) (name : Name) (face : TheoryFace) → environment name ≡ IsTheory face → theory_of environment name ≡ Some face
 theory_there environment name face e = ap theory_face e
 
 none_of : {A : Type 0} (o : Option A) → is_some o ≡ false → o ≡ None
@@ -67,11 +67,11 @@ neither true b h = absurd (true≢false (sym h))
 neither false true h = absurd (true≢false (sym h))
 neither false false h = (refl, refl)
 
-record Unused (here : TheoryFace) (name : Name) : Type 0 where
-  constant : own_at here.own (name ∷ []) ≡ None
-  structure : structure_of here.structures name ≡ None
+pub record Unused (here : TheoryFace) (name : Name) : Type 0 where
+  pub constant : own_at here.own (name ∷ []) ≡ None
+  pub structure : structure_of here.structures name ≡ None
 
-unused_by : (here : TheoryFace) (name : Written) (done : ⊤) → unused_test here name ≡ Ok done → Unused here (first_name name.path)
+pub unused_by : (here : TheoryFace) (name : Written) (done : ⊤) → unused_test here name ≡ Ok done → Unused here (first_name name.path)
 unused_by here name done h =
     let n : Name = first_name name.path in
     let t = demand_holds (not (is_used here n)) name.span Rule.DuplicateName name.path done h in
@@ -80,7 +80,7 @@ unused_by here name done h =
 
 -- ---- the map of a link
 
-link_holds : (setting : Setting) (ok : SettingHolds setting) (assigns : List Assign) (along : HeadMap) → link_map setting assigns ≡ Ok along
+pub link_holds : (setting : Setting) (ok : SettingHolds setting) (assigns : List Assign) (along : HeadMap) → link_map setting assigns ≡ Ok along
     → IsCoherentMap (flat_of setting.environment setting.domain) (scope_signature setting.scope ++ added_all setting (flat_of setting.environment setting.domain) along) along
     × Once (scope_signature setting.scope ++ added_all setting (flat_of setting.environment setting.domain) along)
     × HoldAfter (scope_signature setting.scope) (added_all setting (flat_of setting.environment setting.domain) along)
@@ -104,7 +104,7 @@ module _ (environment : Environment) (coherent : IsCoherent environment) where
           structures = λ face e. subst (λ (z : TheoryFace). StructuresHold environment z.structures (flat_signature environment z)) (some_same e) (λ i x h. (c.domains i x h, c.maps i x h));
         }
 
-    scope_ok : ScopeHolds (scope_in environment here)
+    pub scope_ok : ScopeHolds (scope_in environment here)
     scope_ok = record { declarations = c.holds; once = once_names (flat_signature environment here) (here_once environment coherent here c absent) }
 
     own_of_here : (d : Declaration) → Member d (flat_signature environment here) → d.name.theory ≡ here.name → Member d here.own
@@ -130,7 +130,7 @@ module _ (environment : Environment) (coherent : IsCoherent environment) where
         heads : {x y : Name} {xs ys : Path} → x ∷ xs ≡ y ∷ ys → x ≡ y
         heads h = cc
 
-    setting_ok : (name : Written) (domain : Name) → is_some (theory_of environment domain) ≡ true → structure_of here.structures (first_name name.path) ≡ None → SettingHolds (structure_setting environment here name domain)
+    pub setting_ok : (name : Written) (domain : Name) → is_some (theory_of environment domain) ≡ true → structure_of here.structures (first_name name.path) ≡ None → SettingHolds (structure_setting environment here name domain)
     setting_ok name domain s v =
         record {
           coherent = coherent;
@@ -151,11 +151,11 @@ module _ (environment : Environment) (coherent : IsCoherent environment) where
         (standing_value_holds (scope_in environment here) expression class v.item scope_ok h
         (value_sound (scope_in environment here) expression class v.item (label_came label (expand_value (scope_in environment here) expression class) v.item v.came)))
 
-    record Next (next : TheoryFace) : Type 0 where
-      named : next.name ≡ here.name
-      is : IsCoherentTheory environment next.name next
+    pub record Next (next : TheoryFace) : Type 0 where
+      pub named : next.name ≡ here.name
+      pub is : IsCoherentTheory environment next.name next
 
-    declare_holds : (decl : Decl) (next : TheoryFace) → declare environment here decl ≡ Ok next → Next next
+    pub declare_holds : (decl : Decl) (next : TheoryFace) → declare environment here decl ≡ Ok next → Next next
     declare_holds (IncludeDecl included) next h =
         let t = came_by (module_test environment included.path included) _ next h in
         let n : Name = first_name included.path in
@@ -234,7 +234,7 @@ module _ (environment : Environment) (coherent : IsCoherent environment) where
       ⊎_elim (λ e. subst (λ z. Grows (flat_of environment z) (flat_of environment codomain)) (same_name_sound codomain name e) (λ k class g. g)) (λ e. included_grows environment coherent codomain name e)
       (or_cases (same_name codomain name) (sees (includes_of (theory_of environment codomain)) name) h)
 
-  view_ok : (name : Written) (domain : Name) (target : TheoryFace) (codomain : Name) → is_some (theory_of environment domain) ≡ true → theory_of environment codomain ≡ Some target → SettingHolds (view_setting environment name domain target codomain)
+  pub view_ok : (name : Written) (domain : Name) (target : TheoryFace) (codomain : Name) → is_some (theory_of environment domain) ≡ true → theory_of environment codomain ≡ Some target → SettingHolds (view_setting environment name domain target codomain)
   view_ok name domain target codomain s e =
       let c = theory_at environment coherent codomain target e in
       let flat : flat_of environment codomain ≡ flat_signature environment target = ap (λ o. own_parts environment (includes_of o) ++ own_of o) e in

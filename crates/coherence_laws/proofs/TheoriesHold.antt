@@ -71,7 +71,7 @@ inclusion_member environment names theory x m =
     ⊎_elim (λ n. inl n) (λ n. inr (⊎_elim (λ k. inl k) (λ k. ⊎_elim (λ e. inr e) (λ e. absurd e) k) (in_append (includes_of (theory_of environment theory)) (theory ∷ []) x n)))
     (all_member names (includes_of (theory_of environment theory) ++ theory ∷ []) x m)
 
-inclusion_old : (environment : Environment) (names : List Name) (theory x : Name) → Member x names → Member x (with_inclusion environment names theory)
+pub inclusion_old : (environment : Environment) (names : List Name) (theory x : Name) → Member x names → Member x (with_inclusion environment names theory)
 unfolding with_inclusion with_all
 inclusion_old environment names theory x m = all_old names (includes_of (theory_of environment theory) ++ theory ∷ []) x m
 

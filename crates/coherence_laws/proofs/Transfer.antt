@@ -15,17 +15,17 @@ abbrev pub Extends : Environment → Environment → Type 0
 Extends environment more = (name : Name) → (environment name ≡ IsAbsent) ⊎ (more name ≡ environment name)
 
 module _ (environment more : Environment) (coherent : IsCoherent environment) (extends : Extends environment more) where
-  theory_same : (name : Name) → is_some (theory_of environment name) ≡ true → theory_of more name ≡ theory_of environment name
+  pub theory_same : (name : Name) → is_some (theory_of environment name) ≡ true → theory_of more name ≡ theory_of environment name
   theory_same name s = ⊎_elim (λ e. absurd (true≢false (sym s ∙ ap (λ k. is_some (theory_face k)) e))) (λ e. ap theory_face e) (extends name)
 
   parts_by : (names : List Name) → ((name : Name) → Member name names → is_some (theory_of environment name) ≡ true) → own_parts more names ≡ own_parts environment names
   parts_by [] h = refl
   parts_by (name ∷ names) h = ap₂ (λ x y. x ++ y) (ap own_of (theory_same name (h name (inl refl)))) (parts_by names (λ x m. h x (inr m)))
 
-  parts_same : (names : List Name) → AreTheories environment names → own_parts more names ≡ own_parts environment names
+  pub parts_same : (names : List Name) → AreTheories environment names → own_parts more names ≡ own_parts environment names
   parts_same names t = parts_by names (λ x m. t x (member_among names x m))
 
-  flat_same : (name : Name) → is_some (theory_of environment name) ≡ true → flat_of more name ≡ flat_of environment name
+  pub flat_same : (name : Name) → is_some (theory_of environment name) ≡ true → flat_of more name ≡ flat_of environment name
   flat_same name s =
       ap (λ o. own_parts more (includes_of o) ++ own_of o) (theory_same name s)
       ∙ ap (λ z. z ++ own_part environment name) (parts_same (includes_of (theory_of environment name)) (includes_theories environment coherent name))

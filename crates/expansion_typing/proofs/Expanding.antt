@@ -1,9 +1,9 @@
--- What stands is well typed where the scope's signature is.
+-- What stands is well typed over a well-typed signature that knows the scope's declarations, as the scope's own does.
 use Rattle.std.proofs.Common.{◌≡◌, ℕ, zero, suc, [], ◌∷◌, ◌++◌, take, drop, slice_get, Option, Some, None, option_map, inl, inr, refl, sym, ap, subst}
-use Rattle.lf_meaning.specs.Terms.{Constant, Path, Object, Lam, At, Var, Con, App, Family, Pi, AtFamily, FamilyCon, FamilyApp, Kind, Ty, PiKind, Context, domain_count, with_domains}
+use Rattle.lf_meaning.specs.Terms.{Path, Object, Lam, At, Var, Con, App, Family, Pi, AtFamily, FamilyCon, FamilyApp, Kind, Ty, PiKind, Context, domain_count, with_domains}
 use Rattle.lf_meaning.specs.Raising.{raise_family}
 use Rattle.lf_meaning.specs.Signatures.{Class, FamilyClass, KindClass, Value, SameAs, TermValue, FamilyValue, Declaration, Signature, undefined_class, class_of}
-use Rattle.lf_meaning.specs.Judgements.{Checks, Synthesises, IsFamily, IsKind, IsContext, IsClass, Fits, ValueFits, IsDeclaration}
+use Rattle.lf_meaning.specs.Judgements.{Checks, Synthesises, IsFamily, IsKind, IsContext, IsClass, Fits, ValueFits, IsDeclaration, IsSignature}
 use Rattle.lf_metatheory.proofs.Declared.{class_more}
 use Rattle.lf_metatheory.proofs.Typed.{more_checks, more_family, more_kind}
 use Rattle.lf_metatheory.proofs.HeadTyping.{synthesised_is_family}
@@ -19,12 +19,14 @@ use Rattle.expansion_meaning.specs.Locals.{Local, Locals, with_local, variables_
 use Rattle.expansion_meaning.specs.NameHeads.{class_head}
 use Rattle.expansion_meaning.specs.Stands.{BeginsAs, NameStands, IsAtomicFamily, StandsObject, StandsHead, StandsArguments, StandsFamily, StandsKind, StandsClass, StandsFamilyValue, NameGives, BuildsValue, StandsValue}
 use Rattle.expansion_meaning.proofs.Binding.{some_same}
+use Rattle.holding_laws.specs.HoldingLaws.{Grows}
 use Rattle.holding_laws.specs.ExpansionHolds.{scope_signature}
 use Rattle.holding_laws.proofs.Declared.{place_of, class_in}
 use Rattle.holding_laws.proofs.Expanding.{scope_member}
 use Rattle.expansion_typing.specs.TypingOfExpansion.{IsTypedScope, StandingObjectChecks, StandingFamilyIsFamily, StandingKindIsKind, StandingClassIsClass, StandingValueFits}
 use Rattle.translation_typing.proofs.KindDomains.{domains_append}
 use Rattle.translation_typing.proofs.TypedHeads.{OnSpine, UnderBinders, family_whole}
+use Rattle.translation_typing.proofs.Grown.{declaration_more}
 use Rattle.expansion_typing.proofs.HeadsTyped.{HeadTyped, object_checks, head_taken, domain_typed}
 
 local_there : (locals : Locals) (index : ℕ) (family : Family) → family_at locals index ≡ Some family → (own : Family) × (slice_get (context_of locals) index ≡ Some own) × (family ≡ raise_family (suc index) 0 own)
@@ -39,69 +41,54 @@ local_there locals index family h = by locals index (slice_get locals index) ref
     by xs i None e g = absurd (cc)
     by xs i (Some own) e g = (own.family, at xs i own e, some_same (sym g))
 
-module _ (scope : Scope) (ok : IsTypedScope scope) where
-  abbrev sig : Signature
-  sig = scope_signature scope
+-- what a signature knows of a declaration
+pub record DeclaredTyped (sig : Signature) (d : Declaration) : Type 0 where
+  pub class : class_of sig d.name ≡ undefined_class d.value d.class
+  pub is : IsDeclaration sig d
 
-  -- ---- declarations
+-- over a well-typed signature that knows all declarations of the scope
+module _ (scope : Scope) (sig : Signature) (typed : IsSignature sig) (knows : (d : Declaration) → Member d (scope_signature scope) → DeclaredTyped sig d) where
+  -- ---- names
 
-  record DeclaredTyped (d : Declaration) : Type 0 where
-    class : class_of sig d.name ≡ undefined_class d.value d.class
-    before : Signature
-    more : Signature
-    parts : sig ≡ before ++ more
-    is : IsDeclaration before d
+  same : Grows sig sig
+  same c class h = h
 
-  declared_typed : (d : Declaration) → Member d sig → DeclaredTyped d
-  declared_typed d m =
-      let p = place_of sig d m in
-      let s = split_at sig p.0 d p.1 in
-      record { class = class_in sig ok.once p.0 d p.1; before = take p.0 sig; more = d ∷ drop (suc p.0) sig; parts = s; is = ok.typed (take p.0 sig) d (drop (suc p.0) sig) s }
+  class_head_typed : (context : Context) (c : IsContext sig context) (d : Declaration) (class : Class) (value : Option Value) → class_of sig d.name ≡ undefined_class value class → IsClass sig class → ValueFits sig value class
+      → HeadTyped sig typed context c (class_head d.name class value)
+  class_head_typed context c d (FamilyClass a) None e h g = (inr (Con d.name, refl, e), more_family sig sig same [] context a h)
+  class_head_typed context c d (FamilyClass a) (Some (SameAs o)) e h g = (inr (Con o, refl, g), more_family sig sig same [] context a h)
+  class_head_typed context c d (FamilyClass a) (Some (TermValue m)) e h g = (inl (more_checks sig sig same [] context m a g), more_family sig sig same [] context a h)
+  class_head_typed context c d (FamilyClass a) (Some (FamilyValue n body)) e h g = absurd g
+  class_head_typed context c d (KindClass k) None e h g = (OnSpine (FamilyCon d.name) refl refl e, more_kind sig sig same [] context k h)
+  class_head_typed context c d (KindClass k) (Some (SameAs o)) e h g = (OnSpine (FamilyCon o) refl refl g, more_kind sig sig same [] context k h)
+  class_head_typed context c d (KindClass k) (Some (TermValue m)) e h g = absurd g
+  class_head_typed context c d (KindClass k) (Some (FamilyValue n body)) e h g =
+      (UnderBinders g.0 (subst (λ z. IsFamily sig z body) (sym (domains_append k [] context)) (more_family sig sig same (with_domains k []) context body g.1)), more_kind sig sig same [] context k h)
 
-  module _ (before more : Signature) (parts : sig ≡ before ++ more) where
-    grown : (c : Constant) (k : Class) → class_of before c ≡ Some k → class_of sig c ≡ Some k
-    grown c k h = subst (λ z. class_of z c ≡ Some k) (sym parts) (class_more before more c k h)
+  own_value_fits : (d : Declaration) (class : Class) (value : Option Value) → class_of sig d.name ≡ undefined_class value class → ValueFits sig value class → Fits sig (own_value d value) class
+  own_value_fits d class None e g = e
+  own_value_fits d class (Some value) e g = g
 
-    class_head_typed : (context : Context) (c : IsContext sig context) (d : Declaration) (class : Class) (value : Option Value) → class_of sig d.name ≡ undefined_class value class → IsClass before class → ValueFits before value class
-        → HeadTyped sig ok.typed context c (class_head d.name class value)
-    class_head_typed context c d (FamilyClass a) None e h g = (inr (Con d.name, refl, e), more_family before sig grown [] context a h)
-    class_head_typed context c d (FamilyClass a) (Some (SameAs o)) e h g = (inr (Con o, refl, grown o (FamilyClass a) g), more_family before sig grown [] context a h)
-    class_head_typed context c d (FamilyClass a) (Some (TermValue m)) e h g = (inl (more_checks before sig grown [] context m a g), more_family before sig grown [] context a h)
-    class_head_typed context c d (FamilyClass a) (Some (FamilyValue n body)) e h g = absurd g
-    class_head_typed context c d (KindClass k) None e h g = (OnSpine (FamilyCon d.name) refl refl e, more_kind before sig grown [] context k h)
-    class_head_typed context c d (KindClass k) (Some (SameAs o)) e h g = (OnSpine (FamilyCon o) refl refl (grown o (KindClass k) g), more_kind before sig grown [] context k h)
-    class_head_typed context c d (KindClass k) (Some (TermValue m)) e h g = absurd g
-    class_head_typed context c d (KindClass k) (Some (FamilyValue n body)) e h g =
-        (UnderBinders g.0 (subst (λ z. IsFamily sig z body) (sym (domains_append k [] context)) (more_family before sig grown (with_domains k []) context body g.1)), more_kind before sig grown [] context k h)
-
-    value_typed : (d : Declaration) (class : Class) (value : Option Value) → class_of sig d.name ≡ undefined_class value class → ValueFits before value class → Fits sig (own_value d value) class
-    value_typed d class None e g = e
-    value_typed d class (Some (SameAs o)) e g = grown o class g
-    value_typed d (FamilyClass a) (Some (TermValue m)) e g = more_checks before sig grown [] [] m a g
-    value_typed d (KindClass k) (Some (TermValue m)) e g = absurd g
-    value_typed d (FamilyClass a) (Some (FamilyValue n body)) e g = absurd g
-    value_typed d (KindClass k) (Some (FamilyValue n body)) e g = (g.0, subst (λ z. IsFamily sig z body) (sym (domains_append k [] [])) (more_family before sig grown (with_domains k []) [] body g.1))
-
-  begins_typed : (locals : Locals) (path : Path) (resolved : Resolved) (head : Head) (c : IsContext sig (context_of locals)) → StandsFor scope (variables_of locals) path resolved → BeginsAs locals resolved head → HeadTyped sig ok.typed (context_of locals) c head
+  begins_typed : (locals : Locals) (path : Path) (resolved : Resolved) (head : Head) (c : IsContext sig (context_of locals)) → StandsFor scope (variables_of locals) path resolved → BeginsAs locals resolved head → HeadTyped sig typed (context_of locals) c head
   begins_typed locals path (Variable index) head c s b =
       let l = local_there locals index b.0 b.1 in
       let synthesises : Synthesises sig (context_of locals) (Var index) b.0 = record { family = l.0; found = l.1; is = l.2 } in
-      subst (HeadTyped sig ok.typed (context_of locals) c) (sym b.2) (inr (Var index, refl, synthesises), synthesised_is_family sig ok.typed (context_of locals) (Var index) b.0 c synthesises)
+      subst (HeadTyped sig typed (context_of locals) c) (sym b.2) (inr (Var index, refl, synthesises), synthesised_is_family sig typed (context_of locals) (Var index) b.0 c synthesises)
   begins_typed locals path (Declared d) head c s b =
-      let t = declared_typed d (scope_member scope (variables_of locals) path d s) in
+      let t = knows d (scope_member scope (variables_of locals) path d s) in
       let i = t.is in
-      subst (HeadTyped sig ok.typed (context_of locals) c) (sym b) (class_head_typed t.before t.more t.parts (context_of locals) c d d.class d.value t.class i.class_is i.value_fits)
+      subst (HeadTyped sig typed (context_of locals) c) (sym b) (class_head_typed (context_of locals) c d d.class d.value t.class i.class_is i.value_fits)
   begins_typed locals path Unknown head c s b = absurd b
   begins_typed locals path Ambiguous head c s b = absurd b
 
-  name_typed : (locals : Locals) (path : Path) (head : Head) (c : IsContext sig (context_of locals)) → NameStands scope locals path head → HeadTyped sig ok.typed (context_of locals) c head
+  name_typed : (locals : Locals) (path : Path) (head : Head) (c : IsContext sig (context_of locals)) → NameStands scope locals path head → HeadTyped sig typed (context_of locals) c head
   name_typed locals path head c n = begins_typed locals path n.resolved head c n.stands n.begins
 
   -- ---- expressions
 
-  at_atomic : (locals : Locals) (family : Family) (object : Object) (c : IsContext sig (context_of locals)) → IsAtomicFamily family → HeadTyped sig ok.typed (context_of locals) c (ObjectHead object family) → Checks sig (context_of locals) object family
+  at_atomic : (locals : Locals) (family : Family) (object : Object) (c : IsContext sig (context_of locals)) → IsAtomicFamily family → HeadTyped sig typed (context_of locals) c (ObjectHead object family) → Checks sig (context_of locals) object family
   at_atomic locals (Pi a b) object c i h = absurd i
-  at_atomic locals (AtFamily p) object c i h = object_checks sig ok.typed (context_of locals) c object p h.0
+  at_atomic locals (AtFamily p) object c i h = object_checks sig typed (context_of locals) c object p h.0
 
   mutual
     pub object_typed : (e : Expr) (locals : Locals) (family : Family) (object : Object) → IsContext sig (context_of locals) → IsFamily sig (context_of locals) family → StandsObject scope locals e family object → Checks sig (context_of locals) object family
@@ -121,7 +108,7 @@ module _ (scope : Scope) (ok : IsTypedScope scope) where
     object_typed (AppExpr span function arguments) locals family object c f s =
         let b = s.1 in at_atomic locals family object c s.0 (arguments_typed arguments locals b.first (ObjectHead object family) c (head_typed function locals b.first c b.begins) b.takes)
 
-    pub head_typed : (e : Expr) (locals : Locals) (head : Head) (c : IsContext sig (context_of locals)) → StandsHead scope locals e head → HeadTyped sig ok.typed (context_of locals) c head
+    pub head_typed : (e : Expr) (locals : Locals) (head : Head) (c : IsContext sig (context_of locals)) → StandsHead scope locals e head → HeadTyped sig typed (context_of locals) c head
     head_typed (NameExpr span path) locals head c s = name_typed locals path head c s
     head_typed (AppExpr span function arguments) locals head c s = arguments_typed arguments locals s.first head c (head_typed function locals s.first c s.begins) s.takes
     head_typed (LamExpr span binder body) locals head c s = absurd s
@@ -131,12 +118,12 @@ module _ (scope : Scope) (ok : IsTypedScope scope) where
     head_typed (ArrowExpr span domain body) locals head c s = absurd s
     head_typed (BackExpr span body domain) locals head c s = absurd s
 
-    pub arguments_typed : (xs : Exprs) (locals : Locals) (first head : Head) (c : IsContext sig (context_of locals)) → HeadTyped sig ok.typed (context_of locals) c first → StandsArguments scope locals xs first head → HeadTyped sig ok.typed (context_of locals) c head
-    arguments_typed NoArgs locals first head c h s = subst (HeadTyped sig ok.typed (context_of locals) c) (sym s) h
+    pub arguments_typed : (xs : Exprs) (locals : Locals) (first head : Head) (c : IsContext sig (context_of locals)) → HeadTyped sig typed (context_of locals) c first → StandsArguments scope locals xs first head → HeadTyped sig typed (context_of locals) c head
+    arguments_typed NoArgs locals first head c h s = subst (HeadTyped sig typed (context_of locals) c) (sym s) h
     arguments_typed (ThenArg xs e) locals first head c h s =
         let g = arguments_typed xs locals first s.head c h s.is_before in
-        let d = domain_typed sig ok.typed (context_of locals) c s.head s.domain s.takes g in
-        subst (HeadTyped sig ok.typed (context_of locals) c) (sym s.is) (head_taken sig ok.typed (context_of locals) c s.head s.object s.domain s.takes g (object_typed e locals s.domain s.object c d s.stands))
+        let d = domain_typed sig typed (context_of locals) c s.head s.domain s.takes g in
+        subst (HeadTyped sig typed (context_of locals) c) (sym s.is) (head_taken sig typed (context_of locals) c s.head s.object s.domain s.takes g (object_typed e locals s.domain s.object c d s.stands))
 
     pub family_typed : (e : Expr) (locals : Locals) (family : Family) → IsContext sig (context_of locals) → StandsFamily scope locals e family → IsFamily sig (context_of locals) family
     family_typed (PiExpr span binder domain body) locals family c s =
@@ -177,7 +164,7 @@ module _ (scope : Scope) (ok : IsTypedScope scope) where
 
   -- ---- values
 
-  at_type : (locals : Locals) (kind : Kind) (binders : ℕ) (family : Family) (c : IsContext sig (context_of locals)) → kind ≡ Ty → HeadTyped sig ok.typed (context_of locals) c (FamilyHead binders family Ty) → IsFamily sig (with_domains kind (context_of locals)) family
+  at_type : (locals : Locals) (kind : Kind) (binders : ℕ) (family : Family) (c : IsContext sig (context_of locals)) → kind ≡ Ty → HeadTyped sig typed (context_of locals) c (FamilyHead binders family Ty) → IsFamily sig (with_domains kind (context_of locals)) family
   at_type locals kind binders family c e h = subst (λ k. IsFamily sig (with_domains k (context_of locals)) family) (sym e) (family_whole sig (context_of locals) binders family h.0)
 
   pub family_value_typed : (e : Expr) (locals : Locals) (kind : Kind) (family : Family) → IsContext sig (context_of locals) → IsKind sig (context_of locals) kind → StandsFamilyValue scope locals e kind family → IsFamily sig (with_domains kind (context_of locals)) family
@@ -199,9 +186,9 @@ module _ (scope : Scope) (ok : IsTypedScope scope) where
 
   named_fits : (path : Path) (class : Class) (value : Value) → NameGives scope path class value → Fits sig value class
   named_fits path class value n =
-      let t = declared_typed n.declaration (scope_member scope [] path n.declaration n.stands) in
+      let t = knows n.declaration (scope_member scope [] path n.declaration n.stands) in
       let i = t.is in
-      subst (Fits sig value) n.class_is (subst (λ v. Fits sig v n.declaration.class) (sym n.is) (value_typed t.before t.more t.parts n.declaration n.declaration.class n.declaration.value t.class i.value_fits))
+      subst (Fits sig value) n.class_is (subst (λ v. Fits sig v n.declaration.class) (sym n.is) (own_value_fits n.declaration n.declaration.class n.declaration.value t.class i.value_fits))
 
   object_fits : (m : Object) (a : Family) → Checks sig [] m a → Fits sig (object_value m) (FamilyClass a)
   object_fits (Lam body) a h = h
@@ -231,17 +218,28 @@ module _ (scope : Scope) (ok : IsTypedScope scope) where
   value_fits (ArrowExpr span domain body) class value h s = built_fits (ArrowExpr span domain body) class value h s
   value_fits (BackExpr span body domain) class value h s = built_fits (BackExpr span body domain) class value h s
 
+-- ---- the scope's own signature
+
+pub scope_knows : (scope : Scope) → IsTypedScope scope → (d : Declaration) → Member d (scope_signature scope) → DeclaredTyped (scope_signature scope) d
+scope_knows scope ok d m =
+    let p = place_of (scope_signature scope) d m in
+    let before : Signature = take p.0 (scope_signature scope) in
+    let after : Signature = drop (suc p.0) (scope_signature scope) in
+    let parts : scope_signature scope ≡ before ++ (d ∷ after) = split_at (scope_signature scope) p.0 d p.1 in
+    let grown : Grows before (scope_signature scope) = (λ c class h. subst (λ z. class_of z c ≡ Some class) (sym parts) (class_more before (d ∷ after) c class h)) in
+    record { class = class_in (scope_signature scope) ok.once p.0 d p.1; is = declaration_more before (scope_signature scope) grown d (ok.typed before d after parts) }
+
 pub standing_object_checks : StandingObjectChecks
-standing_object_checks scope locals e family object ok c f s = object_typed scope ok e locals family object c f s
+standing_object_checks scope locals e family object ok c f s = object_typed scope (scope_signature scope) ok.typed (scope_knows scope ok) e locals family object c f s
 
 pub standing_family_is_family : StandingFamilyIsFamily
-standing_family_is_family scope locals e family ok c s = family_typed scope ok e locals family c s
+standing_family_is_family scope locals e family ok c s = family_typed scope (scope_signature scope) ok.typed (scope_knows scope ok) e locals family c s
 
 pub standing_kind_is_kind : StandingKindIsKind
-standing_kind_is_kind scope locals e kind ok c s = kind_typed scope ok e locals kind c s
+standing_kind_is_kind scope locals e kind ok c s = kind_typed scope (scope_signature scope) ok.typed (scope_knows scope ok) e locals kind c s
 
 pub standing_class_is_class : StandingClassIsClass
-standing_class_is_class scope e class ok s = class_typed scope ok e class s
+standing_class_is_class scope e class ok s = class_typed scope (scope_signature scope) ok.typed (scope_knows scope ok) e class s
 
 pub standing_value_fits : StandingValueFits
-standing_value_fits scope e class value ok h s = value_fits scope ok e class value h s
+standing_value_fits scope e class value ok h s = value_fits scope (scope_signature scope) ok.typed (scope_knows scope ok) e class value h s

@@ -197,7 +197,7 @@ module _ (setting : Setting) (ok : SettingHolds setting) where
   identity_sees : (assigned : List Assigned) (theory : Name) → is_some (theory_of setting.environment theory) ≡ true → identity_covers setting assigned theory ≡ true → codomain_sees setting theory ≡ true
   identity_sees assigned theory s h = (and_parts (is_none_of (covers_of setting assigned theory)) (codomain_sees setting theory) h).1
 
-  identity_grows : (assigned : List Assigned) (theory : Name) → is_some (theory_of setting.environment theory) ≡ true → is_identity_covering setting assigned theory ≡ true → Grows (flat_of setting.environment theory) (scope_signature setting.scope)
+  pub identity_grows : (assigned : List Assigned) (theory : Name) → is_some (theory_of setting.environment theory) ≡ true → is_identity_covering setting assigned theory ≡ true → Grows (flat_of setting.environment theory) (scope_signature setting.scope)
   identity_grows assigned theory s h =
       ⊎_elim
       (λ e. seen_grows theory s (identity_sees assigned theory s e))

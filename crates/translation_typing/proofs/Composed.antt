@@ -1,79 +1,23 @@
 -- The composition of typed maps is typed, and its values are proper.
-use Rattle.std.proofs.Common.{◌≡◌, ℕ, zero, suc, [], ◌∷◌, ◌++◌, take, drop, slice_get, Option, Some, None, option_map, refl, sym, ap, ◌∙◌, subst, append-nil, arith}
-use Rattle.lf_meaning.specs.Terms.{Constant, Object, Lam, At, Var, Con, App, Family, Pi, AtFamily, FamilyCon, FamilyApp, with_domains}
-use Rattle.lf_meaning.specs.Signatures.{Class, FamilyClass, KindClass, Value, SameAs, TermValue, FamilyValue, Declaration, Signature, class_of}
-use Rattle.lf_meaning.specs.Judgements.{IsFamily, IsClass, Fits, ValueFits, IsDeclaration, IsSignature}
-use Rattle.lf_metatheory.proofs.Declared.{class_more}
-use Rattle.lf_metatheory.proofs.Typed.{more_checks, more_family, more_kind}
+use Rattle.std.proofs.Common.{◌≡◌, ℕ, slice_get, Option, Some, None, option_map, refl, sym, ap, ◌∙◌, subst}
+use Rattle.lf_meaning.specs.Terms.{Constant, Pi, AtFamily}
+use Rattle.lf_meaning.specs.Signatures.{Class, Value, SameAs, TermValue, FamilyValue, Declaration, Signature}
+use Rattle.lf_meaning.specs.Judgements.{IsClass, Fits}
 use Rattle.translation_meaning.specs.HeadMaps.{Image, HeadMap, image_of}
-use Rattle.translation_meaning.specs.Translation.{translate_object, translate_family, translate_class, translate_value, translate_image, object_value, family_value, same_image, compose}
+use Rattle.translation_meaning.specs.Translation.{translate_object, translate_family, translate_class, translate_value, translate_image, same_image, compose}
 use Rattle.translation_meaning.specs.ProperValues.{IsProperValue, ValuesAreProper}
 use Rattle.translation_meaning.specs.TypedMaps.{KeepsValue, IsTypedAt}
 use Rattle.translation_meaning.proofs.Spines.{composed}
-use Rattle.translation_typing.specs.AtomicBodies.{IsAtomic, HasAtomicBody, BodiesAreAtomic}
+use Rattle.translation_typing.specs.AtomicBodies.{HasAtomicBody, BodiesAreAtomic}
 use Rattle.translation_typing.specs.Composition.{AreComposable, ObjectsAreComposed, FamiliesAreComposed, KindsAreComposed, ClassesAreComposed, ValuesAreComposed, CompositionIsTyped, CompositionIsProper}
 use Rattle.translation_typing.proofs.Bases.{atomic_translated}
+use Rattle.translation_typing.proofs.Proper.{proper_atomic, object_value_proper, family_value_proper}
+use Rattle.translation_typing.proofs.DeclaredTyped.{declared_typed}
 use Rattle.translation_typing.proofs.Laws.{class_carried, value_carried}
 use Rattle.translation_typing.proofs.Composing.{object_composed, family_composed, kind_composed, class_composed, value_composed}
 
 some_is : {A : Type 0} {x y : A} → Some x ≡ Some y → x ≡ y
 some_is e = cc
-
--- ---- declarations of a well-typed signature
-
-split_at : (sig : Signature) (place : ℕ) (d : Declaration) → slice_get sig place ≡ Some d → sig ≡ take place sig ++ (d ∷ drop (suc place) sig)
-split_at [] place d e = absurd (cc)
-split_at (x ∷ sig) zero d e = ap (λ z. z ∷ sig) (some_is e)
-split_at (x ∷ sig) (suc place) d e = ap (λ z. x ∷ z) (split_at sig place d e)
-
-module _ (before sig : Signature) (more : (c : Constant) (k : Class) → class_of before c ≡ Some k → class_of sig c ≡ Some k) where
-  class_grows : (class : Class) → IsClass before class → IsClass sig class
-  class_grows (FamilyClass a) h = more_family before sig more [] [] a h
-  class_grows (KindClass k) h = more_kind before sig more [] [] k h
-
-  fits_more : (class : Class) (value : Value) → Fits before value class → Fits sig value class
-  fits_more class (SameAs c) h = more c class h
-  fits_more (FamilyClass a) (TermValue m) h = more_checks before sig more [] [] m a h
-  fits_more (KindClass k) (TermValue m) h = h
-  fits_more (FamilyClass a) (FamilyValue n body) h = h
-  fits_more (KindClass k) (FamilyValue n body) h = (h.0, subst (λ z. IsFamily sig z body) (append-nil (with_domains k [])) (more_family before sig more (with_domains k []) [] body h.1))
-
-record DeclaredTyped (sig : Signature) (d : Declaration) : Type 0 where
-  class : IsClass sig d.class
-  value : (v : Value) → d.value ≡ Some v → Fits sig v d.class
-
-declared_typed : (sig : Signature) → IsSignature sig → (place : ℕ) (d : Declaration) → slice_get sig place ≡ Some d → DeclaredTyped sig d
-declared_typed sig typed place d e =
-    let before : Signature = take place sig in
-    let parts = split_at sig place d e in
-    let is : IsDeclaration (take place sig) d = typed (take place sig) d (drop (suc place) sig) parts in
-    let more : (c : Constant) (k : Class) → class_of (take place sig) c ≡ Some k → class_of sig c ≡ Some k =
-    (λ c k h. subst (λ z. class_of z c ≡ Some k) (sym parts) (class_more (take place sig) (d ∷ drop (suc place) sig) c k h)) in
-    record {
-      class = class_grows (take place sig) sig more d.class is.class_is;
-      value = λ v q. fits_more (take place sig) sig more d.class v (subst (λ z. ValueFits (take place sig) z d.class) q is.value_fits);
-    }
-
--- ---- proper values
-
-proper_atomic : (value : Value) → IsProperValue value → HasAtomicBody value
-proper_atomic (SameAs c) h = tt
-proper_atomic (TermValue m) h = tt
-proper_atomic (FamilyValue n (Pi a b)) h = absurd h
-proper_atomic (FamilyValue n (AtFamily p)) h = tt
-
-object_value_proper : (o : Object) → IsProperValue (object_value o)
-object_value_proper (Lam m) = tt
-object_value_proper (At (Var i)) = tt
-object_value_proper (At (Con c)) = tt
-object_value_proper (At (App r m)) = tt
-
-family_value_proper : (n : ℕ) (family : Family) → IsAtomic family → IsProperValue (family_value n family)
-family_value_proper n (Pi a b) h = absurd h
-family_value_proper zero (AtFamily (FamilyCon c)) h = tt
-family_value_proper zero (AtFamily (FamilyApp p m)) h = tt
-family_value_proper (suc n) (AtFamily (FamilyCon c)) h = omega arith
-family_value_proper (suc n) (AtFamily (FamilyApp p m)) h = tt
 
 same_image_proper : (along : HeadMap) → ValuesAreProper along → (c : Constant) (o : Option Image) → image_of along c ≡ o → IsProperValue (same_image c o)
 same_image_proper along h c None e = tt

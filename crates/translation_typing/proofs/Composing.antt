@@ -13,7 +13,7 @@ use Rattle.lf_substitution_laws.proofs.Domains.{rename_retypes, retyped_action}
 use Rattle.lf_metatheory.proofs.Closed.{class_is_family, class_is_kind}
 use Rattle.lf_metatheory.proofs.HeadTyping.{synthesised_is_family, synthesised_is_kind, HeadedHas}
 use Rattle.translation_meaning.specs.Heads.{Head, ObjectHead, FamilyHead, head_takes}
-use Rattle.translation_meaning.specs.ProperValues.{IsNoConstant, IsValueBody, IsProperValue}
+use Rattle.translation_meaning.specs.ProperValues.{IsProperValue}
 use Rattle.translation_meaning.specs.HeadMaps.{Image, HeadMap, image_of}
 use Rattle.translation_meaning.specs.Translation.{object_image, headed_image, family_image, family_head_image, family_of, translate_object, translate_head, translate_family, translate_kind, translate_class, translate_value, translate_image, object_value, family_value, same_image, compose}
 use Rattle.translation_meaning.proofs.Spines.{composed}
@@ -24,6 +24,7 @@ use Rattle.translation_typing.proofs.KindDomains.{domains_append, domains_length
 use Rattle.translation_typing.proofs.TypedHeads.{domains_context, FamilyTyped, OnSpine, UnderBinders, HeadIs, binder_taken, family_whole}
 use Rattle.translation_typing.proofs.Bases.{bases, renamed, erase_translated, HasBase, head_base}
 use Rattle.translation_typing.proofs.Images.{by_images}
+use Rattle.translation_typing.proofs.Proper.{proper_object, proper_body}
 use Rattle.translation_typing.proofs.Carrying.{domains_translated, count_translated}
 use Rattle.translation_typing.proofs.Laws.{Images, typed_images, context_carried, family_carried, kind_carried, object_carried, atomic_carried, head_carried, substituted_object, substituted_family, substituted_kind}
 
@@ -264,17 +265,6 @@ module _ (from middle to : Signature) (first second : HeadMap) (is : AreComposab
   class_composed (KindClass k) h = ap KindClass (kind_composed [] k tt h)
 
   -- ---- values
-
-  proper_object : (o : Object) → IsNoConstant o → object_value o ≡ TermValue o
-  proper_object (Lam m) h = refl
-  proper_object (At (Var i)) h = refl
-  proper_object (At (Con c)) h = absurd h
-  proper_object (At (App r m)) h = refl
-
-  proper_body : (body : Family) → IsValueBody zero body → family_value zero body ≡ FamilyValue zero body
-  proper_body (Pi a b) h = absurd h
-  proper_body (AtFamily (FamilyCon c)) h = absurd (omega (arith, h))
-  proper_body (AtFamily (FamilyApp p m)) h = refl
 
   object_value_through : (o : Object) (a : Family) → Checks middle [] o a → translate_value second (object_value o) ≡ object_value (translate_object second o)
   unfolding translate_value translate_object

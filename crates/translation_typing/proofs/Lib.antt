@@ -11,5 +11,8 @@ pub mod Known
 pub mod Agreeing
 pub mod Restricted
 pub mod Laws
+pub mod Proper
+pub mod Grown
+pub mod DeclaredTyped
 pub mod Composing
 pub mod Composed

@@ -6,7 +6,7 @@ use Rattle.lf_meaning.specs.Signatures.{Class, Signature, same_constant, class_o
 use Rattle.lf_meaning.proofs.Equality.{same_constant_sound}
 use Rattle.translation_meaning.specs.HeadMaps.{Image, Mapping, HeadMap, image_of}
 
-pub is_declared : Signature → Constant → Bool
+abbrev pub is_declared : Signature → Constant → Bool
 is_declared sig c = is_some (class_of sig c)
 
 pub restrict : Signature → HeadMap → HeadMap
@@ -41,11 +41,9 @@ module _ (sig : Signature) (c : Constant) where
   restricted (m ∷ ms) = step m ms (is_declared sig m.name) (same_constant m.name c) refl refl (restricted ms)
 
   pub restricted_there : (along : HeadMap) (class : Class) → class_of sig c ≡ Some class → image_of (restrict sig along) c ≡ image_of along c
-  unfolding is_declared
   restricted_there along class e = restricted along ∙ ap (λ o. cond (is_some o) (image_of along c) None) e
 
   pub restricted_declared : (along : HeadMap) (image : Image) → image_of (restrict sig along) c ≡ Some image → (class : Class) × (class_of sig c ≡ Some class)
-  unfolding is_declared
   restricted_declared along image e = by (class_of sig c) refl (sym (restricted along) ∙ e)
     where
       by : (o : Option Class) → class_of sig c ≡ o → cond (is_some o) (image_of along c) None ≡ Some image → (class : Class) × (class_of sig c ≡ Some class)

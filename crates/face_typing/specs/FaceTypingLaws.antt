@@ -1,0 +1,35 @@
+-- Accepted theories flatten to well-typed signatures; accepted views and structures carry typing (this profile).
+use Rattle.std.specs.Prelude.{◌≡◌, ℕ, slice_get, Some}
+use Rattle.log_meaning.specs.Names.{Name}
+use Rattle.log_meaning.specs.Log.{Library}
+use Rattle.lf_meaning.specs.Terms.{Object, Family, Context}
+use Rattle.lf_meaning.specs.Judgements.{IsTyping, IsSignature}
+use Rattle.translation_meaning.specs.Translation.{translate_object, translate_family}
+use Rattle.translation_typing.specs.TypedTranslation.{translate_context}
+use Rattle.library_meaning.specs.Faces.{StructureFace, TheoryFace, ViewFace, IsTheory, IsView, flat_signature, flat_of}
+use Rattle.coherence_laws.specs.CoherenceLaws.{told_by}
+use Rattle.face_typing.specs.TypedFaces.{IsTypedEnvironment}
+
+-- Read: the faces of all accepted modules of a library are well typed.
+abbrev pub FacesAreTyped : Type 0
+FacesAreTyped = (library : Library) → IsTypedEnvironment (told_by library)
+
+-- Read: an accepted theory flattens to a well-typed signature.
+abbrev pub TheoriesFlatten : Type 0
+TheoriesFlatten =
+    (library : Library) (name : Name) (face : TheoryFace) → told_by library name ≡ IsTheory face → IsSignature (flat_signature (told_by library) face)
+
+-- Read: an accepted view carries each typing judgement of its domain to one of its codomain.
+abbrev pub ViewsCarryTyping : Type 0
+ViewsCarryTyping =
+    (library : Library) (name : Name) (face : ViewFace) (context : Context) (object : Object) (family : Family) → told_by library name ≡ IsView face
+    → IsTyping (flat_of (told_by library) face.domain) context object family
+    → IsTyping (flat_of (told_by library) face.codomain) (translate_context face.map context) (translate_object face.map object) (translate_family face.map family)
+
+-- Read: so does each structure of an accepted theory, to the theory.
+abbrev pub StructuresCarryTyping : Type 0
+StructuresCarryTyping =
+    (library : Library) (name : Name) (face : TheoryFace) (i : ℕ) (structure : StructureFace) (context : Context) (object : Object) (family : Family)
+    → told_by library name ≡ IsTheory face → slice_get face.structures i ≡ Some structure
+    → IsTyping (flat_of (told_by library) structure.domain) context object family
+    → IsTyping (flat_signature (told_by library) face) (translate_context structure.map context) (translate_object structure.map object) (translate_family structure.map family)

@@ -1,0 +1,3 @@
+pub mod TypedFaces
+pub mod TypedLinks
+pub mod FaceTypingLaws

@@ -1,0 +1,38 @@
+-- Values in the form in which they are kept.
+use Rattle.std.proofs.Common.{◌≡◌, ℕ, zero, suc, refl, arith}
+use Rattle.lf_meaning.specs.Terms.{Object, Lam, At, Var, Con, App, Family, Pi, AtFamily, FamilyCon, FamilyApp}
+use Rattle.lf_meaning.specs.Signatures.{Value, SameAs, TermValue, FamilyValue}
+use Rattle.translation_meaning.specs.Translation.{object_value, family_value}
+use Rattle.translation_meaning.specs.ProperValues.{IsProperValue}
+use Rattle.translation_meaning.specs.ProperValues.{IsNoConstant, IsValueBody}
+use Rattle.translation_typing.specs.AtomicBodies.{IsAtomic, HasAtomicBody}
+
+pub proper_object : (o : Object) → IsNoConstant o → object_value o ≡ TermValue o
+proper_object (Lam m) h = refl
+proper_object (At (Var i)) h = refl
+proper_object (At (Con c)) h = absurd h
+proper_object (At (App r m)) h = refl
+
+pub proper_body : (body : Family) → IsValueBody zero body → family_value zero body ≡ FamilyValue zero body
+proper_body (Pi a b) h = absurd h
+proper_body (AtFamily (FamilyCon c)) h = absurd (omega (arith, h))
+proper_body (AtFamily (FamilyApp p m)) h = refl
+
+pub proper_atomic : (value : Value) → IsProperValue value → HasAtomicBody value
+proper_atomic (SameAs c) h = tt
+proper_atomic (TermValue m) h = tt
+proper_atomic (FamilyValue n (Pi a b)) h = absurd h
+proper_atomic (FamilyValue n (AtFamily p)) h = tt
+
+pub object_value_proper : (o : Object) → IsProperValue (object_value o)
+object_value_proper (Lam m) = tt
+object_value_proper (At (Var i)) = tt
+object_value_proper (At (Con c)) = tt
+object_value_proper (At (App r m)) = tt
+
+pub family_value_proper : (n : ℕ) (family : Family) → IsAtomic family → IsProperValue (family_value n family)
+family_value_proper n (Pi a b) h = absurd h
+family_value_proper zero (AtFamily (FamilyCon c)) h = tt
+family_value_proper zero (AtFamily (FamilyApp p m)) h = tt
+family_value_proper (suc n) (AtFamily (FamilyCon c)) h = omega arith
+family_value_proper (suc n) (AtFamily (FamilyApp p m)) h = tt
