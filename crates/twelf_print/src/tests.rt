@@ -224,6 +224,10 @@ fn modules_come_back(rt: HostRuntime) -> Result<(), Fail> {
             "%sig S = {\nt : type.\nz : t.\nf : t -> t.\napp : (t -> t) -> t.\n}.\n",
         ),
         (
+            "%sig U = { u : type. z : u. g : u -> u -> u. }.",
+            "%sig U = {\nu : type.\nz : u.\ng : u -> u -> u.\n}.\n",
+        ),
+        (
             "%view F : S -> U = { t := u. z := z. f := [x] g x x. app := [h] h (h z). }.",
             "%view F : S -> U = {\nt := u.\nz := z.\nf := [x] g x x.\napp := [h] h (h z).\n}.\n",
         ),

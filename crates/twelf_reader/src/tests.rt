@@ -83,8 +83,21 @@ fn modules_and_faults(rt: HostRuntime) -> Result<(), Fail> {
             "theory FOL mag e left right, 2:10 FOL, 3:15 Magma",
         ),
         (
+            "%sig S = {\nt : type.\nz : t.\nf : t -> t.\napp : (t -> t) -> t.\n}.\n",
+            "theory t z f app",
+        ),
+        (
+            "%sig U = {\nu : type.\nz : u.\ng : u -> u -> u.\n}.\n",
+            "theory u z g",
+        ),
+        (
             "%view F : S -> U = { t := u. z := z. f := [x] g x x. app := [h] h (h z). }.",
             "view of 4, 1:11 S, 1:16 U",
+        ),
+        ("%sig Set = { a : type. }.", "theory a"),
+        (
+            "%sig Mag = { %struct u : Set. op : u.a -> u.a -> u.a. }.",
+            "theory u op, 1:26 Set",
         ),
         (
             "%sig Ring = { %struct add : Mag. %struct mul : Mag = { %struct u := Ring.add.u. }. }.",
