@@ -3,13 +3,13 @@ use Rattle.std.proofs.Common.{◌≡◌, [], ◌++◌, Option, Some, None, Ok, E
 use Rattle.lf_meaning.specs.Terms.{Name, Object, Family}
 use Rattle.lf_meaning.specs.Judgements.{IsTyping}
 use Rattle.log_meaning.specs.Names.{Text}
-use Rattle.log_meaning.specs.Log.{Library}
 use Rattle.text_meaning.specs.Trees.{Judgement}
 use Rattle.text_meaning.specs.Reading.{JudgementText, ModuleTree, JudgementTree, Answer, Read, Syntax, TooDeep, Unsupported, Reads}
 use Rattle.text_laws.specs.ReadingLaws.{read}
 use Rattle.text_laws.proofs.OneAnswer.{one_reading}
 use Rattle.translation_meaning.specs.Translation.{translate_object, translate_family}
 use Rattle.library_meaning.specs.Faces.{TheoryFace, ViewFace, IsView, view_face, Environment, theory_of, includes_of, own_of, own_parts, flat_signature, flat_of}
+use Rattle.library_meaning.specs.Coherence.{IsCoherent}
 use Rattle.expansion_meaning.specs.Answers as answers
 use Rattle.expansion_meaning.specs.Expansion.{expand_object, expand_family}
 use Rattle.expansion_meaning.proofs.Sound.{object_sound, family_sound}
@@ -21,11 +21,12 @@ use Rattle.link_coherence_laws.proofs.WordsHold.{flat_once}
 use Rattle.verdict_meaning.specs.Modules.{scope_in}
 use Rattle.coherence_laws.specs.CoherenceLaws.{told_by}
 use Rattle.coherence_laws.proofs.LibrariesHold.{library_coherent}
+use Rattle.face_typing.specs.TypedFaces.{IsTypedEnvironment}
 use Rattle.face_typing.proofs.LinksTyped.{links_are_typed}
-use Rattle.face_typing.proofs.LibrariesTyped.{faces_are_typed, views_carry_typing}
+use Rattle.face_typing.proofs.LibrariesTyped.{faces_are_typed, known_views_carry}
 use Rattle.printing_meaning.specs.CarriedLines.{Carries}
 use Rattle.judged_output.specs.Carrying.{carried_object, carried_family, carried_over, carried_text, carried_along, carry}
-use Rattle.carried_typing.specs.CarriedTyping.{IsCarried, CarriedIsTyping}
+use Rattle.carried_typing.specs.CarriedTyping.{IsCarried, CarriedIsTyping, LibrariesCarryTyping}
 
 objects_same : {m n : Object} {a b : Family} → Carries m a ≡ Carries n b → m ≡ n
 objects_same e = cc
@@ -33,21 +34,18 @@ objects_same e = cc
 families_same : {m n : Object} {a b : Family} → Carries m a ≡ Carries n b → a ≡ b
 families_same e = cc
 
-module _ (library : Library) (name : Name) (view : ViewFace) (is : told_by library name ≡ IsView view) (text : Text) (object : Object) (family : Family) where
-  abbrev environment : Environment
-  environment = told_by library
-
+module _ (environment : Environment) (coherent : IsCoherent environment) (typed : IsTypedEnvironment environment) (name : Name) (view : ViewFace) (is : environment name ≡ IsView view) (text : Text) (object : Object) (family : Family) where
   abbrev Result : Type 0
   Result = IsCarried environment view text object family
 
-  module _ (judgement : Judgement) (reads : Reads JudgementText text (Read (JudgementTree judgement))) (source : TheoryFace) (source_is : theory_of (told_by library) view.domain ≡ Some source) where
+  module _ (judgement : Judgement) (reads : Reads JudgementText text (Read (JudgementTree judgement))) (source : TheoryFace) (source_is : theory_of environment view.domain ≡ Some source) where
     flat_is : flat_of environment view.domain ≡ flat_signature environment source
     flat_is = ap (λ o. own_parts environment (includes_of o) ++ own_of o) source_is
 
-    typed_scope : IsTypedScope (scope_in (told_by library) source)
+    typed_scope : IsTypedScope (scope_in environment source)
     typed_scope = record {
-      typed = ((faces_are_typed links_are_typed library).theories view.domain source (known_theory (environment view.domain) source source_is)).signature;
-      once = once_names (flat_signature environment source) (subst Once flat_is (flat_once environment (library_coherent library) view.domain));
+      typed = (typed.theories view.domain source (known_theory (environment view.domain) source source_is)).signature;
+      once = once_names (flat_signature environment source) (subst Once flat_is (flat_once environment coherent view.domain));
     }
 
     told : (from_family : Family) (from_object : Object) → expand_family (scope_in environment source) [] judgement.family ≡ Ok from_family → expand_object (scope_in environment source) [] judgement.object from_family ≡ Ok from_object
@@ -70,7 +68,7 @@ module _ (library : Library) (name : Name) (view : ViewFace) (is : told_by libra
           is_typing = typing;
           object_is = sym (objects_same h);
           family_is = sym (families_same h);
-          carried_typing = subst₂ (IsTyping (flat_of environment view.codomain) []) (objects_same h) (families_same h) (views_carry_typing (faces_are_typed links_are_typed) library name view [] from_object from_family is typing);
+          carried_typing = subst₂ (IsTyping (flat_of environment view.codomain) []) (objects_same h) (families_same h) (known_views_carry environment name view [] from_object from_family coherent typed is typing);
         }
 
     by_object : (from_family : Family) (answer : answers.Answer Object) → expand_family (scope_in environment source) [] judgement.family ≡ Ok from_family → expand_object (scope_in environment source) [] judgement.object from_family ≡ answer
@@ -95,5 +93,9 @@ module _ (library : Library) (name : Name) (view : ViewFace) (is : told_by libra
 
 pub carried_is_typing : CarriedIsTyping
 unfolding carry
-carried_is_typing library name view text object family is h =
-    by_reading library name view is text object family (read JudgementText text) refl (ap (λ o. carried_along (told_by library) o text) (sym (ap view_face is)) ∙ h)
+carried_is_typing environment name view text object family coherent typed is h =
+    by_reading environment coherent typed name view is text object family (read JudgementText text) refl (ap (λ o. carried_along environment o text) (sym (ap view_face is)) ∙ h)
+
+pub libraries_carry_typing : LibrariesCarryTyping
+libraries_carry_typing library name view text object family is h =
+    carried_is_typing (told_by library) name view text object family (library_coherent library) (faces_are_typed links_are_typed library) is h

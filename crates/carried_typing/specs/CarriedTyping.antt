@@ -8,9 +8,11 @@ use Rattle.text_meaning.specs.Trees.{Judgement}
 use Rattle.text_meaning.specs.Reading.{JudgementText, JudgementTree, Read, Reads}
 use Rattle.translation_meaning.specs.Translation.{translate_object, translate_family}
 use Rattle.library_meaning.specs.Faces.{TheoryFace, ViewFace, IsView, Environment, theory_of, flat_of}
+use Rattle.library_meaning.specs.Coherence.{IsCoherent}
 use Rattle.expansion_meaning.specs.Stands.{StandsObject, StandsFamily}
 use Rattle.verdict_meaning.specs.Modules.{scope_in}
 use Rattle.coherence_laws.specs.CoherenceLaws.{told_by}
+use Rattle.face_typing.specs.TypedFaces.{IsTypedEnvironment}
 use Rattle.printing_meaning.specs.CarriedLines.{Carries}
 use Rattle.judged_output.specs.Carrying.{carry}
 
@@ -30,8 +32,15 @@ pub record IsCarried (environment : Environment) (view : ViewFace) (text : Text)
   pub family_is : family ≡ translate_family view.map from_family
   pub carried_typing : IsTyping (flat_of environment view.codomain) [] object family
 
--- Read: so it is with all that is carried along an accepted view, over the verdicts of a library.
+-- Read: so it is with all that is carried along a view, where all that is known is coherent and well typed.
 abbrev pub CarriedIsTyping : Type 0
 CarriedIsTyping =
+    (environment : Environment) (name : Name) (view : ViewFace) (text : Text) (object : Object) (family : Family)
+    → IsCoherent environment → IsTypedEnvironment environment → environment name ≡ IsView view
+    → carry environment name text ≡ Carries object family → IsCarried environment view text object family
+
+-- Read: so it is over the verdicts of a library.
+abbrev pub LibrariesCarryTyping : Type 0
+LibrariesCarryTyping =
     (library : Library) (name : Name) (view : ViewFace) (text : Text) (object : Object) (family : Family) → told_by library name ≡ IsView view
     → carry (told_by library) name text ≡ Carries object family → IsCarried (told_by library) view text object family

@@ -8,7 +8,7 @@ use Rattle.log_meaning.specs.Names.{Name, Text, same_name, is_among}
 use Rattle.log_meaning.specs.Log.{Library, text_of, is_present}
 use Rattle.log_meaning.proofs.Members.{Member, filter_in}
 use Rattle.log_meaning.proofs.Order.{member_among, same_sound, same_itself}
-use Rattle.walk_meaning.specs.Walks.{of_text, direct, walking, is_ungrounded}
+use Rattle.walk_meaning.specs.Walks.{of_text, direct, walking, is_ungrounded, is_grounded}
 use Rattle.walk_meaning.specs.Reach.{reach}
 use Rattle.walk_meaning.proofs.Walking.{present_in}
 use Rattle.walk_meaning.proofs.Reaching.{reach_least}
@@ -272,7 +272,7 @@ module _ (library : Library) where
   absent_known : (y : Name) → is_present library y ≡ false → known_if (verdict_under (verdicts library) y) ≡ IsAbsent
   absent_known y e = sym (told_under y) ∙ none_known (verdict_of library y) (verdict_exactly library y ∙ e)
 
-  closed_extends : (names : List Name) → AreClosed library names → (name : Name) → is_among names name ≡ true → Extends (known_to library name) (known_of names (verdicts library))
+  pub closed_extends : (names : List Name) → AreClosed library names → (name : Name) → is_among names name ≡ true → Extends (known_to library name) (known_of names (verdicts library))
   closed_extends names closed name n y = by (is_among (others_reached library name) y) (is_present library y) refl refl
     where
       by : (b p : Bool) → is_among (others_reached library name) y ≡ b → is_present library y ≡ p
@@ -282,7 +282,7 @@ module _ (library : Library) where
       by true true e q =
           inr (known_in names y true (closed name y n (member_among (reach dependencies library name) y (in_others library name y e).0) q) ∙ sym (known_here name y true e))
 
-  listed : (names : List Name) (x : Name) (known : Known) → known_of names (verdicts library) x ≡ known → (known ≡ IsAbsent → ⊥)
+  pub listed : (names : List Name) (x : Name) (known : Known) → known_of names (verdicts library) x ≡ known → (known ≡ IsAbsent → ⊥)
       → (is_among names x ≡ true) × Told (verdict_of library x) known
   listed names x known e q = by (is_among names x) refl
     where
@@ -303,11 +303,13 @@ module _ (library : Library) where
             view_transfers (known_to library name) (known_of names (verdicts library)) d.coherent (closed_extends names closed name r.0) name face (view_shown (known_to library name) name v.verdict face v.known_is (d.holds v.verdict v.is)));
       }
 
-pub grounded_know_coherent : GroundedKnowCoherent
+-- no walk from a grounded name is as long as the library
+pub grounded_short : (library : Library) (name : Name) → is_grounded dependencies library name ≡ true → Short dependencies library (length library) name
 unfolding ungrounded_names
-grounded_know_coherent library name g =
-    let d = sound library (length library) name (λ m. true≢false (sym (member_among (walking dependencies library (length library)) name m) ∙ not_ungrounded library name g)) in
-    d.coherent
+grounded_short library name g m = true≢false (sym (member_among (walking dependencies library (length library)) name m) ∙ not_ungrounded library name g)
+
+pub grounded_know_coherent : GroundedKnowCoherent
+grounded_know_coherent library name g = (sound library (length library) name (grounded_short library name g)).coherent
 
 pub faces_are_coherent : FacesAreCoherent
 faces_are_coherent library = library_coherent library

@@ -1,5 +1,5 @@
 -- The faces of all accepted modules of a library are well typed, and so flat signatures, views and structures.
-use Rattle.std.proofs.Common.{◌≡◌, ℕ, zero, suc, Bool, true, false, ◌++◌, length, Option, Some, None, Ok, Err, refl, sym, ◌∙◌, subst}
+use Rattle.std.proofs.Common.{List, ◌≡◌, ℕ, zero, suc, Bool, true, false, ◌++◌, length, Option, Some, None, Ok, Err, refl, sym, ◌∙◌, subst}
 use Rattle.std.specs.Prelude.{⊤}
 use Rattle.lf_meaning.specs.Judgements.{IsSignature}
 use Rattle.lf_meaning.proofs.Equality.{same_name_sound}
@@ -22,16 +22,16 @@ use Rattle.link_meaning.proofs.Linked.{known_theory}
 use Rattle.verdict_meaning.specs.Dependencies.{first_name, dependencies}
 use Rattle.verdict_meaning.specs.Modules.{empty_theory, declare_all, checked_view}
 use Rattle.verdict_meaning.specs.Verdicts.{Interface, Theory, View, Verdict, Accepted, Refused, verdict_by, known_by, written_name, checked, judge_tree, judge_answer, judge}
-use Rattle.verdict_meaning.specs.Rounds.{others_reached, ungrounded_names, verdict_of}
+use Rattle.verdict_meaning.specs.Rounds.{others_reached, ungrounded_names, verdict_of, known_of, verdicts}
 use Rattle.verdict_meaning.specs.VerdictLaws.{known_to}
 use Rattle.verdict_meaning.proofs.Shortness.{Short, short_reached}
 use Rattle.verdict_meaning.proofs.Rounds.{in_others}
 use Rattle.verdict_meaning.proofs.Verdicts.{verdict_is_judged}
-use Rattle.coherence_laws.specs.CoherenceLaws.{told_by}
+use Rattle.coherence_laws.specs.CoherenceLaws.{told_by, AreClosed}
 use Rattle.coherence_laws.proofs.ModulesHold.{empty_holds}
-use Rattle.coherence_laws.proofs.LibrariesHold.{cycle_refuses, absent_reach, others_not, extends_to, itself_absent, told, theory_shown, view_shown, Sound, verdict_text, verdict_reached, sound, tells_more, accepted_theory, accepted_view, library_coherent}
+use Rattle.coherence_laws.proofs.LibrariesHold.{cycle_refuses, absent_reach, others_not, extends_to, itself_absent, told, theory_shown, view_shown, Sound, verdict_text, verdict_reached, sound, tells_more, accepted_theory, accepted_view, library_coherent, listed, closed_extends, grounded_short}
 use Rattle.face_typing.specs.TypedFaces.{IsTypedTheory, IsTypedView, IsTypedEnvironment}
-use Rattle.face_typing.specs.FaceTypingLaws.{FacesAreTyped, TheoriesFlatten, ViewsCarryTyping, StructuresCarryTyping}
+use Rattle.face_typing.specs.FaceTypingLaws.{FacesAreTyped, TheoriesFlatten, ViewsCarryTyping, StructuresCarryTyping, GroundedKnowTyped, ClosedAreTyped, KnownViewsCarryTyping, KnownStructuresCarryTyping}
 use Rattle.face_typing.proofs.LinkInterface.{LinksAreTyped}
 use Rattle.face_typing.proofs.ModulesTyped.{declare_all_typed, empty_typed, view_typed}
 use Rattle.face_typing.proofs.TypingTransfers.{theory_typing_transfers, view_typing_transfers}
@@ -148,8 +148,29 @@ module _ (links : LinksAreTyped) (library : Library) where
             (view_shown_typed (known_to library name) v.verdict face v.known_is (d.holds v.verdict v.is)));
       }
 
+  closed_typed : (names : List Name) → AreClosed library names → IsTypedEnvironment (known_of names (verdicts library))
+  closed_typed names closed =
+      record {
+        theories = λ name face e. (let r = listed library names name (IsTheory face) e (λ q. absurd (cc)) in
+            let v = r.1 in
+            let d = typed_sound (length library) name (accepted_theory library name v.verdict face v.is v.known_is) in
+            theory_typing_transfers (known_to library name) (known_of names (verdicts library)) d.sound.coherent (closed_extends library names closed name r.0) name face (theory_shown library (known_to library name) name v.verdict face v.known_is (d.sound.holds v.verdict v.is))
+            (theory_shown_typed (known_to library name) v.verdict face v.known_is (d.holds v.verdict v.is)));
+        views = λ name face e. (let r = listed library names name (IsView face) e (λ q. absurd (cc)) in
+            let v = r.1 in
+            let d = typed_sound (length library) name (accepted_view library name v.verdict face v.is v.known_is) in
+            view_typing_transfers (known_to library name) (known_of names (verdicts library)) d.sound.coherent (closed_extends library names closed name r.0) name face (view_shown library (known_to library name) name v.verdict face v.known_is (d.sound.holds v.verdict v.is))
+            (view_shown_typed (known_to library name) v.verdict face v.known_is (d.holds v.verdict v.is)));
+      }
+
 pub faces_are_typed : LinksAreTyped → FacesAreTyped
 faces_are_typed links library = library_typed links library
+
+pub grounded_know_typed : LinksAreTyped → GroundedKnowTyped
+grounded_know_typed links library name g = (typed_sound links library (length library) name (grounded_short library name g)).typed
+
+pub closed_are_typed : LinksAreTyped → ClosedAreTyped
+closed_are_typed links library names closed = closed_typed links library names closed
 
 -- ---- what follows of flat signatures, views and structures
 
@@ -163,25 +184,31 @@ flat_typed environment typed name = by (theory_of environment name) refl
 pub theories_flatten : FacesAreTyped → TheoriesFlatten
 theories_flatten typed library name face e = ((typed library).theories name face e).signature
 
-pub views_carry_typing : FacesAreTyped → ViewsCarryTyping
-views_carry_typing typed library name face context object family e h =
-    let c = (library_coherent library).views name face e in
-    typing_is_carried (flat_of (told_by library) face.domain) (flat_of (told_by library) face.codomain) face.map context object family
+pub known_views_carry : KnownViewsCarryTyping
+known_views_carry environment name face context object family coherent typed e h =
+    let c = coherent.views name face e in
+    typing_is_carried (flat_of environment face.domain) (flat_of environment face.codomain) face.map context object family
     (record {
-      source = flat_typed (told_by library) (typed library) face.domain;
-      target = flat_typed (told_by library) (typed library) face.codomain;
-      typed = (typed library).views name face e;
-      atomic = images_atomic (flat_of (told_by library) face.domain) (flat_of (told_by library) face.codomain) face.map c.map_is;
+      source = flat_typed environment typed face.domain;
+      target = flat_typed environment typed face.codomain;
+      typed = typed.views name face e;
+      atomic = images_atomic (flat_of environment face.domain) (flat_of environment face.codomain) face.map c.map_is;
     }) h
 
-pub structures_carry_typing : FacesAreTyped → StructuresCarryTyping
-structures_carry_typing typed library name face i structure context object family e p h =
-    let c = (library_coherent library).theories name face e in
-    let t = (typed library).theories name face e in
-    typing_is_carried (flat_of (told_by library) structure.domain) (flat_signature (told_by library) face) structure.map context object family
+pub known_structures_carry : KnownStructuresCarryTyping
+known_structures_carry environment name face i structure context object family coherent typed e p h =
+    let c = coherent.theories name face e in
+    let t = typed.theories name face e in
+    typing_is_carried (flat_of environment structure.domain) (flat_signature environment face) structure.map context object family
     (record {
-      source = flat_typed (told_by library) (typed library) structure.domain;
+      source = flat_typed environment typed structure.domain;
       target = t.signature;
       typed = t.maps i structure p;
-      atomic = images_atomic (flat_of (told_by library) structure.domain) (flat_signature (told_by library) face) structure.map (c.maps i structure p);
+      atomic = images_atomic (flat_of environment structure.domain) (flat_signature environment face) structure.map (c.maps i structure p);
     }) h
+
+pub views_carry_typing : FacesAreTyped → ViewsCarryTyping
+views_carry_typing typed library name face context object family e h = known_views_carry (told_by library) name face context object family (library_coherent library) (typed library) e h
+
+pub structures_carry_typing : FacesAreTyped → StructuresCarryTyping
+structures_carry_typing typed library name face i structure context object family e p h = known_structures_carry (told_by library) name face i structure context object family (library_coherent library) (typed library) e p h

@@ -1,18 +1,48 @@
 -- Accepted theories flatten to well-typed signatures; accepted views and structures carry typing (this profile).
-use Rattle.std.specs.Prelude.{◌≡◌, ℕ, slice_get, Some}
+use Rattle.std.specs.Prelude.{◌≡◌, ℕ, true, List, slice_get, Some}
 use Rattle.log_meaning.specs.Names.{Name}
 use Rattle.log_meaning.specs.Log.{Library}
 use Rattle.lf_meaning.specs.Terms.{Object, Family, Context}
 use Rattle.lf_meaning.specs.Judgements.{IsTyping, IsSignature}
 use Rattle.translation_meaning.specs.Translation.{translate_object, translate_family}
 use Rattle.translation_typing.specs.TypedTranslation.{translate_context}
-use Rattle.library_meaning.specs.Faces.{StructureFace, TheoryFace, ViewFace, IsTheory, IsView, flat_signature, flat_of}
-use Rattle.coherence_laws.specs.CoherenceLaws.{told_by}
+use Rattle.library_meaning.specs.Faces.{StructureFace, TheoryFace, ViewFace, IsTheory, IsView, Environment, flat_signature, flat_of}
+use Rattle.library_meaning.specs.Coherence.{IsCoherent}
+use Rattle.walk_meaning.specs.Walks.{is_grounded}
+use Rattle.verdict_meaning.specs.Dependencies.{dependencies}
+use Rattle.verdict_meaning.specs.Rounds.{known_of, verdicts}
+use Rattle.verdict_meaning.specs.VerdictLaws.{known_to}
+use Rattle.coherence_laws.specs.CoherenceLaws.{told_by, AreClosed}
 use Rattle.face_typing.specs.TypedFaces.{IsTypedEnvironment}
 
 -- Read: the faces of all accepted modules of a library are well typed.
 abbrev pub FacesAreTyped : Type 0
 FacesAreTyped = (library : Library) → IsTypedEnvironment (told_by library)
+
+-- Read: so is all that a grounded module knows of others.
+abbrev pub GroundedKnowTyped : Type 0
+GroundedKnowTyped = (library : Library) (name : Name) → is_grounded dependencies library name ≡ true → IsTypedEnvironment (known_to library name)
+
+-- Read: so is what the verdicts of a library tell of names that are closed under their reach.
+abbrev pub ClosedAreTyped : Type 0
+ClosedAreTyped = (library : Library) (names : List Name) → AreClosed library names → IsTypedEnvironment (known_of names (verdicts library))
+
+-- Read: where all that is known is coherent and well typed, a view carries each typing judgement of its domain to one of its
+-- codomain.
+abbrev pub KnownViewsCarryTyping : Type 0
+KnownViewsCarryTyping =
+    (environment : Environment) (name : Name) (face : ViewFace) (context : Context) (object : Object) (family : Family)
+    → IsCoherent environment → IsTypedEnvironment environment → environment name ≡ IsView face
+    → IsTyping (flat_of environment face.domain) context object family
+    → IsTyping (flat_of environment face.codomain) (translate_context face.map context) (translate_object face.map object) (translate_family face.map family)
+
+-- Read: so does each structure of a theory, to the theory.
+abbrev pub KnownStructuresCarryTyping : Type 0
+KnownStructuresCarryTyping =
+    (environment : Environment) (name : Name) (face : TheoryFace) (i : ℕ) (structure : StructureFace) (context : Context) (object : Object) (family : Family)
+    → IsCoherent environment → IsTypedEnvironment environment → environment name ≡ IsTheory face → slice_get face.structures i ≡ Some structure
+    → IsTyping (flat_of environment structure.domain) context object family
+    → IsTyping (flat_signature environment face) (translate_context structure.map context) (translate_object structure.map object) (translate_family structure.map family)
 
 -- Read: an accepted theory flattens to a well-typed signature.
 abbrev pub TheoriesFlatten : Type 0

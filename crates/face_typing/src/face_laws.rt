@@ -1,7 +1,7 @@
 //! Accepted theories flatten to well-typed signatures, and accepted views and structures carry typing.
 
 ghost use Rattle.face_typing.specs.TypedLinks.{RowsAreTyped};
-ghost use Rattle.face_typing.specs.FaceTypingLaws.{FacesAreTyped, TheoriesFlatten, ViewsCarryTyping, StructuresCarryTyping};
+ghost use Rattle.face_typing.specs.FaceTypingLaws.{FacesAreTyped, GroundedKnowTyped, ClosedAreTyped, KnownViewsCarryTyping, KnownStructuresCarryTyping, TheoriesFlatten, ViewsCarryTyping, StructuresCarryTyping};
 
 /// In each library the faces of accepted modules are well typed; so an accepted theory flattens to a well-typed signature, and
 /// an accepted view, and each structure, carries every typing judgement of its domain to one of its codomain.
@@ -10,6 +10,18 @@ pub fn law_typed_faces()
     ensures theories { TheoriesFlatten }
     ensures views { ViewsCarryTyping }
     ensures structures { StructuresCarryTyping }
+{}
+
+/// So is what a grounded module knows of others, and what is told of any names that are closed under their reach.
+pub fn law_typed_knowledge()
+    ensures grounded { GroundedKnowTyped }
+    ensures closed { ClosedAreTyped }
+{}
+
+/// Where all that is known is coherent and well typed, views and structures carry typing.
+pub fn law_carrying()
+    ensures views { KnownViewsCarryTyping }
+    ensures structures { KnownStructuresCarryTyping }
 {}
 
 /// A row of words means a link with a typed map.

@@ -1,5 +1,8 @@
-use Rattle.carried_typing.proofs.Carried.{carried_is_typing}
+use Rattle.carried_typing.proofs.Carried.{carried_is_typing, libraries_carry_typing}
 use Rattle.carried_typing.proofs.carrying_laws.law_carried.Goals as goal
 
-pub returns : goal.returns
-returns c = carried_is_typing
+pub returns-clause-known : goal.returns-clause-known
+returns-clause-known c = carried_is_typing
+
+pub returns-clause-libraries : goal.returns-clause-libraries
+returns-clause-libraries c = libraries_carry_typing
