@@ -7,8 +7,8 @@ use crate::reduction::take_all;
 use lf_terms::{Fam, Head, Kind, Memory, Obj, Simple, Spine, shift_obj};
 use std::alloc::Global;
 
-/// The object with the value, at its simple type, substituted hereditarily for variable `at`, which is counted at the top.
-/// The value stands outside of that variable.
+/// The object with the value, at its simple type, substituted hereditarily for variable `at`, which is counted at the
+/// top. The value stands outside of that variable.
 ///
 /// The value is raised and copied only where the variable is met. The call recurses as deep as the terms that it meets.
 /// A growth past the greatest index or length is want of memory.

@@ -5,7 +5,8 @@ use lf_terms::TermPath;
 /// The first fault of a judgement, or want of memory.
 ///
 /// A place is a path of numbers from the outside in: 0 enters a domain or the body of a λ, 1 the body of a Π, 2 + i
-/// argument i, counted from 0; the empty path is the term itself. A number past the greatest of a `u32` is want of memory.
+/// argument i, counted from 0; the empty path is the term itself. A number past the greatest of a `u32` is want of
+/// memory.
 #[derive(Debug, Drop)]
 pub enum LfFault {
     /// A name that is not declared or is defined, or a variable past the context.

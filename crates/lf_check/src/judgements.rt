@@ -15,8 +15,8 @@ use crate::stops::Stop;
 use lf_terms::{Ctx, Fam, FlatSig, Head, Kind, Obj};
 use std::alloc::Global;
 
-/// Whether an object checks against a family (Harper and Licata 2007, section 2). Ok exactly where it does; else the first
-/// fault of the object, or want of memory. The family is taken as it is.
+/// Whether an object checks against a family (Harper and Licata 2007, section 2). Ok exactly where it does; else the
+/// first fault of the object, or want of memory. The family is taken as it is.
 pub fn check_obj(
     alloc: Global,
     sig: &FlatSig,

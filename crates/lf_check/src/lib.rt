@@ -1,5 +1,5 @@
-//! The judgements of Canonical LF (Harper and Licata 2007, section 2) over terms in memory, with the first fault and its
-//! place where one does not hold (this profile).
+//! The judgements of Canonical LF (Harper and Licata 2007, section 2) over terms in memory, with the first fault and
+//! its place where one does not hold (this profile).
 #![tactic(auto)]
 
 mod environment;

@@ -24,8 +24,8 @@ fn is_bad(alloc: Global, sig: &FlatSig, index: usize, wanted: &str) -> Result<bo
     }
 }
 
-/// Whether each line, which has a declaration and behind ` ? ` what is wanted of it after the declarations of the text, is
-/// answered so: `ok`, or a fault of that declaration.
+/// Whether each line, which has a declaration and behind ` ? ` what is wanted of it after the declarations of the
+/// text, is answered so: `ok`, or a fault of that declaration.
 fn answered(alloc: Global, text: &str, lines: &str) -> Result<bool, Fail> {
     for line in lines.lines() {
         let (declaration, wanted) = line.split_once(" ? ").ok_or("nothing is wanted")?;
@@ -53,15 +53,15 @@ fn a_function_at_its_own_domain(rt: HostRuntime) -> Result<(), Fail> {
 }
 
 const MONOID: &str = "\
-i : type
-o : type
-pf : .o type pi
-eq : .i .i .o pi pi
-all : .i .o pi .o pi
-op : .i .i .i pi pi
-e : .i
-left : .i e #0 op/2 #0 eq/2 .pf/1 pi
-right : .i #0 e op/2 #0 eq/2 .pf/1 pi";
+FOL.i : type
+FOL.o : type
+FOL.pf : .FOL.o type pi
+FOL.eq : .FOL.i .FOL.i .FOL.o pi pi
+FOL.all : .FOL.i .FOL.o pi .FOL.o pi
+Monoid.mag.op : .FOL.i .FOL.i .FOL.i pi pi
+Monoid.e : .FOL.i
+Monoid.left : .FOL.i Monoid.e #0 Monoid.mag.op/2 #0 FOL.eq/2 .FOL.pf/1 pi
+Monoid.right : .FOL.i #0 Monoid.e Monoid.mag.op/2 #0 FOL.eq/2 .FOL.pf/1 pi";
 
 #[test]
 fn a_monoid_over_first_order_logic(rt: HostRuntime) -> Result<(), Fail> {

@@ -17,9 +17,9 @@ use crate::{LfFault, SigFault};
 use lf_terms::{Class, Ctx, Fam, FlatDecl, FlatSig, Kind, QName, Value, same_class};
 use std::alloc::Global;
 
-/// Whether a signature is well typed: each declaration, over the undefined ones before it, has a family or a kind as its
-/// class and, where it is defined, a value that fits the class. Ok exactly where it is; else the first bad declaration with
-/// its first fault, or want of memory.
+/// Whether a signature is well typed: each declaration, over the undefined ones before it, has a family or a kind as
+/// its class and, where it is defined, a value that fits the class. Ok exactly where it is; else the first bad
+/// declaration with its first fault, or want of memory.
 pub fn check_sig(alloc: Global, sig: &FlatSig) -> Result<(), SigFault>
     ensures answer { AnswersSignature result (signature_fault (read_signature sig.now)) }
     ensures accepted { OnOk result (IsSignature (read_signature sig.now)) }

@@ -20,8 +20,8 @@ pub(crate) enum FaultKind {
     Level,
 }
 
-/// Why a check stops: for want of memory, or at a fault. The numbers of its place stand from the inside out, so that each
-/// step on the way out adds its own at the end, and a check without a fault keeps no path.
+/// Why a check stops: for want of memory, or at a fault. The numbers of its place stand from the inside out, so that
+/// each step on the way out adds its own at the end, and a check without a fault keeps no path.
 #[derive(Debug, Drop)]
 pub(crate) enum Stop {
     Memory,

@@ -1,8 +1,10 @@
 //! Terms, signatures and wanted answers of the tests, read from texts: a test is then a text, which is cheap to prove.
 //!
-//! A term is written from the inside out. Each word takes terms off a stack and puts one on it: `#i` is a variable, `c` a
-//! constant and `.a` an atomic family, each with `/n` behind it where it takes n objects as its arguments; `lam` takes an
-//! object, `pi` two families or a family and a kind; `type` is the kind.
+//! A term is written from the inside out. Each word takes terms off a stack and puts one on it: `#i` is a variable,
+//! `c` a constant and `.a` an atomic family, each with `/n` behind it where it takes n objects as its arguments;
+//! `lam` takes an object, `pi` two families or a family and a kind; `type` is the kind.
+//!
+//! A constant is written with its theory, as `T.c` or `T.s.c`; one name alone is of theory `t`.
 
 use crate::LfFault;
 use lf_terms::{
@@ -20,10 +22,23 @@ struct Stacks {
 
 /// The constant of that name.
 pub(crate) fn constant(alloc: Global, text: &str) -> Result<QName, Fail> {
+    let (theory, names) = text.split_once('.').unwrap_or(("t", text));
     Ok(QName {
-        theory: Name::new(alloc, "t")?,
-        path: Path::new(alloc, Name::new(alloc, text)?)?,
+        theory: Name::new(alloc, theory)?,
+        path: path(alloc, names)?,
     })
+}
+
+/// The path of one name, or of two with a dot between them.
+fn path(alloc: Global, text: &str) -> Result<Path, Fail> {
+    match text.split_once('.') {
+        None => Ok(Path::new(alloc, Name::new(alloc, text)?)?),
+        Some((first, second)) => {
+            let mut path = Path::new(alloc, Name::new(alloc, first)?)?;
+            path.push(Name::new(alloc, second)?)?;
+            Ok(path)
+        }
+    }
 }
 
 /// The last objects, as arguments.

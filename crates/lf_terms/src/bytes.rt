@@ -65,6 +65,7 @@ impl Bytes {
         Ok(())
     }
 
+    /// The number of bytes.
     pub fn len(&self) -> usize
         ensures { result ≡ length self.now }
     {
@@ -79,6 +80,7 @@ impl Bytes {
         self.items.get(i)
     }
 
+    /// The bytes, in order.
     pub fn as_slice(&self) -> &[u8]
         ensures { result.now ≡ self.now }
     {

@@ -21,7 +21,7 @@ pub enum Value {
 }
 
 impl Class {
-    /// An equal classifier.
+    /// An equal classifier, copied as its kind or family is.
     pub fn copy(&self, alloc: Global) -> Result<Class, Memory>
         ensures { IfOk result (λ class. read_class class ≡ read_class self.now) }
     {
@@ -33,7 +33,7 @@ impl Class {
 }
 
 impl Value {
-    /// An equal value.
+    /// An equal value, copied as its object or family is.
     pub fn copy(&self, alloc: Global) -> Result<Value, Memory>
         ensures { IfOk result (λ value. read_value value ≡ read_value self.now) }
     {

@@ -47,6 +47,7 @@ impl Ctx {
         }
     }
 
+    /// The number of variables.
     pub fn len(&self) -> usize
         ensures { result ≡ length self.now }
     {
@@ -61,6 +62,7 @@ impl Ctx {
         self.items.get(i)
     }
 
+    /// The families of the variables, from the outermost to the innermost.
     pub fn as_slice(&self) -> &[Fam]
         ensures { result.now ≡ self.now }
     {

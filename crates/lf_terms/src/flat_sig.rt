@@ -97,7 +97,8 @@ impl FlatSig {
         }
     }
 
-    /// Adds a declaration at the end, or hands it back.
+    /// Adds a declaration at the end, or hands it back: `Twice` exactly where its name is declared already, `Memory` for
+    /// want of memory.
     pub fn push(&mut self, decl: FlatDecl) -> Result<(), PushFault>
         ensures ok { OnOk result (self.new ≡ self.old ++ decl ∷ []) }
         ensures err { OnErr result (self.new ≡ self.old) }
@@ -142,6 +143,7 @@ impl FlatSig {
         }
     }
 
+    /// The number of declarations.
     pub fn len(&self) -> usize
         ensures len { result ≡ length self.now }
         ensures distinct { HasDistinctNames self.now }

@@ -48,7 +48,8 @@ impl HeadMap {
         }
     }
 
-    /// Adds a constant with its image at the end, or hands both back.
+    /// Adds a constant with its image at the end, or hands both back: `Twice` exactly where the constant has an image
+    /// already, `Memory` for want of memory.
     pub fn push(&mut self, name: QName, image: Image) -> Result<(), MapFault>
         ensures ok { OnOk result (self.new ≡ self.old ++ (name, image) ∷ []) }
         ensures err { OnErr result (self.new ≡ self.old) }
@@ -74,6 +75,7 @@ impl HeadMap {
         self.images.get(name)
     }
 
+    /// The number of constants.
     pub fn len(&self) -> usize
         ensures len { result ≡ length self.now }
         ensures distinct { HasDistinctHeads self.now }

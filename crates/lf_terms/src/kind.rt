@@ -13,7 +13,7 @@ pub enum Kind {
 }
 
 impl Kind {
-    /// An equal kind.
+    /// An equal kind. It recurses into the domains and bodies of a Π; letting a kind go does so too.
     pub fn copy(&self, alloc: Global) -> Result<Kind, Memory>
         ensures { IfOk result (λ kind. read_kind kind ≡ read_kind self.now) }
     {

@@ -1,6 +1,6 @@
 //! Terms of the logical framework, and the small types that all crates share.
-//! Terms, their heads and arguments, simple types, classifiers and values; names, paths, places in a text and in a term;
-//! want of memory; lists of bytes, of texts and of names.
+//! Terms, their heads and arguments, simple types, classifiers and values; names, paths, places in a text and in a
+//! term; want of memory; lists of bytes, of texts and of names.
 #![tactic(auto)]
 
 mod bytes;

@@ -59,7 +59,7 @@ impl Model for Name {
 }
 
 impl Name {
-    /// The name with the bytes of a text.
+    /// The name with the bytes of a text. `NotAName` exactly where they are no identifier; `Memory` is want of memory.
     pub fn new(alloc: Global, text: &str) -> Result<Name, NameFault>
         ensures name { IfOk result (λ name. name ≡ text.now) }
         ensures identifier { OnOk result (IsTrue (is_identifier text.now)) }
@@ -73,6 +73,7 @@ impl Name {
         })
     }
 
+    /// The text of the name.
     pub fn as_str(&self) -> &str
         ensures text { result.now ≡ self.now }
         ensures identifier { IsTrue (is_identifier self.now) }

@@ -42,6 +42,7 @@ impl Names {
         }
     }
 
+    /// The number of names.
     pub fn len(&self) -> usize
         ensures { result ≡ length self.now }
     {
@@ -56,6 +57,7 @@ impl Names {
         self.items.get(i)
     }
 
+    /// The names, in order.
     pub fn as_slice(&self) -> &[Name]
         ensures { result.now ≡ self.now }
     {

@@ -41,7 +41,8 @@ pub struct Spine {
 }
 
 impl Obj {
-    /// An equal object.
+    /// An equal object. It recurses as deep as the object is nested, with a loop over the arguments of a head;
+    /// letting an object go does so too.
     #[cycle(copying)]
     pub fn copy(&self, alloc: Global) -> Result<Obj, Memory>
         ensures { IfOk result (λ m. read_object m ≡ read_object self.now) }
@@ -110,6 +111,7 @@ impl Spine {
         }
     }
 
+    /// The number of arguments.
     pub fn len(&self) -> usize
         ensures { result ≡ length (arguments_of self.now) }
     {
@@ -124,6 +126,7 @@ impl Spine {
         self.items.get(i)
     }
 
+    /// The arguments, from the first to the last.
     pub fn as_slice(&self) -> &[Obj]
         ensures { result.now ≡ arguments_of self.now }
     {

@@ -57,6 +57,7 @@ impl Path {
         self.names.len()
     }
 
+    /// The names, from the first to the last.
     pub fn as_slice(&self) -> &[Name]
         ensures names { result.now ≡ self.now }
         ensures some { 0 < length result.now }

@@ -7,7 +7,8 @@ ghost use Rattle.lf_terms.specs.Readings.{read_head, read_object, read_arguments
 
 use crate::{Class, Fam, Head, Kind, Obj, Spine, Value};
 
-/// Whether two objects are equal. It recurses as deep as the objects are nested, with a loop over the arguments of a head.
+/// Whether two objects are equal. It recurses as deep as the objects are nested, with a loop over the arguments of a
+/// head.
 #[cycle(sameness)]
 pub fn same_obj(a: &Obj, b: &Obj) -> bool
     ensures { result ≡ same_object (read_object a.now) (read_object b.now) }
@@ -47,7 +48,7 @@ fn same_spine(a: &Spine, b: &Spine) -> bool
     true
 }
 
-/// Whether two families are equal.
+/// Whether two families are equal. It recurses into the domains and bodies of a Π.
 pub fn same_fam(a: &Fam, b: &Fam) -> bool
     ensures { result ≡ same_family (read_family a.now) (read_family b.now) }
 {
@@ -60,7 +61,7 @@ pub fn same_fam(a: &Fam, b: &Fam) -> bool
     }
 }
 
-/// Whether two kinds are equal.
+/// Whether two kinds are equal. It recurses into the domains and bodies of a Π.
 pub fn same_kind(a: &Kind, b: &Kind) -> bool
     ensures { result ≡ meaning.same_kind (read_kind a.now) (read_kind b.now) }
 {

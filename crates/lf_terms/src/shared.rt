@@ -39,6 +39,7 @@ impl<X: Drop> Arc<X> {
         })
     }
 
+    /// The value.
     pub fn get(&self) -> &X
         ensures { result.now ≡ self.now }
     {

@@ -7,7 +7,8 @@ use crate::{Fam, Head, Kind, Memory, Obj, Spine};
 use std::alloc::Global;
 
 /// The object with `by` added to every index that is not below `from`, which is counted at the top. An index past the
-/// greatest is want of memory, and so is a binder under which `from` would pass it.
+/// greatest is want of memory, and so is a binder under which `from` would pass it. It recurses as deep as the object
+/// is nested, with a loop over the arguments of a head.
 #[cycle(shifting)]
 pub fn shift_obj(alloc: Global, t: &Obj, by: u32, from: u32) -> Result<Obj, Memory>
     ensures { IfOk result (λ m. read_object m ≡ raise by from (read_object t.now)) }

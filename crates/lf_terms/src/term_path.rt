@@ -48,6 +48,7 @@ impl TermPath {
         }
     }
 
+    /// How many numbers the path has.
     pub fn len(&self) -> usize
         ensures { result ≡ length self.now }
     {
@@ -62,6 +63,7 @@ impl TermPath {
         self.items.get(i)
     }
 
+    /// The numbers, in order.
     pub fn as_slice(&self) -> &[u32]
         ensures { result.now ≡ self.now }
     {

@@ -43,6 +43,7 @@ impl Texts {
         }
     }
 
+    /// The number of texts.
     pub fn len(&self) -> usize
         ensures { result ≡ length self.now }
     {
@@ -57,6 +58,7 @@ impl Texts {
         self.items.get(i)
     }
 
+    /// The texts, in order.
     pub fn as_slice(&self) -> &[String]
         ensures { map string_bytes result.now ≡ self.now }
     {

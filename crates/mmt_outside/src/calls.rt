@@ -22,6 +22,7 @@ impl Model for CallCount {
 }
 
 impl CallCount {
+    /// No calls yet. Those fail whose numbers, counted from 1, are in the list.
     pub fn new(fails: Inputs64) -> Self
         ensures { result ≡ no_calls fails }
     {

@@ -16,6 +16,7 @@ pub enum FileBytes {
     TooBig,
 }
 
+/// Folders of files, each told or not.
 pub trait Folder {
     ghost use Rattle.mmt_outside.specs.Files.{Files, IsListing, IsReadOf, IsWithinLimit};
 
@@ -56,6 +57,7 @@ impl Model for NoFolder {
 }
 
 impl NoFolder {
+    /// The folder, before any call has failed.
     pub fn new() -> Self
         ensures { result ≡ 0 }
     {

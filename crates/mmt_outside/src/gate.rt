@@ -2,6 +2,7 @@
 
 use std::sync::Wait;
 
+/// What a worker passes before it installs a verdict.
 pub trait Gate {
     /// Called before a worker installs the verdict of a module. The call may wait.
     fn before_install<R: Wait>(&self, rt: &R, worker: u32, name: &str);

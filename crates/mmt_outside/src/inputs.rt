@@ -41,6 +41,7 @@ impl Inputs64 {
         }
     }
 
+    /// How many numbers the list has.
     pub fn len(&self) -> usize
         ensures { result ≡ length self.now }
     {
@@ -55,6 +56,7 @@ impl Inputs64 {
         self.items.get(i)
     }
 
+    /// The numbers, in order.
     pub fn as_slice(&self) -> &[u64]
         ensures { result.now ≡ self.now }
     {

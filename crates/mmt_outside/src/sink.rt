@@ -6,6 +6,7 @@ ghost use Rattle.mmt_outside.specs.Faults.{HasCause};
 
 use crate::Failed;
 
+/// What takes the bytes of an output, in order.
 pub trait Sink {
     /// The bytes taken, and how many of them the last flush without an error covered, where the sink tells them.
     ghost taken: { Self → Option Taken };

@@ -6,6 +6,7 @@ ghost use Rattle.mmt_outside.specs.Faults.{HasCause};
 
 use crate::Failed;
 
+/// What gives the bytes of an input, in order.
 pub trait Source {
     /// The bytes that are left, where the source tells them.
     ghost left: { Self → Option (List ℕ) };

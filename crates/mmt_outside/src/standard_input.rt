@@ -31,6 +31,7 @@ impl Model for StdSource {
 }
 
 impl StdSource {
+    /// The standard input, of which nothing is read yet.
     pub fn new(rt: HostRuntime) -> Self
         ensures { result ≡ 0 }
     {

@@ -23,6 +23,7 @@ impl Model for StdSink {
 }
 
 impl StdSink {
+    /// The standard output, to which nothing is written yet.
     pub fn new(rt: HostRuntime) -> Self
         ensures { result ≡ 0 }
     {

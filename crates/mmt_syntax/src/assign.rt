@@ -65,6 +65,7 @@ impl Assigns {
         }
     }
 
+    /// The number of assignments.
     pub fn len(&self) -> usize
         ensures { result ≡ length self.now }
     {
@@ -79,6 +80,7 @@ impl Assigns {
         self.items.get(i)
     }
 
+    /// The assignments, in order.
     pub fn as_slice(&self) -> &[Assign]
         ensures { result.now ≡ self.now }
     {

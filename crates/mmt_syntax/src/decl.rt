@@ -79,6 +79,7 @@ impl Decls {
         }
     }
 
+    /// The number of declarations.
     pub fn len(&self) -> usize
         ensures { result ≡ length self.now }
     {
@@ -93,6 +94,7 @@ impl Decls {
         self.items.get(i)
     }
 
+    /// The declarations, in order.
     pub fn as_slice(&self) -> &[Decl]
         ensures { result.now ≡ self.now }
     {

@@ -91,6 +91,7 @@ impl Exprs {
         }
     }
 
+    /// The number of expressions.
     pub fn len(&self) -> usize
         ensures { result ≡ length (expressions_of self.now) }
     {
@@ -105,6 +106,7 @@ impl Exprs {
         self.items.get(i)
     }
 
+    /// The expressions, in order.
     pub fn as_slice(&self) -> &[Expr]
         ensures { result.now ≡ expressions_of self.now }
     {

@@ -64,6 +64,7 @@ impl FileFaults {
         }
     }
 
+    /// The number of faults.
     pub fn len(&self) -> usize
         ensures { result ≡ length self.now }
     {
@@ -78,6 +79,7 @@ impl FileFaults {
         self.items.get(i)
     }
 
+    /// The faults, in order.
     pub fn as_slice(&self) -> &[FileFault]
         ensures { result.now ≡ self.now }
     {

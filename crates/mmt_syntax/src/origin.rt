@@ -52,6 +52,7 @@ impl Origins {
         }
     }
 
+    /// The number of origins.
     pub fn len(&self) -> usize
         ensures { result ≡ length self.now }
     {
@@ -66,6 +67,7 @@ impl Origins {
         self.items.get(i)
     }
 
+    /// The origins, in order.
     pub fn as_slice(&self) -> &[Origin]
         ensures { result.now ≡ self.now }
     {

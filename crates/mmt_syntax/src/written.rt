@@ -59,6 +59,7 @@ impl Words {
         }
     }
 
+    /// The number of words.
     pub fn len(&self) -> usize
         ensures { result ≡ length self.now }
     {
@@ -73,6 +74,7 @@ impl Words {
         self.items.get(i)
     }
 
+    /// The words, in order.
     pub fn as_slice(&self) -> &[Written]
         ensures { result.now ≡ self.now }
     {

@@ -15,8 +15,8 @@ use mmt_outside::Source;
 use std::alloc::Global;
 use std::marker::Model;
 
-/// A script, as far as it was read. It is seen as the bytes that were read from the source and not used yet, the number of
-/// the next line, whether a `put` may still come, and whether an error was answered.
+/// A script, as far as it was read. It is seen as the bytes that were read from the source and not used yet, the
+/// number of the next line, whether a `put` may still come, and whether an error was answered.
 #[derive(Drop)]
 pub struct Script {
     buffer: Buffer,
@@ -46,8 +46,8 @@ impl Script {
         }
     }
 
-    /// The next command of the script. The bytes to come are those in the buffer, and then those that the source has left.
-    /// So far a script gives `Put`, once, `Report`, `Blank` and `End`.
+    /// The next command of the script. The bytes to come are those in the buffer, and then those that the source has
+    /// left. So far a script gives `Put`, once, `Report`, `Blank` and `End`.
     pub fn next_command<S: Source>(
         &mut self,
         alloc: Global,

@@ -43,6 +43,7 @@ impl TokenList {
         }
     }
 
+    /// The number of tokens.
     pub fn len(&self) -> usize
         ensures { result ≡ length self.now }
     {
@@ -57,6 +58,7 @@ impl TokenList {
         self.items.get(i)
     }
 
+    /// The tokens, in order.
     pub fn as_slice(&self) -> &[Token]
         ensures { result.now ≡ self.now }
     {

@@ -14,8 +14,8 @@ use lf_terms::{Bytes, Memory};
 use mmt_syntax::{Binder, Expr, Exprs, Node};
 use std::alloc::Global;
 
-/// The text of an expression, without parentheses around the whole. It spells the same tree up to spans, wherever the tree
-/// is one that some text spells.
+/// The text of an expression, without parentheses around the whole. It spells the same tree up to spans, wherever the
+/// tree is one that some text spells.
 pub fn print_expr(alloc: Global, expr: &Expr) -> Result<Bytes, Memory>
     ensures text { IfOk result (λ text. text ≡ expr_text (read_expr expr.now)) }
     ensures spells { IfOk result (λ text. IsSpelledExpr (read_expr expr.now) → SpellsBackExpr text (read_expr expr.now)) }
@@ -25,8 +25,8 @@ pub fn print_expr(alloc: Global, expr: &Expr) -> Result<Bytes, Memory>
     Ok(out)
 }
 
-/// Writes an expression without parentheses around the whole, and the gap behind. Where it is free, nothing follows that a Π
-/// or λ at its end could take in.
+/// Writes an expression without parentheses around the whole, and the gap behind. Where it is free, nothing follows
+/// that a Π or λ at its end could take in.
 #[cycle(printing)]
 pub(crate) fn expression(out: &mut Bytes, expr: &Expr, free: bool, gap: &[u8]) -> Result<(), Memory>
     ensures ok { OnOk result (out.new ≡ out.old ++ text_of (expr_items free (read_expr expr.now) gap.now)) }

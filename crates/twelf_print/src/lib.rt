@@ -1,5 +1,5 @@
-//! Printed modules and expressions. What is printed spells what was printed, wherever some text does; parentheses stand only
-//! where the grammar needs them, and a declaration takes one line.
+//! Printed modules and expressions. What is printed spells what was printed, wherever some text does; parentheses
+//! stand only where the grammar needs them, and a declaration takes one line.
 #![tactic(auto)]
 
 mod expressions;

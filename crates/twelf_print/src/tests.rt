@@ -255,7 +255,8 @@ fn modules_come_back(rt: HostRuntime) -> Result<(), Fail> {
     Ok(())
 }
 
-/// The expressions that a short judgement spells, and how the first is printed; the print is read again as that expression.
+/// The expressions that a short judgement spells, and how the first is printed; the print is read again as that
+/// expression.
 fn expression_is(alloc: Global, text: &str, printed: &str) -> Result<bool, Fail> {
     let judgement = judged(alloc, text)?;
     let print = print_expr(alloc, &judgement)?;
