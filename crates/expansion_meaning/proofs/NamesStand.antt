@@ -1,6 +1,6 @@
 -- What a name begins as is what the function answers, at its level.
 use Rattle.std.proofs.Common.{◌≡◌, ℕ, zero, suc, true, Option, Some, None, Ok, refl, sym, ap, ◌∙◌, subst}
-use Rattle.lf_meaning.specs.Terms.{Path, Object, Family, Pi, AtFamily, Kind, Ty, PiKind}
+use Rattle.lf_meaning.specs.Terms.{Path, Object, At, Var, Family, Pi, AtFamily, Kind, Ty, PiKind}
 use Rattle.translation_meaning.specs.Heads.{Head, ObjectHead, FamilyHead, head_takes, family_head_takes, family_head_keeps}
 use Rattle.library_meaning.specs.Resolution.{Scope, Resolved, Variable, Declared, Unknown, Ambiguous, resolve}
 use Rattle.library_meaning.proofs.Resolving.{resolution_stands}
@@ -10,7 +10,7 @@ use Rattle.expansion_meaning.specs.Answers.{must, ◌>>=◌}
 use Rattle.expansion_meaning.specs.Locals.{Locals, variables_of, family_at}
 use Rattle.expansion_meaning.specs.NameHeads.{Level, Objects, Families, level_of, same_level, variable_head, resolved_head, name_head}
 use Rattle.expansion_meaning.specs.Stands.{BeginsAs, NameStands}
-use Rattle.expansion_meaning.proofs.Binding.{came_by, goes_by, ok_same, must_holds, must_by}
+use Rattle.expansion_meaning.proofs.Binding.{came_by, goes_by, ok_same, some_same, must_holds, must_by}
 
 pub same_level_sound : (level other : Level) → same_level level other ≡ true → level ≡ other
 same_level_sound Objects Objects h = refl
@@ -73,3 +73,15 @@ name_complete level scope locals span path head n l =
     goes_by (resolved_head locals span (resolve scope (variables_of locals) path)) (λ first. must (same_level (level_of first) level) span Rule.Level >>= λ _. Ok first) head head
     (ap (resolved_head locals span) (sym ((resolution_stands scope (variables_of locals) path).1 n.resolved n.stands)) ∙ begins_resolved locals span n.resolved head n.begins)
     (goes_by (must (same_level (level_of head) level) span Rule.Level) (λ _. Ok head) tt head (must_by (same_level (level_of head) level) span Rule.Level (ap (λ z. same_level z level) l ∙ same_level_itself level)) refl)
+
+-- a name begins as one head, of whichever level
+begins_once : (locals : Locals) (resolved : Resolved) (head other : Head) → BeginsAs locals resolved head → BeginsAs locals resolved other → head ≡ other
+begins_once locals (Variable index) head other b c = b.2 ∙ ap (ObjectHead (At (Var index))) (some_same (sym b.1 ∙ c.1)) ∙ sym c.2
+begins_once locals (Declared declaration) head other b c = b ∙ sym c
+begins_once locals Unknown head other b c = absurd b
+begins_once locals Ambiguous head other b c = absurd b
+
+pub one_name : (scope : Scope) (locals : Locals) (path : Path) (head other : Head) → NameStands scope locals path head → NameStands scope locals path other → head ≡ other
+one_name scope locals path head other n m =
+    let only = (resolution_stands scope (variables_of locals) path).1 in
+    begins_once locals n.resolved head other n.begins (subst (λ resolved. BeginsAs locals resolved other) (only m.resolved m.stands ∙ sym (only n.resolved n.stands)) m.begins)

@@ -1,7 +1,13 @@
 -- The laws of expansion.
-use Rattle.std.proofs.Common.{sym, ◌∙◌}
-use Rattle.expansion_meaning.specs.ExpansionLaws.{ObjectsStand, HeadsStand, ArgumentsStand, FamiliesStand, KindsStand, ClassesStand, FamilyValuesStand, ValuesStand, OneObject, OneFamily, OneKind, OneClass, OneValue}
+use Rattle.std.proofs.Common.{◌≡◌, sym, ◌∙◌, subst}
+use Rattle.translation_meaning.specs.Heads.{Head}
+use Rattle.library_meaning.specs.Resolution.{Scope}
+use Rattle.text_meaning.specs.Trees.{Expr, TypeExpr, NameExpr, AppExpr, PiExpr, LamExpr, TypedLamExpr, ArrowExpr, BackExpr}
+use Rattle.expansion_meaning.specs.Locals.{Locals}
+use Rattle.expansion_meaning.specs.Stands.{StandsHead, StandsArguments}
+use Rattle.expansion_meaning.specs.ExpansionLaws.{ObjectsStand, HeadsStand, ArgumentsStand, FamiliesStand, KindsStand, ClassesStand, FamilyValuesStand, ValuesStand, OneObject, OneHead, OneHeadTaken, OneFamily, OneKind, OneClass, OneFamilyValue, OneValue}
 use Rattle.expansion_meaning.proofs.Binding.{ok_same}
+use Rattle.expansion_meaning.proofs.NamesStand.{one_name}
 use Rattle.expansion_meaning.proofs.Sound.{object_sound, head_sound, arguments_sound, family_sound, kind_sound}
 use Rattle.expansion_meaning.proofs.Complete.{object_complete, head_complete, arguments_complete, family_complete, kind_complete}
 use Rattle.expansion_meaning.proofs.ValuesStand.{class_sound, class_complete, family_value_sound, family_value_complete, value_sound, value_complete}
@@ -33,6 +39,25 @@ values_stand scope e class value = (value_sound scope e class value, value_compl
 pub one_object : OneObject
 one_object scope locals e family m n s t = ok_same (sym (object_complete e scope locals family m s) ∙ object_complete e scope locals family n t)
 
+pub one_head_taken : OneHeadTaken
+one_head_taken scope locals xs first head other s t = ok_same (sym (arguments_complete xs scope locals first head s) ∙ arguments_complete xs scope locals first other t)
+
+-- the two are not known to be of one level, at which the function would answer both, before they are known to be one
+head_by : (expression : Expr) (scope : Scope) (locals : Locals) (head other : Head) → StandsHead scope locals expression head → StandsHead scope locals expression other → head ≡ other
+head_by (NameExpr span path) scope locals head other s t = one_name scope locals path head other s t
+head_by (AppExpr span function arguments) scope locals head other s t =
+    let e : t.first ≡ s.first = head_by function scope locals t.first s.first t.begins s.begins in
+    one_head_taken scope locals arguments s.first head other s.takes (subst (λ first. StandsArguments scope locals arguments first other) e t.takes)
+head_by (LamExpr span binder body) scope locals head other s t = absurd s
+head_by (TypedLamExpr span binder domain body) scope locals head other s t = absurd s
+head_by (TypeExpr span) scope locals head other s t = absurd s
+head_by (PiExpr span binder domain body) scope locals head other s t = absurd s
+head_by (ArrowExpr span domain body) scope locals head other s t = absurd s
+head_by (BackExpr span body domain) scope locals head other s t = absurd s
+
+pub one_head : OneHead
+one_head scope locals e head other s t = head_by e scope locals head other s t
+
 pub one_family : OneFamily
 one_family scope locals e a b s t = ok_same (sym (family_complete e scope locals a s) ∙ family_complete e scope locals b t)
 
@@ -41,6 +66,9 @@ one_kind scope locals e k l s t = ok_same (sym (kind_complete e scope locals k s
 
 pub one_class : OneClass
 one_class scope e k l s t = ok_same (sym (class_complete scope e k s) ∙ class_complete scope e l t)
+
+pub one_family_value : OneFamilyValue
+one_family_value scope locals e kind a b s t = ok_same (sym (family_value_complete e scope locals kind a s) ∙ family_value_complete e scope locals kind b t)
 
 pub one_value : OneValue
 one_value scope e class v w s t = ok_same (sym (value_complete scope e class v s) ∙ value_complete scope e class w t)

@@ -64,6 +64,18 @@ OneObject =
     (scope : Scope) (locals : Locals) (expression : Expr) (family : Family) (object other : Object)
     → StandsObject scope locals expression family object → StandsObject scope locals expression family other → object ≡ other
 
+-- Read: at most one head stands, an object or a family.
+abbrev pub OneHead : Type 0
+OneHead =
+    (scope : Scope) (locals : Locals) (expression : Expr) (head other : Head)
+    → StandsHead scope locals expression head → StandsHead scope locals expression other → head ≡ other
+
+-- Read: a head becomes at most one head by the arguments.
+abbrev pub OneHeadTaken : Type 0
+OneHeadTaken =
+    (scope : Scope) (locals : Locals) (arguments : Exprs) (first head other : Head)
+    → StandsArguments scope locals arguments first head → StandsArguments scope locals arguments first other → head ≡ other
+
 -- Read: at most one family stands.
 abbrev pub OneFamily : Type 0
 OneFamily =
@@ -80,6 +92,12 @@ OneKind =
 abbrev pub OneClass : Type 0
 OneClass =
     (scope : Scope) (expression : Expr) (class other : Class) → StandsClass scope expression class → StandsClass scope expression other → class ≡ other
+
+-- Read: at most one body of a family value stands.
+abbrev pub OneFamilyValue : Type 0
+OneFamilyValue =
+    (scope : Scope) (locals : Locals) (expression : Expr) (kind : Kind) (body other : Family)
+    → StandsFamilyValue scope locals expression kind body → StandsFamilyValue scope locals expression kind other → body ≡ other
 
 -- Read: at most one value stands.
 abbrev pub OneValue : Type 0

@@ -1,6 +1,6 @@
 //! What expressions stand for.
 
-ghost use Rattle.expansion_meaning.specs.ExpansionLaws.{ObjectsStand, HeadsStand, ArgumentsStand, FamiliesStand, KindsStand, ClassesStand, FamilyValuesStand, ValuesStand, OneObject, OneFamily, OneKind, OneClass, OneValue};
+ghost use Rattle.expansion_meaning.specs.ExpansionLaws.{ObjectsStand, HeadsStand, ArgumentsStand, FamiliesStand, KindsStand, ClassesStand, FamilyValuesStand, ValuesStand, OneObject, OneHead, OneHeadTaken, OneFamily, OneKind, OneClass, OneFamilyValue, OneValue};
 
 /// An expression is expanded to what it stands for, and is refused where it stands for nothing.
 pub fn law_expansion()
@@ -14,11 +14,14 @@ pub fn law_expansion()
     ensures values { ValuesStand }
 {}
 
-/// An expression stands for at most one term.
+/// An expression stands for at most one term of each form, and a head becomes at most one by its arguments.
 pub fn law_one_term()
     ensures object { OneObject }
+    ensures head { OneHead }
+    ensures arguments { OneHeadTaken }
     ensures family { OneFamily }
     ensures kind { OneKind }
     ensures class { OneClass }
+    ensures family_value { OneFamilyValue }
     ensures value { OneValue }
 {}
