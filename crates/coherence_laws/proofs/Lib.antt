@@ -2,3 +2,4 @@ pub mod TheoriesHold
 pub mod ModulesHold
 pub mod Transfer
 pub mod LibrariesHold
+pub mod InclusionsReached

@@ -45,6 +45,10 @@ abbrev pub Holds : Environment → Name → Verdict → Type 0
 Holds environment name (Accepted interface) = Shows environment name interface
 Holds environment name (Refused refusal) = ⊤
 
+pub cycle_refuses : (name : Name) (o : Option Dependency) (interface : Interface) → cycle_at name o ≡ Ok interface → ⊥
+cycle_refuses name None interface h = absurd (cc)
+cycle_refuses name (Some dependency) interface h = absurd (cc)
+
 module _ (environment : Environment) (coherent : IsCoherent environment) (name : Name) (absent : environment name ≡ IsAbsent) where
   checked_shows : (tree : Module) (interface : Interface) → first_name (written_name tree).path ≡ name → checked environment tree ≡ Ok interface → Shows environment name interface
   checked_shows (SigModule written decls) interface e h =
@@ -56,12 +60,8 @@ module _ (environment : Environment) (coherent : IsCoherent environment) (name :
       let w = view_holds environment coherent written domain codomain assigns d.item d.came in
       subst (Shows environment name) (good_same d.goes) (subst (λ n. IsCoherentView environment n d.item) (w.1 ∙ e) w.0)
 
-  pub cycle_refuses : (o : Option Dependency) (interface : Interface) → cycle_at name o ≡ Ok interface → ⊥
-  cycle_refuses None interface h = absurd (cc)
-  cycle_refuses (Some dependency) interface h = absurd (cc)
-
   tree_shows : (ungrounded : Name → Bool) (tree : Module) (b : Bool) (interface : Interface) → judge_tree environment ungrounded name tree b ≡ Ok interface → Shows environment name interface
-  tree_shows ungrounded tree true interface h = absurd (cycle_refuses _ interface h)
+  tree_shows ungrounded tree true interface h = absurd (cycle_refuses name _ interface h)
   tree_shows ungrounded tree false interface h =
       let n = came_by (demand (same_bytes (first_name (written_name tree).path) name) (written_name tree).span Rule.WrongName (written_name tree).path) _ interface h in
       checked_shows tree interface (same_name_sound (first_name (written_name tree).path) name (demand_holds (same_bytes (first_name (written_name tree).path) name) (written_name tree).span Rule.WrongName (written_name tree).path n.item n.came)) n.goes

@@ -1,5 +1,5 @@
 -- Each declaration leaves the theory that is being built coherent.
-use Rattle.std.proofs.Common.{◌≡◌, ◌≢◌, ℕ, ◌<◌, Bool, true, false, cond, List, [], ◌∷◌, ◌++◌, length, fold, slice_get, Option, Some, None, is_some, ◌⊎◌, inl, inr, ⊎_elim, refl, sym, ap, ◌∙◌, subst, true≢false, append_assoc, arith}
+use Rattle.std.proofs.Common.{◌≡◌, ◌≢◌, ℕ, ◌<◌, Bool, true, false, cond, List, [], ◌∷◌, ◌++◌, length, slice_get, Option, Some, None, is_some, ◌⊎◌, inl, inr, ⊎_elim, refl, sym, ap, ◌∙◌, subst, true≢false, append_assoc, arith}
 use lib.Pointwise.{pointwise}
 use Rattle.std.proofs.lemmas.Bool.{and_from}
 use Rattle.lf_meaning.specs.Terms.{Name, Path, Constant}
@@ -10,10 +10,11 @@ use Rattle.log_meaning.proofs.Order.{among_member, member_among}
 use Rattle.log_meaning.proofs.Places.{get_more, place_within, get_front, get_last}
 use Rattle.translation_meaning.specs.HeadMaps.{HeadMap}
 use Rattle.library_meaning.specs.Faces.{StructureFace, TheoryFace, Known, IsAbsent, theory_face, Environment, theory_of, structure_of, includes_of, own_of, own_part, own_parts, flat_signature, flat_of}
-use Rattle.library_meaning.specs.Closure.{sees, with_once, with_all, with_inclusion}
+use Rattle.library_meaning.specs.Closure.{sees, with_inclusion}
 use Rattle.library_meaning.specs.Resolution.{has_path, own_at}
 use Rattle.library_meaning.specs.Holding.{ClassHolds, OptionalValueHolds}
 use Rattle.library_meaning.specs.Coherence.{AreTheories, IsClosure, DeclarationsHold, IsCoherentMap, IsCoherentTheory, IsCoherent, IsInduced}
+use Rattle.library_meaning.proofs.ClosureMembers.{inclusion_member, inclusion_old}
 use Rattle.library_meaning.proofs.ClosureKept.{inclusion_keeps}
 use Rattle.link_meaning.specs.Assignments.{Setting}
 use Rattle.link_meaning.specs.Induced.{induced, with_structure}
@@ -46,34 +47,6 @@ structure_some (x ∷ xs) name structure (inr m) e = structure_some_by (same_nam
 
 pub no_structure : (structures : List StructureFace) (name : Name) → structure_of structures name ≡ None → (structure : StructureFace) → Member structure structures → structure.name ≡ name → ⊥
 no_structure structures name h structure m e = true≢false (sym (structure_some structures name structure m e) ∙ ap is_some h)
-
--- ---- inclusions
-
-once_member : (b : Bool) (names : List Name) (name x : Name) → Member x (cond b names (names ++ name ∷ [])) → Member x names ⊎ (x ≡ name)
-once_member true names name x m = inl m
-once_member false names name x m = ⊎_elim (λ n. inl n) (λ n. ⊎_elim (λ e. inr e) (λ e. absurd e) n) (in_append names (name ∷ []) x m)
-
-once_old : (b : Bool) (names : List Name) (name x : Name) → Member x names → Member x (cond b names (names ++ name ∷ []))
-once_old true names name x m = m
-once_old false names name x m = append_left names (name ∷ []) x m
-
-all_member : (names more : List Name) (x : Name) → Member x (fold with_once names more) → Member x names ⊎ Member x more
-all_member names [] x m = inl m
-all_member names (name ∷ more) x m = ⊎_elim (λ n. ⊎_elim (λ k. inl k) (λ k. inr (inl k)) (once_member (sees names name) names name x n)) (λ n. inr (inr n)) (all_member (with_once names name) more x m)
-
-all_old : (names more : List Name) (x : Name) → Member x names → Member x (fold with_once names more)
-all_old names [] x m = m
-all_old names (name ∷ more) x m = all_old (with_once names name) more x (once_old (sees names name) names name x m)
-
-inclusion_member : (environment : Environment) (names : List Name) (theory x : Name) → Member x (with_inclusion environment names theory) → Member x names ⊎ (Member x (includes_of (theory_of environment theory)) ⊎ (x ≡ theory))
-unfolding with_inclusion with_all
-inclusion_member environment names theory x m =
-    ⊎_elim (λ n. inl n) (λ n. inr (⊎_elim (λ k. inl k) (λ k. ⊎_elim (λ e. inr e) (λ e. absurd e) k) (in_append (includes_of (theory_of environment theory)) (theory ∷ []) x n)))
-    (all_member names (includes_of (theory_of environment theory) ++ theory ∷ []) x m)
-
-pub inclusion_old : (environment : Environment) (names : List Name) (theory x : Name) → Member x names → Member x (with_inclusion environment names theory)
-unfolding with_inclusion with_all
-inclusion_old environment names theory x m = all_old names (includes_of (theory_of environment theory) ++ theory ∷ []) x m
 
 absent_is_none : (known : Known) → known ≡ IsAbsent → is_some (theory_face known) ≡ true → ⊥
 absent_is_none known e h = true≢false (sym h ∙ ap (λ k. is_some (theory_face k)) e)

@@ -1,1 +1,2 @@
 pub mod CoherenceLaws
+pub mod InclusionLaws

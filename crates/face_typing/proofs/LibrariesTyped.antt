@@ -59,7 +59,7 @@ module _ (links : LinksAreTyped) (environment : Environment) (coherent : IsCoher
       subst (ShowsTyped environment) (good_same d.goes) (view_typed links environment coherent typed written domain codomain assigns d.item d.came)
 
   tree_typed : (ungrounded : Name → Bool) (tree : Module) (b : Bool) (interface : Interface) → judge_tree environment ungrounded name tree b ≡ Ok interface → ShowsTyped environment interface
-  tree_typed ungrounded tree true interface h = absurd (cycle_refuses environment coherent name absent _ interface h)
+  tree_typed ungrounded tree true interface h = absurd (cycle_refuses name _ interface h)
   tree_typed ungrounded tree false interface h =
       let n = came_by (demand (same_bytes (first_name (written_name tree).path) name) (written_name tree).span Rule.WrongName (written_name tree).path) _ interface h in
       checked_typed tree interface (same_name_sound (first_name (written_name tree).path) name (demand_holds (same_bytes (first_name (written_name tree).path) name) (written_name tree).span Rule.WrongName (written_name tree).path n.item n.came)) n.goes

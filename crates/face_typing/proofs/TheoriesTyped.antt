@@ -11,6 +11,7 @@ use Rattle.translation_meaning.specs.TypedMaps.{IsTypedMap}
 use Rattle.library_meaning.specs.Faces.{StructureFace, TheoryFace, IsAbsent, Environment, theory_of, includes_of, own_part, own_parts, flat_signature, flat_of}
 use Rattle.library_meaning.specs.Closure.{with_inclusion}
 use Rattle.library_meaning.specs.Coherence.{IsCoherentTheory, IsCoherent}
+use Rattle.library_meaning.proofs.ClosureMembers.{inclusion_old}
 use Rattle.text_meaning.specs.Trees.{Written}
 use Rattle.link_meaning.specs.Induced.{induced, with_structure}
 use Rattle.verdict_meaning.specs.Dependencies.{first_name}
@@ -18,7 +19,7 @@ use Rattle.verdict_meaning.specs.Modules.{with_constant, structure_setting}
 use Rattle.holding_laws.specs.HoldingLaws.{Grows}
 use Rattle.holding_laws.proofs.Declared.{front_grows}
 use Rattle.link_coherence_laws.proofs.Onces.{Once, once_left, member_grows}
-use Rattle.coherence_laws.proofs.TheoriesHold.{here_once, inclusion_old}
+use Rattle.coherence_laws.proofs.TheoriesHold.{here_once}
 use Rattle.face_typing.specs.TypedFaces.{copies_of, HaveFittingImages, IsPlaced, IsTypedTheory, IsTypedEnvironment}
 use Rattle.face_typing.proofs.Grown.{typed_map_more}
 use Rattle.face_typing.proofs.TypedAfter.{signature_after, after_signature, typed_more, images_more, closure_typed}

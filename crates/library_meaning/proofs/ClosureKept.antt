@@ -1,12 +1,13 @@
 -- The inclusion closure lists each theory once, and behind what it includes.
 use Rattle.std.proofs.Common.{◌≡◌, ℕ, zero, suc, Bool, true, false, cond, List, [], ◌∷◌, ◌++◌, length, take, slice_get, fold, Some, ◌⊎◌, inl, inr, ⊎_elim, refl, sym, ap, ◌∙◌, subst, true≢false, arith, append_assoc}
 use Rattle.lf_meaning.specs.Terms.{Name}
-use Rattle.log_meaning.proofs.Members.{Member, in_append, append_left, append_right}
+use Rattle.log_meaning.proofs.Members.{Member, in_append}
 use Rattle.log_meaning.proofs.Order.{among_member, member_among}
 use Rattle.log_meaning.proofs.Places.{place_within, get_more, take_front, take_length}
 use Rattle.library_meaning.specs.Faces.{Environment, theory_of, includes_of}
 use Rattle.library_meaning.specs.Closure.{sees, with_once, with_all, with_inclusion, closure_of}
 use Rattle.library_meaning.specs.Coherence.{IsClosure}
+use Rattle.library_meaning.proofs.ClosureMembers.{with_once_old, with_once_new}
 
 place_member : (names : List Name) (i : ℕ) (name : Name) → slice_get names i ≡ Some name → Member name names
 place_member [] i name h = absurd (cc)
@@ -47,20 +48,6 @@ module _ (environment : Environment) where
       by : (b : Bool) → sees names name ≡ b → IsClosure environment (cond b names (names ++ name ∷ []))
       by true e = c
       by false e = record { once = once_more names name c e; behind = behind_more names name c.behind f }
-
-  with_once_old : (names : List Name) (name other : Name) → Member other names → Member other (with_once names name)
-  with_once_old names name other m = by (sees names name)
-    where
-      by : (b : Bool) → Member other (cond b names (names ++ name ∷ []))
-      by true = m
-      by false = append_left names (name ∷ []) other m
-
-  with_once_new : (names : List Name) (name : Name) → Member name (with_once names name)
-  with_once_new names name = by (sees names name) refl
-    where
-      by : (b : Bool) → sees names name ≡ b → Member name (cond b names (names ++ name ∷ []))
-      by true e = among_member names name e
-      by false e = append_right names (name ∷ []) name (inl refl)
 
   -- all of these, the front of which is there already
   all_keep : (names before rest : List Name) → IsClosure environment names → ((x : Name) → Member x before → Member x names) → AreBehind (before ++ rest) → IsClosure environment (fold with_once names rest)

@@ -1,3 +1,4 @@
+pub mod ClosureMembers
 pub mod ClosureKept
 pub mod Computed
 pub mod ComputedWords

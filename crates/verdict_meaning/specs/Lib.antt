@@ -1,4 +1,5 @@
 pub mod Dependencies
+pub mod Inclusions
 pub mod Modules
 pub mod Verdicts
 pub mod Rounds
