@@ -1,40 +1,38 @@
 -- The closure of an accepted theory is that of the inclusions of its text, and has what it reaches by inclusions alone.
-use Rattle.std.proofs.Common.{◌≡◌, ℕ, zero, suc, Bool, true, false, List, [], ◌∷◌, map, fold, flat_map, length, Option, Some, None, is_some, Ok, Err, inl, inr, ⊎_elim, refl, sym, ap, ◌∙◌, subst, true≢false}
+use Rattle.std.proofs.Common.{◌≡◌, ℕ, zero, suc, true, List, [], ◌∷◌, map, fold, flat_map, length, Option, Some, None, is_some, Ok, inl, inr, ⊎_elim, refl, sym, ap, ◌∙◌, subst, true≢false}
 use Rattle.std.proofs.lemmas.List.Sums.{fold-append}
-use Rattle.lf_meaning.specs.Signatures.{same_name as same_bytes}
-use Rattle.log_meaning.specs.Names.{Name, Text, is_among}
+use Rattle.log_meaning.specs.Names.{Name, Text}
 use Rattle.log_meaning.specs.Log.{Library, text_of}
 use Rattle.log_meaning.proofs.Members.{Member, in_append, in_map, map_in, in_flat_map, flat_map_in}
 use Rattle.log_meaning.proofs.Order.{among_member, member_among}
 use Rattle.walk_meaning.specs.Walks.{of_text, direct, walking}
 use Rattle.walk_meaning.proofs.Walking.{present_in, depends_present}
-use Rattle.text_meaning.specs.Trees.{Decl, IncludeDecl, StructDecl, ConstDecl, Module, SigModule, ViewModule}
+use Rattle.text_meaning.specs.Trees.{Written, Decl, IncludeDecl, StructDecl, ConstDecl, SigModule, ViewModule}
 use Rattle.text_meaning.specs.Reading.{ModuleText, ModuleTree, JudgementTree, Answer, Read, Syntax, TooDeep, Unsupported}
 use Rattle.text_laws.specs.ReadingLaws.{read}
 use Rattle.library_meaning.specs.Faces.{TheoryFace, IsTheory, Environment, theory_of, includes_of}
 use Rattle.library_meaning.specs.Closure.{sees, with_inclusion, closure_of}
 use Rattle.library_meaning.specs.ClosureLaws.{Brings}
 use Rattle.library_meaning.proofs.ClosureMembers.{closure_member, closure_new, closure_same}
-use Rattle.expansion_meaning.specs.Rules.{Rule}
 use Rattle.expansion_meaning.specs.Values.{expand_class}
-use Rattle.expansion_meaning.proofs.Binding.{came_by, some_same}
-use Rattle.link_meaning.specs.Refusals.{Outcome, labelled, demand}
+use Rattle.expansion_meaning.proofs.Binding.{came_by}
+use Rattle.link_meaning.specs.Refusals.{labelled}
 use Rattle.link_meaning.specs.Passes.{link_map}
 use Rattle.link_meaning.proofs.Covered.{good_same}
 use Rattle.link_meaning.proofs.Linked.{known_theory}
 use Rattle.verdict_meaning.specs.Dependencies.{Dependency, first_name, decl_dependencies, module_dependencies, answer_dependencies, dependencies}
-use Rattle.verdict_meaning.specs.Inclusions.{decl_inclusions, module_inclusions, answer_inclusions, text_inclusions, inclusions_in, ReachesByInclusions, Directly, Through}
-use Rattle.verdict_meaning.specs.Modules.{module_test, scope_in, unused_test, declared_value, structure_setting, declare, declare_all, empty_theory, checked_view}
-use Rattle.verdict_meaning.specs.Verdicts.{Interface, Theory, View, verdict_by, known_by, written_name, checked, judge_tree, judge_answer, judge}
-use Rattle.verdict_meaning.specs.Rounds.{ungrounded_names, verdict_of}
+use Rattle.verdict_meaning.specs.Inclusions.{decl_inclusions, answer_inclusions, text_inclusions, inclusions_in, ReachesByInclusions, Directly, Through}
+use Rattle.verdict_meaning.specs.Modules.{module_test, scope_in, unused_test, declared_value, structure_setting, declare, declare_all, empty_theory}
+use Rattle.verdict_meaning.specs.Verdicts.{Theory, Verdict, Accepted, known_by}
+use Rattle.verdict_meaning.specs.Rounds.{verdict_of}
 use Rattle.verdict_meaning.specs.VerdictLaws.{known_to}
 use Rattle.verdict_meaning.proofs.Shortness.{Short, short_step}
-use Rattle.verdict_meaning.proofs.Verdicts.{verdict_is_judged}
 use Rattle.coherence_laws.specs.CoherenceLaws.{told_by}
 use Rattle.coherence_laws.specs.InclusionLaws.{ClosureIsOfText, AcceptedHasClosure, ClosureIsReached, ReachedAreAccepted}
 use Rattle.coherence_laws.proofs.ModulesHold.{known_by_test, theory_there}
 use Rattle.coherence_laws.proofs.Transfer.{theory_same}
-use Rattle.coherence_laws.proofs.LibrariesHold.{cycle_refuses, told, verdict_text, sound, tells_more, accepted_theory, library_coherent}
+use Rattle.coherence_laws.proofs.LibrariesHold.{told, sound, tells_more, accepted_theory, library_coherent}
+use Rattle.coherence_laws.proofs.AcceptedTrees.{FromDeclarations, from_declarations, FromLibrary, from_library, theory_verdict}
 
 -- ---- one module
 
@@ -79,48 +77,6 @@ module _ (environment : Environment) where
         theories = λ other m. ⊎_elim (λ q. one.theories other q) (λ q. rest.theories other q) (in_append (decl_inclusions decl) (flat_map decl_inclusions decls) other m);
       }
 
-  tree_includes : (ungrounded : Name → Bool) (name : Name) (tree : Module) (b : Bool) (face : TheoryFace) (size : ℕ) → judge_tree environment ungrounded name tree b ≡ Ok (Theory face size) → Included environment [] face.includes (module_inclusions tree)
-  tree_includes ungrounded name tree true face size h = absurd (cycle_refuses name _ (Theory face size) h)
-  tree_includes ungrounded name tree false face size h =
-      let n = came_by (demand (same_bytes (first_name (written_name tree).path) name) (written_name tree).span Rule.WrongName (written_name tree).path) _ (Theory face size) h in
-      checked_includes tree face size n.goes
-    where
-      same : {x y : TheoryFace} {n m : ℕ} → Theory x n ≡ Theory y m → x ≡ y
-      same q = cc
-
-      no_view : {x : _} {y : TheoryFace} {n : ℕ} → View x ≡ Theory y n → ⊥
-      no_view q = absurd (cc)
-
-      checked_includes : (tree : Module) (face : TheoryFace) (size : ℕ) → checked environment tree ≡ Ok (Theory face size) → Included environment [] face.includes (module_inclusions tree)
-      checked_includes (SigModule written decls) face size h =
-          let d = came_by (declare_all environment (empty_theory (first_name written.path)) decls) _ (Theory face size) h in
-          subst (λ (z : TheoryFace). Included environment [] z.includes (flat_map decl_inclusions decls)) (same (good_same d.goes))
-          (declare_all_includes (empty_theory (first_name written.path)) d.item decls d.came)
-      checked_includes (ViewModule written domain codomain assigns) face size h =
-          let d = came_by (checked_view environment written domain codomain assigns) _ (Theory face size) h in
-          absurd (no_view (good_same d.goes))
-
-  answer_includes : (ungrounded : Name → Bool) (name : Name) (answer : Answer) (face : TheoryFace) (size : ℕ) → judge_answer environment ungrounded name answer ≡ Ok (Theory face size) → Included environment [] face.includes (answer_inclusions answer)
-  answer_includes ungrounded name (Read (ModuleTree tree)) face size h = tree_includes ungrounded name tree (ungrounded name) face size h
-  answer_includes ungrounded name (Read (JudgementTree tree)) face size h = absurd (cc)
-  answer_includes ungrounded name (Syntax at) face size h = absurd (cc)
-  answer_includes ungrounded name (TooDeep at) face size h = absurd (cc)
-  answer_includes ungrounded name (Unsupported at) face size h = absurd (cc)
-
-  shown_by : (outcome : Outcome Interface) (face : TheoryFace) → known_by (verdict_by outcome) ≡ IsTheory face → (size : ℕ) × (outcome ≡ Ok (Theory face size))
-  shown_by (Ok (Theory found size)) face e = (size, ap (λ z. Ok (Theory z size)) (same e))
-    where
-      same : {x y : TheoryFace} → IsTheory x ≡ IsTheory y → x ≡ y
-      same q = cc
-  shown_by (Ok (View found)) face e = absurd (cc)
-  shown_by (Err refusal) face e = absurd (cc)
-
-  judge_includes : (ungrounded : Name → Bool) (name : Name) (text : Text) (face : TheoryFace) → known_by (judge environment ungrounded name text) ≡ IsTheory face → Included environment [] face.includes (text_inclusions text)
-  unfolding judge text_inclusions
-  judge_includes ungrounded name text face e =
-      let s = shown_by (judge_answer environment ungrounded name (read ModuleText text)) face e in
-      answer_includes ungrounded name (read ModuleText text) face s.0 s.1
-
 -- ---- an inclusion is a dependency
 
 decl_depends : (theory : Name) (decl : Decl) (x : Name) → Member x (decl_inclusions decl) → Member x (map (λ (dependency : Dependency). dependency.name) (decl_dependencies theory decl))
@@ -153,34 +109,47 @@ module _ (library : Library) where
   inclusion_depends name x m = depends_by name (text_of library name) x m
 
   -- an accepted theory, with what its text includes
-  record FromText (name : Name) (face : TheoryFace) : Type 0 where
+  record TextIncludes (name : Name) (face : TheoryFace) : Type 0 where
     short : Short dependencies library (length library) name
     is : face.includes ≡ closure_of (told_by library) (inclusions_in library name)
     theories : (other : Name) → Member other (inclusions_in library name) → is_some (theory_of (told_by library) other) ≡ true
 
-  inclusions_are : (name : Name) (text : Text) → text_of library name ≡ Some text → text_inclusions text ≡ inclusions_in library name
-  unfolding inclusions_in
-  inclusions_are name text e = ap (of_text text_inclusions) (sym e)
+  inclusions_are : (name : Name) (text : Text) (written : Written) (decls : List Decl) → text_of library name ≡ Some text → read ModuleText text ≡ Read (ModuleTree (SigModule written decls)) → flat_map decl_inclusions decls ≡ inclusions_in library name
+  unfolding inclusions_in text_inclusions
+  inclusions_are name text written decls e r = sym (ap (of_text text_inclusions) e ∙ ap answer_inclusions r)
 
   closure_folds : (environment : Environment) (inclusions : List Name) → fold (with_inclusion environment) [] inclusions ≡ closure_of environment inclusions
   unfolding closure_of
   closure_folds environment inclusions = refl
 
-  from_text : (name : Name) (face : TheoryFace) → told_by library name ≡ IsTheory face → FromText name face
-  from_text name face e =
-      let v = told library (verdict_of library name) (IsTheory face) e (λ q. absurd (cc)) in
-      let t = verdict_text library name (text_of library name) v.verdict refl v.is in
-      let s = accepted_theory library name v.verdict face v.is v.known_is in
-      let known = known_to library name in
-      let inclusions = inclusions_in library name in
-      let j : known_by (judge known (is_among (ungrounded_names library)) name t.0) ≡ IsTheory face = ap known_by (some_same (sym (verdict_is_judged library name t.0 t.1) ∙ v.is)) ∙ v.known_is in
-      let i = subst (Included known [] face.includes) (inclusions_are name t.0 t.1) (judge_includes known (is_among (ungrounded_names library)) name t.0 face j) in
-      let same = theory_same known (told_by library) (sound library (length library) name s).coherent (tells_more library name) in
+  included_in_text : (name : Name) (face : TheoryFace) (size : ℕ) (l : FromLibrary library name (Theory face size)) → FromDeclarations (known_to library name) l.from.tree face size
+      → Included (known_to library name) [] face.includes (inclusions_in library name)
+  included_in_text name face size l d =
+      subst (Included (known_to library name) [] face.includes) (inclusions_are name l.text d.written d.decls l.has (l.from.is_read ∙ ap (λ z. Read (ModuleTree z)) d.is))
+      (declare_all_includes (known_to library name) (empty_theory (first_name d.written.path)) face d.decls d.declared)
+
+  text_includes_by : (name : Name) (face : TheoryFace) → Short dependencies library (length library) name → Included (known_to library name) [] face.includes (inclusions_in library name) → TextIncludes name face
+  text_includes_by name face s i =
       record {
         short = s;
-        is = i.is ∙ closure_folds known inclusions ∙ closure_same known (told_by library) inclusions (λ x m. same x (i.theories x m));
+        is = i.is ∙ closure_folds (known_to library name) (inclusions_in library name) ∙ closure_same (known_to library name) (told_by library) (inclusions_in library name) (λ x m. same x (i.theories x m));
         theories = λ x m. ap is_some (same x (i.theories x m)) ∙ i.theories x m;
       }
+    where
+      same : (x : Name) → is_some (theory_of (known_to library name) x) ≡ true → theory_of (told_by library) x ≡ theory_of (known_to library name) x
+      same = theory_same (known_to library name) (told_by library) (sound library (length library) name s).coherent (tells_more library name)
+
+  text_includes_of : (name : Name) (face : TheoryFace) (verdict : Verdict) (size : ℕ) → verdict_of library name ≡ Some verdict → known_by verdict ≡ IsTheory face → verdict ≡ Accepted (Theory face size) → TextIncludes name face
+  text_includes_of name face verdict size h k a =
+      let l = from_library library name (Theory face size) (h ∙ ap Some a) in
+      text_includes_by name face (accepted_theory library name verdict face h k)
+      (included_in_text name face size l (from_declarations (known_to library name) l.from.tree face size l.from.passes))
+
+  text_includes : (name : Name) (face : TheoryFace) → told_by library name ≡ IsTheory face → TextIncludes name face
+  text_includes name face e =
+      let v = told library (verdict_of library name) (IsTheory face) e (λ q. absurd (cc)) in
+      let a = theory_verdict v.verdict face v.known_is in
+      text_includes_of name face v.verdict a.0 v.is v.known_is a.1
 
   -- what an inclusion brings is reached, if it is where the included theory has it
   behind_by : (theory other : Name) (o : Option TheoryFace) → theory_of (told_by library) theory ≡ o → Member other (includes_of o)
@@ -202,40 +171,40 @@ module _ (library : Library) where
   -- what the closure has is reached, by the length of walks
   reached : (n : ℕ) (name other : Name) (face : TheoryFace) → Short dependencies library n name → told_by library name ≡ IsTheory face → Member other face.includes → ReachesByInclusions library name other
   reached zero name other face s e m =
-      let b = closure_member (told_by library) (inclusions_in library name) other (subst (Member other) (from_text name face e).is m) in
+      let b = closure_member (told_by library) (inclusions_in library name) other (subst (Member other) (text_includes name face e).is m) in
       brought_reached name b.theory other b.member b.brings
       (λ found q w. absurd (nothing_behind name b.theory s (inclusion_depends name b.theory b.member)))
   reached (suc n) name other face s e m =
-      let b = closure_member (told_by library) (inclusions_in library name) other (subst (Member other) (from_text name face e).is m) in
+      let b = closure_member (told_by library) (inclusions_in library name) other (subst (Member other) (text_includes name face e).is m) in
       brought_reached name b.theory other b.member b.brings
       (λ found q w. reached n b.theory other found (short_step dependencies library n name b.theory s (inclusion_depends name b.theory b.member)) q w)
 
   -- each included theory is accepted, so the closure has what is reached through it
   listed_by : (name included other : Name) (face : TheoryFace) → told_by library name ≡ IsTheory face → Member included (inclusions_in library name) → (o : Option TheoryFace) → theory_of (told_by library) included ≡ o
       → ((found : TheoryFace) → told_by library included ≡ IsTheory found → Member other found.includes) → Member other face.includes
-  listed_by name included other face e k None q f = absurd (true≢false (sym ((from_text name face e).theories included k) ∙ ap is_some q))
+  listed_by name included other face e k None q f = absurd (true≢false (sym ((text_includes name face e).theories included k) ∙ ap is_some q))
   listed_by name included other face e k (Some found) q f =
-      subst (Member other) (sym (from_text name face e).is)
+      subst (Member other) (sym (text_includes name face e).is)
       (closure_new (told_by library) (inclusions_in library name) included other k
       (inr (ap (λ o. sees (includes_of o) other) q ∙ member_among found.includes other (f found (known_theory (told_by library included) found q)))))
 
   listed : (name other : Name) → ReachesByInclusions library name other → (face : TheoryFace) → told_by library name ≡ IsTheory face → Member other face.includes
   listed name other (Directly s) face e =
-      subst (Member other) (sym (from_text name face e).is) (closure_new (told_by library) (inclusions_in library name) other other (among_member (inclusions_in library name) other s) (inl refl))
+      subst (Member other) (sym (text_includes name face e).is) (closure_new (told_by library) (inclusions_in library name) other other (among_member (inclusions_in library name) other s) (inl refl))
   listed name other (Through {included = included} s r) face e =
       listed_by name included other face e (among_member (inclusions_in library name) included s) (theory_of (told_by library) included) refl (λ found q. listed included other r found q)
 
 -- ---- the laws
 
 pub closure_is_of_text : ClosureIsOfText
-closure_is_of_text library name face e = (from_text library name face e).is
+closure_is_of_text library name face e = (text_includes library name face e).is
 
 pub accepted_has_closure : AcceptedHasClosure
 accepted_has_closure library name face e = ((library_coherent library).theories name face e).includes_closure
 
 pub closure_is_reached : ClosureIsReached
 closure_is_reached library name face other e = (
-  λ s. reached library (length library) name other face (from_text library name face e).short e (among_member face.includes other s),
+  λ s. reached library (length library) name other face (text_includes library name face e).short e (among_member face.includes other s),
   λ r. member_among face.includes other (listed library name other r face e),
 )
 

@@ -1,9 +1,9 @@
 -- The laws of verdicts.
-use Rattle.std.proofs.Common.{◌≡◌, ℕ, zero, suc, Bool, true, false, not, List, map, filter, find, length, ◌+◌, Option, Some, None, is_some, option_map, ⊎_elim, refl, sym, ap, ◌∙◌, subst, true≢false, arith}
+use Rattle.std.proofs.Common.{◌≡◌, ℕ, zero, suc, Bool, true, false, not, cond, List, [], ◌∷◌, map, filter, find, length, slice_get, ◌<◌, ◌+◌, Option, Some, None, is_some, option_map, ⊎_elim, refl, sym, ap, ◌∙◌, subst, true≢false, arith}
 use Rattle.std.proofs.lemmas.Bool.{cases_Bool, and_parts}
 use Rattle.log_meaning.specs.Names.{Name, Text, same_name, is_among}
 use Rattle.log_meaning.specs.Log.{Library, text_of, is_present}
-use Rattle.log_meaning.proofs.Members.{Member, find_found, find_none, in_map}
+use Rattle.log_meaning.proofs.Members.{Member, find_none, in_map}
 use Rattle.log_meaning.proofs.Order.{among_member, member_among}
 use Rattle.walk_meaning.specs.Walks.{of_text, direct, walking, is_ungrounded, is_grounded}
 use Rattle.walk_meaning.proofs.Walking.{ungrounded_dependency}
@@ -12,7 +12,7 @@ use Rattle.text_meaning.specs.Trees.{Module}
 use Rattle.text_meaning.specs.Reading.{ModuleText, ModuleTree, JudgementTree, Answer, Read, Syntax, TooDeep, Unsupported}
 use Rattle.text_laws.specs.ReadingLaws.{read}
 use Rattle.library_meaning.specs.Faces.{Environment}
-use Rattle.link_meaning.proofs.Listing.{placed}
+use Rattle.expansion_meaning.proofs.Binding.{some_same}
 use Rattle.verdict_meaning.specs.Dependencies.{Dependency, module_dependencies, answer_dependencies, dependencies}
 use Rattle.verdict_meaning.specs.Verdicts.{verdict_by, cycle_at, judge_tree, judge_answer, judge}
 use Rattle.verdict_meaning.specs.Rounds.{verdict_under, known_of, others_reached, ungrounded_names, rounds, verdicts, verdict_of}
@@ -145,6 +145,25 @@ here library name d m =
     let r = tree_of (read ModuleText t.0) d t.2 in
     record { text = t.0; has = t.1; tree = r.0; is_read = r.1; among = subst (λ a. Member d (map (λ (dependency : Dependency). dependency.name) (answer_dependencies a))) r.1 t.2 }
 
+-- the first element that passes a test, at its place
+record FoundFirst {A : Type 0} (p : A → Bool) (xs : List A) (x : A) : Type 0 where
+  place : ℕ
+  found : slice_get xs place ≡ Some x
+  passes : p x ≡ true
+  before : (i : ℕ) (y : A) → i < place → slice_get xs i ≡ Some y → p y ≡ false
+
+first_by : {A : Type 0} (p : A → Bool) (y : A) (ys : List A) (x : A) (b : Bool) → p y ≡ b → (find p ys ≡ Some x → FoundFirst p ys x) → cond b (Some y) (find p ys) ≡ Some x → FoundFirst p (y ∷ ys) x
+first_by p y ys x true t h e = record { place = zero; found = e; passes = ap p (sym (some_same e)) ∙ t; before = λ i z l s. absurd (omega (arith, l)) }
+first_by p y ys x false t h e = let q = h e in record { place = suc q.place; found = q.found; passes = q.passes; before = before q.place q.before }
+  where
+    before : (place : ℕ) → ((i : ℕ) (z : _) → i < place → slice_get ys i ≡ Some z → p z ≡ false) → (i : ℕ) (z : _) → i < suc place → slice_get (y ∷ ys) i ≡ Some z → p z ≡ false
+    before place f zero z l s = ap p (sym (some_same s)) ∙ t
+    before place f (suc i) z l s = f i z (omega (arith, l)) s
+
+found_first : {A : Type 0} (p : A → Bool) (xs : List A) (x : A) → find p xs ≡ Some x → FoundFirst p xs x
+found_first p [] x e = absurd (cc)
+found_first p (y ∷ ys) x e = first_by p y ys x (p y) refl (found_first p ys x) e
+
 among_ungrounded : (library : Library) (name : Name) → is_ungrounded dependencies library name ≡ true → is_among (ungrounded_names library) name ≡ true
 unfolding ungrounded_names is_ungrounded
 among_ungrounded library name u = u
@@ -152,6 +171,10 @@ among_ungrounded library name u = u
 ungrounded_among : (library : Library) (name : Name) → is_among (ungrounded_names library) name ≡ true → is_ungrounded dependencies library name ≡ true
 unfolding ungrounded_names is_ungrounded
 ungrounded_among library name u = u
+
+not_among : (library : Library) (name : Name) → is_among (ungrounded_names library) name ≡ false → is_ungrounded dependencies library name ≡ false
+unfolding ungrounded_names is_ungrounded
+not_among library name u = u
 
 pub ungrounded_is_cycle : UngroundedIsCycle
 unfolding judge
@@ -177,16 +200,16 @@ ungrounded_is_cycle library name u = by (find test (module_dependencies h.tree))
         let q = in_map (λ (dependency : Dependency). dependency.name) (module_dependencies h.tree) d.0 h.among in
         absurd (true≢false (sym (ap (is_among (ungrounded_names library)) (sym q.2) ∙ among_ungrounded library d.0 d.2) ∙ find_none test (module_dependencies h.tree) e q.0 q.1))
     by (Some dependency) e =
-        let q = find_found test (module_dependencies h.tree) dependency e in
-        let p = placed (module_dependencies h.tree) dependency q.0 in
+        let q = found_first test (module_dependencies h.tree) dependency e in
         record {
           text = h.text;
           has = h.has;
           tree = h.tree;
           is_read = h.is_read;
           dependency = dependency;
-          place = p.0;
-          found = p.1;
-          ungrounded = ungrounded_among library dependency.name q.1;
+          place = q.place;
+          found = q.found;
+          ungrounded = ungrounded_among library dependency.name q.passes;
+          first = λ i other l s. not_among library other.name (q.before i other l s);
           refused = judged ∙ ap (λ o. Some (verdict_by (cycle_at name o))) e;
         }

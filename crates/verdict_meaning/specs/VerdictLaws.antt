@@ -1,5 +1,5 @@
 -- Laws of verdicts (this profile).
-use Rattle.std.specs.Prelude.{◌≡◌, ℕ, true, slice_get, Some}
+use Rattle.std.specs.Prelude.{◌≡◌, ℕ, ◌<◌, true, false, slice_get, Some}
 use Rattle.log_meaning.specs.Names.{Name, Text, is_among}
 use Rattle.log_meaning.specs.Log.{Library, text_of}
 use Rattle.walk_meaning.specs.Walks.{is_ungrounded, is_grounded}
@@ -41,7 +41,7 @@ VerdictRestsOnVerdicts =
     → ((reached : Name) → is_among (others_reached library name) reached ≡ true → verdict_of library reached ≡ verdict_of other reached)
     → verdict_of library name ≡ verdict_of other name
 
--- Read: the module is refused as a cycle, at a dependency that is ungrounded itself.
+-- Read: the module is refused as a cycle, at the first of its dependencies in the order of the text that is ungrounded itself.
 pub record IsCycle (library : Library) (name : Name) : Type 0 where
   pub text : Text
   pub has : text_of library name ≡ Some text
@@ -51,6 +51,8 @@ pub record IsCycle (library : Library) (name : Name) : Type 0 where
   pub place : ℕ
   pub found : slice_get (module_dependencies tree) place ≡ Some dependency
   pub ungrounded : is_ungrounded dependencies library dependency.name ≡ true
+  pub first : (earlier : ℕ) (other : Dependency) → earlier < place → slice_get (module_dependencies tree) earlier ≡ Some other
+      → is_ungrounded dependencies library other.name ≡ false
   pub refused : verdict_of library name ≡ Some (Refused (record { span = dependency.span; rule = Rule.Cycle; label = dependency.label }))
 
 -- Read: an ungrounded module is refused so, and never accepted.

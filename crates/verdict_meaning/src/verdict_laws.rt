@@ -14,7 +14,7 @@ pub fn law_reach_decides()
     ensures verdicts { VerdictRestsOnVerdicts }
 {}
 
-/// An ungrounded module has an ungrounded dependency, and is refused there.
+/// An ungrounded module has an ungrounded dependency, and is refused at the first one.
 pub fn law_cycles()
     ensures { UngroundedIsCycle }
 {}
