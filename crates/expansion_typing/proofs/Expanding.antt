@@ -23,11 +23,13 @@ use Rattle.holding_laws.specs.HoldingLaws.{Grows}
 use Rattle.holding_laws.specs.ExpansionHolds.{scope_signature}
 use Rattle.holding_laws.proofs.Declared.{place_of, class_in}
 use Rattle.holding_laws.proofs.Expanding.{scope_member}
-use Rattle.expansion_typing.specs.TypingOfExpansion.{IsTypedScope, StandingObjectChecks, StandingFamilyIsFamily, StandingKindIsKind, StandingClassIsClass, StandingValueFits}
+use Rattle.expansion_typing.specs.TypingOfExpansion.{IsTypedScope, StandingObjectChecks, StandingHeadIsTyped, TakenArgumentsAreTyped, StandingFamilyIsFamily, StandingKindIsKind, StandingClassIsClass, StandingFamilyValueIsFamily, StandingValueFits}
 use Rattle.translation_typing.proofs.KindDomains.{domains_append}
-use Rattle.translation_typing.proofs.TypedHeads.{OnSpine, UnderBinders, family_whole}
+use Rattle.translation_typing.specs.FamilyHeads.{OnSpine, UnderBinders}
+use Rattle.translation_typing.proofs.TypedHeads.{family_whole}
 use Rattle.translation_typing.proofs.Grown.{declaration_more}
-use Rattle.expansion_typing.proofs.HeadsTyped.{HeadTyped, object_checks, head_taken, domain_typed}
+use Rattle.expansion_typing.specs.TypingOfHeads.{HeadTyped}
+use Rattle.expansion_typing.proofs.HeadsTyped.{object_checks, head_taken, domain_typed}
 
 local_there : (locals : Locals) (index : ℕ) (family : Family) → family_at locals index ≡ Some family → (own : Family) × (slice_get (context_of locals) index ≡ Some own) × (family ≡ raise_family (suc index) 0 own)
 local_there locals index family h = by locals index (slice_get locals index) refl h
@@ -54,7 +56,7 @@ module _ (scope : Scope) (sig : Signature) (typed : IsSignature sig) (knows : (d
   same c class h = h
 
   class_head_typed : (context : Context) (c : IsContext sig context) (d : Declaration) (class : Class) (value : Option Value) → class_of sig d.name ≡ undefined_class value class → IsClass sig class → ValueFits sig value class
-      → HeadTyped sig typed context c (class_head d.name class value)
+      → HeadTyped sig context (class_head d.name class value)
   class_head_typed context c d (FamilyClass a) None e h g = (inr (Con d.name, refl, e), more_family sig sig same [] context a h)
   class_head_typed context c d (FamilyClass a) (Some (SameAs o)) e h g = (inr (Con o, refl, g), more_family sig sig same [] context a h)
   class_head_typed context c d (FamilyClass a) (Some (TermValue m)) e h g = (inl (more_checks sig sig same [] context m a g), more_family sig sig same [] context a h)
@@ -69,24 +71,24 @@ module _ (scope : Scope) (sig : Signature) (typed : IsSignature sig) (knows : (d
   own_value_fits d class None e g = e
   own_value_fits d class (Some value) e g = g
 
-  begins_typed : (locals : Locals) (path : Path) (resolved : Resolved) (head : Head) (c : IsContext sig (context_of locals)) → StandsFor scope (variables_of locals) path resolved → BeginsAs locals resolved head → HeadTyped sig typed (context_of locals) c head
+  begins_typed : (locals : Locals) (path : Path) (resolved : Resolved) (head : Head) (c : IsContext sig (context_of locals)) → StandsFor scope (variables_of locals) path resolved → BeginsAs locals resolved head → HeadTyped sig (context_of locals) head
   begins_typed locals path (Variable index) head c s b =
       let l = local_there locals index b.0 b.1 in
       let synthesises : Synthesises sig (context_of locals) (Var index) b.0 = record { family = l.0; found = l.1; is = l.2 } in
-      subst (HeadTyped sig typed (context_of locals) c) (sym b.2) (inr (Var index, refl, synthesises), synthesised_is_family sig typed (context_of locals) (Var index) b.0 c synthesises)
+      subst (HeadTyped sig (context_of locals)) (sym b.2) (inr (Var index, refl, synthesises), synthesised_is_family sig typed (context_of locals) (Var index) b.0 c synthesises)
   begins_typed locals path (Declared d) head c s b =
       let t = knows d (scope_member scope (variables_of locals) path d s) in
       let i = t.is in
-      subst (HeadTyped sig typed (context_of locals) c) (sym b) (class_head_typed (context_of locals) c d d.class d.value t.class i.class_is i.value_fits)
+      subst (HeadTyped sig (context_of locals)) (sym b) (class_head_typed (context_of locals) c d d.class d.value t.class i.class_is i.value_fits)
   begins_typed locals path Unknown head c s b = absurd b
   begins_typed locals path Ambiguous head c s b = absurd b
 
-  name_typed : (locals : Locals) (path : Path) (head : Head) (c : IsContext sig (context_of locals)) → NameStands scope locals path head → HeadTyped sig typed (context_of locals) c head
+  name_typed : (locals : Locals) (path : Path) (head : Head) (c : IsContext sig (context_of locals)) → NameStands scope locals path head → HeadTyped sig (context_of locals) head
   name_typed locals path head c n = begins_typed locals path n.resolved head c n.stands n.begins
 
   -- ---- expressions
 
-  at_atomic : (locals : Locals) (family : Family) (object : Object) (c : IsContext sig (context_of locals)) → IsAtomicFamily family → HeadTyped sig typed (context_of locals) c (ObjectHead object family) → Checks sig (context_of locals) object family
+  at_atomic : (locals : Locals) (family : Family) (object : Object) (c : IsContext sig (context_of locals)) → IsAtomicFamily family → HeadTyped sig (context_of locals) (ObjectHead object family) → Checks sig (context_of locals) object family
   at_atomic locals (Pi a b) object c i h = absurd i
   at_atomic locals (AtFamily p) object c i h = object_checks sig typed (context_of locals) c object p h.0
 
@@ -108,7 +110,7 @@ module _ (scope : Scope) (sig : Signature) (typed : IsSignature sig) (knows : (d
     object_typed (AppExpr span function arguments) locals family object c f s =
         let b = s.1 in at_atomic locals family object c s.0 (arguments_typed arguments locals b.first (ObjectHead object family) c (head_typed function locals b.first c b.begins) b.takes)
 
-    pub head_typed : (e : Expr) (locals : Locals) (head : Head) (c : IsContext sig (context_of locals)) → StandsHead scope locals e head → HeadTyped sig typed (context_of locals) c head
+    pub head_typed : (e : Expr) (locals : Locals) (head : Head) (c : IsContext sig (context_of locals)) → StandsHead scope locals e head → HeadTyped sig (context_of locals) head
     head_typed (NameExpr span path) locals head c s = name_typed locals path head c s
     head_typed (AppExpr span function arguments) locals head c s = arguments_typed arguments locals s.first head c (head_typed function locals s.first c s.begins) s.takes
     head_typed (LamExpr span binder body) locals head c s = absurd s
@@ -118,12 +120,12 @@ module _ (scope : Scope) (sig : Signature) (typed : IsSignature sig) (knows : (d
     head_typed (ArrowExpr span domain body) locals head c s = absurd s
     head_typed (BackExpr span body domain) locals head c s = absurd s
 
-    pub arguments_typed : (xs : Exprs) (locals : Locals) (first head : Head) (c : IsContext sig (context_of locals)) → HeadTyped sig typed (context_of locals) c first → StandsArguments scope locals xs first head → HeadTyped sig typed (context_of locals) c head
-    arguments_typed NoArgs locals first head c h s = subst (HeadTyped sig typed (context_of locals) c) (sym s) h
+    pub arguments_typed : (xs : Exprs) (locals : Locals) (first head : Head) (c : IsContext sig (context_of locals)) → HeadTyped sig (context_of locals) first → StandsArguments scope locals xs first head → HeadTyped sig (context_of locals) head
+    arguments_typed NoArgs locals first head c h s = subst (HeadTyped sig (context_of locals)) (sym s) h
     arguments_typed (ThenArg xs e) locals first head c h s =
         let g = arguments_typed xs locals first s.head c h s.is_before in
         let d = domain_typed sig typed (context_of locals) c s.head s.domain s.takes g in
-        subst (HeadTyped sig typed (context_of locals) c) (sym s.is) (head_taken sig typed (context_of locals) c s.head s.object s.domain s.takes g (object_typed e locals s.domain s.object c d s.stands))
+        subst (HeadTyped sig (context_of locals)) (sym s.is) (head_taken sig typed (context_of locals) c s.head s.object s.domain s.takes g (object_typed e locals s.domain s.object c d s.stands))
 
     pub family_typed : (e : Expr) (locals : Locals) (family : Family) → IsContext sig (context_of locals) → StandsFamily scope locals e family → IsFamily sig (context_of locals) family
     family_typed (PiExpr span binder domain body) locals family c s =
@@ -164,7 +166,7 @@ module _ (scope : Scope) (sig : Signature) (typed : IsSignature sig) (knows : (d
 
   -- ---- values
 
-  at_type : (locals : Locals) (kind : Kind) (binders : ℕ) (family : Family) (c : IsContext sig (context_of locals)) → kind ≡ Ty → HeadTyped sig typed (context_of locals) c (FamilyHead binders family Ty) → IsFamily sig (with_domains kind (context_of locals)) family
+  at_type : (locals : Locals) (kind : Kind) (binders : ℕ) (family : Family) (c : IsContext sig (context_of locals)) → kind ≡ Ty → HeadTyped sig (context_of locals) (FamilyHead binders family Ty) → IsFamily sig (with_domains kind (context_of locals)) family
   at_type locals kind binders family c e h = subst (λ k. IsFamily sig (with_domains k (context_of locals)) family) (sym e) (family_whole sig (context_of locals) binders family h.0)
 
   pub family_value_typed : (e : Expr) (locals : Locals) (kind : Kind) (family : Family) → IsContext sig (context_of locals) → IsKind sig (context_of locals) kind → StandsFamilyValue scope locals e kind family → IsFamily sig (with_domains kind (context_of locals)) family
@@ -232,6 +234,12 @@ scope_knows scope ok d m =
 pub standing_object_checks : StandingObjectChecks
 standing_object_checks scope locals e family object ok c f s = object_typed scope (scope_signature scope) ok.typed (scope_knows scope ok) e locals family object c f s
 
+pub standing_head_is_typed : StandingHeadIsTyped
+standing_head_is_typed scope locals e head ok c s = head_typed scope (scope_signature scope) ok.typed (scope_knows scope ok) e locals head c s
+
+pub taken_arguments_are_typed : TakenArgumentsAreTyped
+taken_arguments_are_typed scope locals xs first head ok c h s = arguments_typed scope (scope_signature scope) ok.typed (scope_knows scope ok) xs locals first head c h s
+
 pub standing_family_is_family : StandingFamilyIsFamily
 standing_family_is_family scope locals e family ok c s = family_typed scope (scope_signature scope) ok.typed (scope_knows scope ok) e locals family c s
 
@@ -240,6 +248,9 @@ standing_kind_is_kind scope locals e kind ok c s = kind_typed scope (scope_signa
 
 pub standing_class_is_class : StandingClassIsClass
 standing_class_is_class scope e class ok s = class_typed scope (scope_signature scope) ok.typed (scope_knows scope ok) e class s
+
+pub standing_family_value_is_family : StandingFamilyValueIsFamily
+standing_family_value_is_family scope locals e kind body ok c k s = family_value_typed scope (scope_signature scope) ok.typed (scope_knows scope ok) e locals kind body c k s
 
 pub standing_value_fits : StandingValueFits
 standing_value_fits scope e class value ok h s = value_fits scope (scope_signature scope) ok.typed (scope_knows scope ok) e class value h s

@@ -1,1 +1,2 @@
+pub mod TypingOfHeads
 pub mod TypingOfExpansion

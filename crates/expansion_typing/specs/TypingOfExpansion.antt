@@ -1,12 +1,14 @@
 -- What stands is well typed where the constants of the scope are (Harper and Licata 2007, section 2).
-use Rattle.lf_meaning.specs.Terms.{Object, Family, Kind}
+use Rattle.lf_meaning.specs.Terms.{Object, Family, Kind, with_domains}
 use Rattle.lf_meaning.specs.Signatures.{Class, Value}
 use Rattle.lf_meaning.specs.Judgements.{Checks, IsFamily, IsKind, IsContext, IsClass, Fits, IsSignature}
+use Rattle.translation_meaning.specs.Heads.{Head}
 use Rattle.library_meaning.specs.Resolution.{Scope}
-use Rattle.text_meaning.specs.Trees.{Expr}
+use Rattle.text_meaning.specs.Trees.{Expr, Exprs}
 use Rattle.expansion_meaning.specs.Locals.{Locals, context_of}
-use Rattle.expansion_meaning.specs.Stands.{StandsObject, StandsFamily, StandsKind, StandsClass, StandsValue}
+use Rattle.expansion_meaning.specs.Stands.{StandsObject, StandsHead, StandsArguments, StandsFamily, StandsKind, StandsClass, StandsFamilyValue, StandsValue}
 use Rattle.holding_laws.specs.ExpansionHolds.{scope_signature, NamesOnce}
+use Rattle.expansion_typing.specs.TypingOfHeads.{HeadTyped}
 
 -- Read: the signature of the scope is well typed, and declares each name once.
 pub record IsTypedScope (scope : Scope) : Type 0 where
@@ -19,6 +21,20 @@ StandingObjectChecks =
     (scope : Scope) (locals : Locals) (expression : Expr) (family : Family) (object : Object) → IsTypedScope scope
     → IsContext (scope_signature scope) (context_of locals) → IsFamily (scope_signature scope) (context_of locals) family
     → StandsObject scope locals expression family object → Checks (scope_signature scope) (context_of locals) object family
+
+-- Read: a head that stands is well typed.
+abbrev pub StandingHeadIsTyped : Type 0
+StandingHeadIsTyped =
+    (scope : Scope) (locals : Locals) (expression : Expr) (head : Head) → IsTypedScope scope
+    → IsContext (scope_signature scope) (context_of locals) → StandsHead scope locals expression head
+    → HeadTyped (scope_signature scope) (context_of locals) head
+
+-- Read: so is one that has taken arguments, where the first head is.
+abbrev pub TakenArgumentsAreTyped : Type 0
+TakenArgumentsAreTyped =
+    (scope : Scope) (locals : Locals) (arguments : Exprs) (first head : Head) → IsTypedScope scope
+    → IsContext (scope_signature scope) (context_of locals) → HeadTyped (scope_signature scope) (context_of locals) first
+    → StandsArguments scope locals arguments first head → HeadTyped (scope_signature scope) (context_of locals) head
 
 -- Read: a family that stands is one.
 abbrev pub StandingFamilyIsFamily : Type 0
@@ -37,6 +53,13 @@ StandingKindIsKind =
 -- Read: a class that stands is one.
 abbrev pub StandingClassIsClass : Type 0
 StandingClassIsClass = (scope : Scope) (expression : Expr) (class : Class) → IsTypedScope scope → StandsClass scope expression class → IsClass (scope_signature scope) class
+
+-- Read: the body of a family value that stands at a kind is a family behind the domains of the kind.
+abbrev pub StandingFamilyValueIsFamily : Type 0
+StandingFamilyValueIsFamily =
+    (scope : Scope) (locals : Locals) (expression : Expr) (kind : Kind) (body : Family) → IsTypedScope scope
+    → IsContext (scope_signature scope) (context_of locals) → IsKind (scope_signature scope) (context_of locals) kind
+    → StandsFamilyValue scope locals expression kind body → IsFamily (scope_signature scope) (with_domains kind (context_of locals)) body
 
 -- Read: a value that stands at a class fits it.
 abbrev pub StandingValueFits : Type 0

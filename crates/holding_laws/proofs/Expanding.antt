@@ -16,10 +16,11 @@ use Rattle.expansion_meaning.specs.Locals.{Local, Locals, with_local, variables_
 use Rattle.expansion_meaning.specs.NameHeads.{class_head}
 use Rattle.expansion_meaning.specs.Stands.{BeginsAs, NameStands, IsAtomicFamily, StandsObject, StandsHead, StandsArguments, StandsFamily, StandsKind, StandsClass, StandsFamilyValue, NameGives, BuildsValue, StandsValue}
 use Rattle.expansion_meaning.proofs.Binding.{some_same}
-use Rattle.holding_laws.specs.ExpansionHolds.{scope_signature, ScopeHolds, LocalsHold, StandingObjectHolds, StandingFamilyHolds, StandingKindHolds, StandingClassHolds, StandingValueHolds}
+use Rattle.holding_laws.specs.ExpansionHolds.{scope_signature, ScopeHolds, LocalsHold, StandingObjectHolds, StandingHeadHolds, TakenArgumentsHold, StandingFamilyValueHolds, StandingFamilyHolds, StandingKindHolds, StandingClassHolds, StandingValueHolds}
 use Rattle.holding_laws.proofs.Declared.{place_of, class_in, class_at, value_at}
 use Rattle.holding_laws.proofs.Replaced.{raise_family_holds}
-use Rattle.holding_laws.proofs.Heads.{HeadHolds, head_taken, domain_holds, whole_holds, whole_atomic, object_anywhere, family_anywhere, kind_anywhere, family_value_partly, constant_partly}
+use Rattle.holding_laws.specs.HeadsHold.{HeadHolds}
+use Rattle.holding_laws.proofs.Heads.{head_taken, domain_holds, whole_holds, whole_atomic, object_anywhere, family_anywhere, kind_anywhere, family_value_partly, constant_partly}
 use Rattle.holding_laws.proofs.Translating.{object_value_holds, family_value_holds}
 
 place_member : {A : Type 0} (xs : List A) (i : ℕ) (x : A) → slice_get xs i ≡ Some x → Member x xs
@@ -240,6 +241,12 @@ scope_declared scope ok d m =
 pub standing_object_holds : StandingObjectHolds
 standing_object_holds scope locals e family object ok l f s = object_holds scope (scope_signature scope) (scope_declared scope ok) e locals family object l f s
 
+pub standing_head_holds : StandingHeadHolds
+standing_head_holds scope locals e head ok l s = head_holds scope (scope_signature scope) (scope_declared scope ok) e locals head l s
+
+pub taken_arguments_hold : TakenArgumentsHold
+taken_arguments_hold scope locals xs first head ok l h s = arguments_hold scope (scope_signature scope) (scope_declared scope ok) xs locals first head l h s
+
 pub standing_family_holds : StandingFamilyHolds
 standing_family_holds scope locals e family ok l s = family_holds scope (scope_signature scope) (scope_declared scope ok) e locals family l s
 
@@ -248,6 +255,11 @@ standing_kind_holds scope locals e kind ok l s = kind_holds scope (scope_signatu
 
 pub standing_class_holds : StandingClassHolds
 standing_class_holds scope e class ok s = class_holds scope (scope_signature scope) (scope_declared scope ok) e class s
+
+pub standing_family_value_holds : StandingFamilyValueHolds
+standing_family_value_holds scope locals e kind body ok l k s =
+    let b = family_value_body scope (scope_signature scope) (scope_declared scope ok) e locals kind body l k s in
+    (b.holds, b.atomic)
 
 pub standing_value_holds : StandingValueHolds
 standing_value_holds scope e class value ok h s = value_holds scope (scope_signature scope) (scope_declared scope ok) e class value h s

@@ -15,7 +15,8 @@ use Rattle.expansion_meaning.specs.Stands.{IsAtomicFamily}
 use Rattle.expansion_meaning.proofs.Binding.{some_same}
 use Rattle.holding_laws.specs.TranslationHolds.{MapsInto, CoherentMapsInto, CompositionIsCoherent}
 use Rattle.holding_laws.proofs.Replaced.{HeadedHolds, domains_map, action_holds, replace_holds}
-use Rattle.holding_laws.proofs.Heads.{PartlyHolds, HeadHolds, head_taken, whole_holds, whole_atomic, object_anywhere, kind_anywhere, family_value_partly, constant_partly}
+use Rattle.holding_laws.specs.HeadsHold.{PartlyHolds, HeadHolds}
+use Rattle.holding_laws.proofs.Heads.{head_taken, whole_holds, whole_atomic, object_anywhere, kind_anywhere, family_value_partly, constant_partly}
 
 -- ---- values
 

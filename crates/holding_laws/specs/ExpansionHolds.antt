@@ -1,14 +1,16 @@
 -- What stands holds only constants of the scope (this profile).
-use Rattle.std.specs.Prelude.{◌≡◌, ℕ, [], ◌∷◌, ◌++◌, length, slice_get, Some, ⊤}
-use Rattle.lf_meaning.specs.Terms.{Object, Family, Kind}
+use Rattle.std.specs.Prelude.{◌≡◌, ℕ, ◌+◌, [], ◌∷◌, ◌++◌, length, slice_get, Some, ⊤}
+use Rattle.lf_meaning.specs.Terms.{Object, Family, Kind, domain_count}
 use Rattle.lf_meaning.specs.Signatures.{Class, Value, Declaration, Signature}
+use Rattle.translation_meaning.specs.Heads.{Head}
 use Rattle.library_meaning.specs.Faces.{own_parts}
 use Rattle.library_meaning.specs.Resolution.{Scope}
 use Rattle.library_meaning.specs.Holding.{ObjectHolds, FamilyHolds, KindHolds, ClassHolds, ValueHolds}
 use Rattle.library_meaning.specs.Coherence.{DeclarationsHold}
-use Rattle.text_meaning.specs.Trees.{Expr}
+use Rattle.text_meaning.specs.Trees.{Expr, Exprs}
 use Rattle.expansion_meaning.specs.Locals.{Locals}
-use Rattle.expansion_meaning.specs.Stands.{StandsObject, StandsFamily, StandsKind, StandsClass, StandsValue}
+use Rattle.expansion_meaning.specs.Stands.{IsAtomicFamily, StandsObject, StandsHead, StandsArguments, StandsFamily, StandsKind, StandsClass, StandsFamilyValue, StandsValue}
+use Rattle.holding_laws.specs.HeadsHold.{HeadHolds}
 
 -- Read: the constants of a scope: those of the theories that are included, in order, and then the own ones.
 abbrev pub scope_signature : Scope → Signature
@@ -36,6 +38,19 @@ StandingObjectHolds =
     → FamilyHolds (scope_signature scope) (length locals) family → StandsObject scope locals expression family object
     → ObjectHolds (scope_signature scope) (length locals) object
 
+-- Read: a head that stands, holds.
+abbrev pub StandingHeadHolds : Type 0
+StandingHeadHolds =
+    (scope : Scope) (locals : Locals) (expression : Expr) (head : Head) → ScopeHolds scope → LocalsHold (scope_signature scope) locals
+    → StandsHead scope locals expression head → HeadHolds (scope_signature scope) (length locals) head
+
+-- Read: so does one that has taken arguments, where the first head does.
+abbrev pub TakenArgumentsHold : Type 0
+TakenArgumentsHold =
+    (scope : Scope) (locals : Locals) (arguments : Exprs) (first head : Head) → ScopeHolds scope → LocalsHold (scope_signature scope) locals
+    → HeadHolds (scope_signature scope) (length locals) first → StandsArguments scope locals arguments first head
+    → HeadHolds (scope_signature scope) (length locals) head
+
 -- Read: a family that stands, holds.
 abbrev pub StandingFamilyHolds : Type 0
 StandingFamilyHolds =
@@ -52,6 +67,14 @@ StandingKindHolds =
 abbrev pub StandingClassHolds : Type 0
 StandingClassHolds =
     (scope : Scope) (expression : Expr) (class : Class) → ScopeHolds scope → StandsClass scope expression class → ClassHolds (scope_signature scope) class
+
+-- Read: the body of a family value that stands at a kind which holds, holds only the binders and the variables around them,
+-- and is atomic.
+abbrev pub StandingFamilyValueHolds : Type 0
+StandingFamilyValueHolds =
+    (scope : Scope) (locals : Locals) (expression : Expr) (kind : Kind) (body : Family) → ScopeHolds scope → LocalsHold (scope_signature scope) locals
+    → KindHolds (scope_signature scope) (length locals) kind → StandsFamilyValue scope locals expression kind body
+    → FamilyHolds (scope_signature scope) (length locals + domain_count kind) body × IsAtomicFamily body
 
 -- Read: a value that stands at a class which holds, holds.
 abbrev pub StandingValueHolds : Type 0

@@ -1,3 +1,4 @@
 pub mod HoldingLaws
 pub mod TranslationHolds
+pub mod HeadsHold
 pub mod ExpansionHolds

@@ -23,7 +23,8 @@ use Rattle.translation_typing.proofs.Kinded.{IsKinded, family_kinded, kind_kinde
 use Rattle.translation_typing.proofs.Bases.{bases, erase_translated}
 use Rattle.translation_typing.proofs.Images.{IsMap, by_images}
 use Rattle.translation_typing.proofs.Commuting.{raise_family_translated, substitute_family_translated, substitute_kind_translated}
-use Rattle.translation_typing.proofs.TypedHeads.{HeadIs, domains_context, FamilyTyped, OnSpine, UnderBinders, kind_of_body, spine_taken, binder_taken, family_whole}
+use Rattle.translation_typing.specs.FamilyHeads.{FamilyTyped, OnSpine, UnderBinders}
+use Rattle.translation_typing.proofs.TypedHeads.{HeadIs, domains_context, kind_of_body, spine_taken, binder_taken, family_whole}
 
 -- ---- the domains of a translated kind
 

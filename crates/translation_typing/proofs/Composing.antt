@@ -21,7 +21,8 @@ use Rattle.translation_typing.specs.TypedTranslation.{translate_context, IsTyped
 use Rattle.translation_typing.specs.AtomicBodies.{HasAtomicBody}
 use Rattle.translation_typing.specs.Composition.{AreComposable}
 use Rattle.translation_typing.proofs.KindDomains.{domains_append, domains_length}
-use Rattle.translation_typing.proofs.TypedHeads.{domains_context, FamilyTyped, OnSpine, UnderBinders, HeadIs, binder_taken, family_whole}
+use Rattle.translation_typing.specs.FamilyHeads.{FamilyTyped, OnSpine, UnderBinders}
+use Rattle.translation_typing.proofs.TypedHeads.{domains_context, HeadIs, binder_taken, family_whole}
 use Rattle.translation_typing.proofs.Bases.{bases, renamed, erase_translated, HasBase, head_base}
 use Rattle.translation_typing.proofs.Images.{by_images}
 use Rattle.translation_typing.proofs.Proper.{proper_object, proper_body}

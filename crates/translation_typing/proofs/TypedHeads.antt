@@ -1,19 +1,15 @@
 -- Heads of families that take arguments of their domains stay well typed.
 use Rattle.std.proofs.Common.{◌≡◌, ℕ, zero, suc, [], ◌∷◌, ◌++◌, length, refl, sym, ap, ◌∙◌, subst, arith}
-use Rattle.lf_meaning.specs.Terms.{Object, Family, AtFamily, AtomicFamily, FamilyApp, Kind, Ty, PiKind, Context, domain_count, with_domains}
+use Rattle.lf_meaning.specs.Terms.{Object, Family, FamilyApp, Kind, Ty, PiKind, Context, domain_count, with_domains}
 use Rattle.lf_meaning.specs.Erasure.{erase}
 use Rattle.lf_meaning.specs.Substitution.{substitute, substitute_family, substitute_kind, substitute_context}
 use Rattle.lf_meaning.specs.Signatures.{Signature}
-use Rattle.lf_meaning.specs.Judgements.{Checks, SynthesisesKind, IsFamily, IsKind, IsContext, IsSignature}
+use Rattle.lf_meaning.specs.Judgements.{Checks, IsFamily, IsKind, IsContext, IsSignature}
 use Rattle.lf_metatheory.proofs.Regular.{context_sorted}
 use Rattle.lf_metatheory.proofs.SubstitutionTyping.{substitute_is_family, substitute_is_kind}
 use Rattle.translation_meaning.specs.Heads.{Head, ObjectHead, FamilyHead, family_takes}
+use Rattle.translation_typing.specs.FamilyHeads.{FamilyTyped, OnSpine, UnderBinders}
 use Rattle.translation_typing.proofs.KindDomains.{domains_append, domains_length, domains_map, domains_count}
-
--- arguments go on the spine, or for the binders
-pub data FamilyTyped (sig : Signature) (context : Context) (binders : ℕ) (family : Family) (kind : Kind) : Type 0 where
-  OnSpine : (p : AtomicFamily) → binders ≡ zero → family ≡ AtFamily p → SynthesisesKind sig context p kind → FamilyTyped sig context binders family kind
-  UnderBinders : binders ≡ domain_count kind → IsFamily sig (with_domains kind context) family → FamilyTyped sig context binders family kind
 
 -- a head of this kind
 abbrev pub HeadIs : Signature → Context → Kind → Head → Type 0

@@ -1,3 +1,4 @@
 pub mod AtomicBodies
+pub mod FamilyHeads
 pub mod TypedTranslation
 pub mod Composition
