@@ -31,7 +31,7 @@ use Rattle.coherence_laws.specs.CoherenceLaws.{told_by, AreClosed}
 use Rattle.coherence_laws.proofs.ModulesHold.{empty_holds}
 use Rattle.coherence_laws.proofs.LibrariesHold.{cycle_refuses, absent_reach, others_not, extends_to, itself_absent, told, theory_shown, view_shown, Sound, verdict_text, verdict_reached, sound, tells_more, accepted_theory, accepted_view, library_coherent, listed, closed_extends, grounded_short}
 use Rattle.face_typing.specs.TypedFaces.{IsTypedTheory, IsTypedView, IsTypedEnvironment}
-use Rattle.face_typing.specs.FaceTypingLaws.{FacesAreTyped, TheoriesFlatten, ViewsCarryTyping, StructuresCarryTyping, GroundedKnowTyped, ClosedAreTyped, KnownViewsCarryTyping, KnownStructuresCarryTyping}
+use Rattle.face_typing.specs.FaceTypingLaws.{FacesAreTyped, TheoriesFlatten, ViewsCarryTyping, StructuresCarryTyping, GroundedKnowTyped, ClosedAreTyped, KnownViewsTranslate, KnownStructuresTranslate, KnownViewsCarryTyping, KnownStructuresCarryTyping}
 use Rattle.face_typing.proofs.LinkInterface.{LinksAreTyped}
 use Rattle.face_typing.proofs.ModulesTyped.{declare_all_typed, empty_typed, view_typed}
 use Rattle.face_typing.proofs.TypingTransfers.{theory_typing_transfers, view_typing_transfers}
@@ -184,28 +184,33 @@ flat_typed environment typed name = by (theory_of environment name) refl
 pub theories_flatten : FacesAreTyped → TheoriesFlatten
 theories_flatten typed library name face e = ((typed library).theories name face e).signature
 
-pub known_views_carry : KnownViewsCarryTyping
-known_views_carry environment name face context object family coherent typed e h =
-    let c = coherent.views name face e in
-    typing_is_carried (flat_of environment face.domain) (flat_of environment face.codomain) face.map context object family
-    (record {
+pub known_views_translate : KnownViewsTranslate
+known_views_translate environment name face coherent typed e =
+    record {
       source = flat_typed environment typed face.domain;
       target = flat_typed environment typed face.codomain;
       typed = typed.views name face e;
-      atomic = images_atomic (flat_of environment face.domain) (flat_of environment face.codomain) face.map c.map_is;
-    }) h
+      atomic = images_atomic (flat_of environment face.domain) (flat_of environment face.codomain) face.map (coherent.views name face e).map_is;
+    }
 
-pub known_structures_carry : KnownStructuresCarryTyping
-known_structures_carry environment name face i structure context object family coherent typed e p h =
-    let c = coherent.theories name face e in
+pub known_structures_translate : KnownStructuresTranslate
+known_structures_translate environment name face i structure coherent typed e p =
     let t = typed.theories name face e in
-    typing_is_carried (flat_of environment structure.domain) (flat_signature environment face) structure.map context object family
-    (record {
+    record {
       source = flat_typed environment typed structure.domain;
       target = t.signature;
       typed = t.maps i structure p;
-      atomic = images_atomic (flat_of environment structure.domain) (flat_signature environment face) structure.map (c.maps i structure p);
-    }) h
+      atomic = images_atomic (flat_of environment structure.domain) (flat_signature environment face) structure.map ((coherent.theories name face e).maps i structure p);
+    }
+
+pub known_views_carry : KnownViewsCarryTyping
+known_views_carry environment name face context object family coherent typed e h =
+    typing_is_carried (flat_of environment face.domain) (flat_of environment face.codomain) face.map context object family (known_views_translate environment name face coherent typed e) h
+
+pub known_structures_carry : KnownStructuresCarryTyping
+known_structures_carry environment name face i structure context object family coherent typed e p h =
+    typing_is_carried (flat_of environment structure.domain) (flat_signature environment face) structure.map context object family
+    (known_structures_translate environment name face i structure coherent typed e p) h
 
 pub views_carry_typing : FacesAreTyped → ViewsCarryTyping
 views_carry_typing typed library name face context object family e h = known_views_carry (told_by library) name face context object family (library_coherent library) (typed library) e h

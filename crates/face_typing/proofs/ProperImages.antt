@@ -9,6 +9,7 @@ use Rattle.translation_typing.proofs.Proper.{proper_atomic}
 use Rattle.library_meaning.specs.Holding.{ValueHolds}
 use Rattle.library_meaning.specs.Coherence.{IsCoherentMap}
 use Rattle.expansion_meaning.proofs.Binding.{some_same}
+use Rattle.face_typing.specs.FaceTypingLaws.{CoherentMapsAreProper}
 
 -- where the image of a constant stands
 record Placed (along : HeadMap) (image : Image) : Type 0 where
@@ -44,3 +45,6 @@ proper_atomic_map along h c image e = proper_atomic image.value (h c image e)
 
 pub images_atomic : (from to : Signature) (along : HeadMap) → IsCoherentMap from to along → BodiesAreAtomic along
 images_atomic from to along k = proper_atomic_map along (images_proper from to along k)
+
+pub coherent_maps_are_proper : CoherentMapsAreProper
+coherent_maps_are_proper from to along k = let p = images_proper from to along k in (p, proper_atomic_map along p)

@@ -1,7 +1,7 @@
 //! Accepted theories flatten to well-typed signatures, and accepted views and structures carry typing.
 
 ghost use Rattle.face_typing.specs.TypedLinks.{RowsAreTyped};
-ghost use Rattle.face_typing.specs.FaceTypingLaws.{FacesAreTyped, GroundedKnowTyped, ClosedAreTyped, KnownViewsCarryTyping, KnownStructuresCarryTyping, TheoriesFlatten, ViewsCarryTyping, StructuresCarryTyping};
+ghost use Rattle.face_typing.specs.FaceTypingLaws.{FacesAreTyped, GroundedKnowTyped, ClosedAreTyped, CoherentMapsAreProper, KnownViewsTranslate, KnownStructuresTranslate, KnownViewsCarryTyping, KnownStructuresCarryTyping, TheoriesFlatten, ViewsCarryTyping, StructuresCarryTyping};
 
 /// In each library the faces of accepted modules are well typed; so an accepted theory flattens to a well-typed signature, and
 /// an accepted view, and each structure, carries every typing judgement of its domain to one of its codomain.
@@ -18,7 +18,15 @@ pub fn law_typed_knowledge()
     ensures closed { ClosedAreTyped }
 {}
 
-/// Where all that is known is coherent and well typed, views and structures carry typing.
+/// Where all that is known is coherent and well typed, the maps of views and structures are as the laws of typed translation and
+/// of composition ask.
+pub fn law_typed_maps()
+    ensures proper { CoherentMapsAreProper }
+    ensures views { KnownViewsTranslate }
+    ensures structures { KnownStructuresTranslate }
+{}
+
+/// So views and structures carry typing.
 pub fn law_carrying()
     ensures views { KnownViewsCarryTyping }
     ensures structures { KnownStructuresCarryTyping }

@@ -21,7 +21,7 @@ use Rattle.link_meaning.specs.Assignments.{Setting, included_theories, Assigned,
 use Rattle.link_meaning.specs.Coverings.{Cover, covers_of, first_covering, covered_test, covered_tests, covered_value}
 use Rattle.link_meaning.specs.Passes.{reached_by, is_own, image_by, map_all, shares, shared_test, assigned_map, link_map}
 use Rattle.link_meaning.specs.Equations.{IsCovering, CoveringsGive, HasValueBy, IsShared, MeetsEquations}
-use Rattle.link_meaning.specs.LinkLaws.{IsSettled, PassesMeetEquations, OneMapMeetsEquations, LinkMapMeetsEquations}
+use Rattle.link_meaning.specs.LinkLaws.{IsSettled, PassesMeetEquations, OneMapMeetsEquations, LinkMapMeetsEquations, OneMapOfLink}
 use Rattle.link_meaning.proofs.Reading.{assigns_sound, assigns_complete}
 use Rattle.link_meaning.proofs.Listing.{placed, member_at, each_passed, each_passes, mapping_there}
 use Rattle.link_meaning.proofs.Following.{Meets, walk_follows, follows_walk, follows_meets, meets_follows}
@@ -210,3 +210,7 @@ link_map_meets_equations setting assigns along settled = (
   (λ h. let c = came_by (read_assigns setting [] assigns) _ along h in (c.item, assigns_sound setting [] assigns c.item c.came, passes_sound setting c.item settled along c.goes)),
   (λ q. goes_by (read_assigns setting [] assigns) _ q.0 along (assigns_complete setting [] assigns q.0 q.1) (passes_complete setting q.0 settled along q.2)),
 )
+
+pub one_map_of_link : OneMapOfLink
+one_map_of_link setting assigns along other settled m n =
+    good_same (sym ((link_map_meets_equations setting assigns along settled).1 m) ∙ (link_map_meets_equations setting assigns other settled).1 n)

@@ -32,8 +32,18 @@ AssignmentsAreRead =
     (setting : Setting) (assigns : List Assign) (assigned : List Assigned)
     → (read_assigns setting [] assigns ≡ Ok assigned) ↔ AssignsRead setting [] assigns assigned
 
+-- Read: the map meets the equations of what the assignments of the link give.
+abbrev pub IsMapOfLink : Setting → List Assign → HeadMap → Type 0
+IsMapOfLink setting assigns along = (assigned : List Assigned) × AssignsRead setting [] assigns assigned × MeetsEquations setting assigned along
+
 -- Read: a link has a map exactly where its assignments give something, and the map meets the equations of that.
 abbrev pub LinkMapMeetsEquations : Type 0
 LinkMapMeetsEquations =
     (setting : Setting) (assigns : List Assign) (along : HeadMap) → IsSettled setting
-    → (link_map setting assigns ≡ Ok along) ↔ ((assigned : List Assigned) × AssignsRead setting [] assigns assigned × MeetsEquations setting assigned along)
+    → (link_map setting assigns ≡ Ok along) ↔ IsMapOfLink setting assigns along
+
+-- Read: a link has at most one such map.
+abbrev pub OneMapOfLink : Type 0
+OneMapOfLink =
+    (setting : Setting) (assigns : List Assign) (along other : HeadMap) → IsSettled setting
+    → IsMapOfLink setting assigns along → IsMapOfLink setting assigns other → along ≡ other

@@ -1,6 +1,6 @@
 //! The map of a link.
 
-ghost use Rattle.link_meaning.specs.LinkLaws.{AssignmentsAreRead, PassesMeetEquations, OneMapMeetsEquations, LinkMapMeetsEquations};
+ghost use Rattle.link_meaning.specs.LinkLaws.{AssignmentsAreRead, PassesMeetEquations, OneMapMeetsEquations, LinkMapMeetsEquations, OneMapOfLink};
 
 /// Assignments are read as what they give, and as nothing else.
 pub fn law_assignments()
@@ -12,4 +12,5 @@ pub fn law_links()
     ensures passes { PassesMeetEquations }
     ensures one { OneMapMeetsEquations }
     ensures link { LinkMapMeetsEquations }
+    ensures one_link { OneMapOfLink }
 {}

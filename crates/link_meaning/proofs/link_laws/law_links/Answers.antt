@@ -1,4 +1,4 @@
-use Rattle.link_meaning.proofs.Linked.{passes_meet_equations, one_map_meets_equations, link_map_meets_equations}
+use Rattle.link_meaning.proofs.Linked.{passes_meet_equations, one_map_meets_equations, link_map_meets_equations, one_map_of_link}
 use Rattle.link_meaning.proofs.link_laws.law_links.Goals as goal
 
 pub returns-clause-passes : goal.returns-clause-passes
@@ -9,3 +9,6 @@ returns-clause-one c = one_map_meets_equations
 
 pub returns-clause-link : goal.returns-clause-link
 returns-clause-link c = link_map_meets_equations
+
+pub returns-clause-one_link : goal.returns-clause-one_link
+returns-clause-one_link c = one_map_of_link
