@@ -1,10 +1,11 @@
 -- The worked examples compute.
 use Rattle.std.proofs.Common.{refl}
 use Rattle.run_meaning.specs.WordLists.{run_of}
-use Rattle.run_meaning.specs.WordExamples.{PlaysAreAccepted, ChecksAreAccepted, GeneratorsAreAccepted, OthersAreNot}
+use Rattle.run_meaning.specs.WordAnswers.{words_outcome}
+use Rattle.run_meaning.specs.WordExamples.{PlaysAreAccepted, ChecksAreAccepted, GeneratorsAreAccepted, OthersAreNot, OthersAreAnswered}
 
 abbrev computing : Unit {0}
-unfolding run_of
+unfolding run_of words_outcome
 computing = tt
 
 pub plays_are_accepted : PlaysAreAccepted
@@ -22,3 +23,7 @@ generators_are_accepted = refl
 pub others_are_not : OthersAreNot
 unfolding computing
 others_are_not = refl
+
+pub others_are_answered : OthersAreAnswered
+unfolding computing
+others_are_answered = refl

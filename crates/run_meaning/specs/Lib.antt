@@ -4,6 +4,7 @@ pub mod ScriptItems
 pub mod ScriptOutput
 pub mod ScriptLogs
 pub mod WordLists
+pub mod WordAnswers
 pub mod Files
 pub mod Folders
 pub mod Generator

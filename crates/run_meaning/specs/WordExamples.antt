@@ -1,7 +1,8 @@
 -- Worked examples of words: which lists are accepted, and what they ask for.
 use Rattle.std.specs.Prelude.{◌≡◌, ℕ, [], ◌∷◌, Some, map, codes}
-use Rattle.run_meaning.specs.WordLists.{Task, Play, CheckFolder, Generate, Run, run_of, is_accepted}
 use Rattle.std.specs.Prelude.{false}
+use Rattle.run_meaning.specs.WordLists.{Task, Play, CheckFolder, Generate, Run, run_of, is_accepted}
+use Rattle.run_meaning.specs.WordAnswers.{Outcome, Begins, Ends, words_outcome}
 
 abbrev pub by : Task → ℕ → Run
 by task workers = record { task = task; workers = workers }
@@ -53,3 +54,22 @@ OthersAreNot =
     ∷ (codes "--help" ∷ [])
     ∷ [])
     ≡ false ∷ false ∷ false ∷ false ∷ false ∷ false ∷ false ∷ false ∷ false ∷ false ∷ false ∷ false ∷ false ∷ false ∷ false ∷ []
+
+-- No words, and too many workers: the usage line, with its line feed, and the status 2.
+abbrev pub usage_answer : Outcome
+usage_answer = Ends (record {
+  written =
+      codes "usage: mmt play [--workers N] | mmt check FOLDER [--workers N] | mmt gen START MODULES EDITS [--workers N]\n";
+  status = 2;
+})
+
+abbrev pub OthersAreAnswered : Type 0
+OthersAreAnswered =
+    map words_outcome
+    ([]
+    ∷ (codes "play" ∷ codes "--workers" ∷ codes "17" ∷ [])
+    ∷ (codes "play" ∷ codes "--workers" ∷ codes "16" ∷ [])
+    ∷ (codes "check" ∷ [])
+    ∷ (codes "usage" ∷ [])
+    ∷ [])
+    ≡ usage_answer ∷ usage_answer ∷ Begins (by Play 16) ∷ usage_answer ∷ usage_answer ∷ []

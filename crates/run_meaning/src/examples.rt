@@ -2,7 +2,7 @@
 
 ghost use Rattle.run_meaning.specs.ScriptExamples.{NothingIsPrinted, PutTwiceDroppedTwice, LogIsPrinted, UnendedText, BadCommand, LongComment, TooLongComment, CutInCommand, CutBehindCommand, CutInEndLine, CutBehindEndLine, CutInName, NoJudgement, LastReturnCounts, LastReturnIsBlank, CommentOfBytes, OtherLines, LogIsLeft, TellsGrounded};
 ghost use Rattle.run_meaning.specs.FolderExamples.{EmptyFolder, OtherFiles, BadFiles, PlacesAreInFiles, SecondOfName, SecondInFile, EndingAlone, DrawsAreMade, ParentsAreDrawn, EditsAreDrawn, TextsAreMade, FirstHasNoParent, EditsStandInOrder};
-ghost use Rattle.run_meaning.specs.WordExamples.{PlaysAreAccepted, ChecksAreAccepted, GeneratorsAreAccepted, OthersAreNot};
+ghost use Rattle.run_meaning.specs.WordExamples.{PlaysAreAccepted, ChecksAreAccepted, GeneratorsAreAccepted, OthersAreNot, OthersAreAnswered};
 
 /// Scripts, for any judging: what is printed, and faults; the log that a script leaves, and of what it tells.
 pub fn scripts()
@@ -48,10 +48,11 @@ pub fn draws()
     ensures edits_stand_in_order { EditsStandInOrder }
 {}
 
-/// Which lists of words are accepted.
+/// Which lists of words are accepted, and how others are answered.
 pub fn words()
     ensures plays_are_accepted { PlaysAreAccepted }
     ensures checks_are_accepted { ChecksAreAccepted }
     ensures generators_are_accepted { GeneratorsAreAccepted }
     ensures others_are_not { OthersAreNot }
+    ensures others_are_answered { OthersAreAnswered }
 {}

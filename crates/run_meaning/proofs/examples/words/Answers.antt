@@ -1,4 +1,4 @@
-use Rattle.run_meaning.proofs.WordsComputed.{plays_are_accepted, checks_are_accepted, generators_are_accepted, others_are_not}
+use Rattle.run_meaning.proofs.WordsComputed.{plays_are_accepted, checks_are_accepted, generators_are_accepted, others_are_not, others_are_answered}
 use Rattle.run_meaning.proofs.examples.words.Goals as goal
 
 pub returns-clause-plays_are_accepted : goal.returns-clause-plays_are_accepted
@@ -12,3 +12,6 @@ returns-clause-generators_are_accepted c = generators_are_accepted
 
 pub returns-clause-others_are_not : goal.returns-clause-others_are_not
 returns-clause-others_are_not c = others_are_not
+
+pub returns-clause-others_are_answered : goal.returns-clause-others_are_answered
+returns-clause-others_are_answered c = others_are_answered
