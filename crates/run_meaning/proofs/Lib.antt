@@ -3,9 +3,3 @@ pub mod Items
 pub mod Logs
 pub mod Kept
 pub mod Outputs
-pub mod Workers
-pub mod WordsAsked
-pub mod WordsAnswered
-pub mod ScriptsComputed
-pub mod FoldersComputed
-pub mod WordsComputed

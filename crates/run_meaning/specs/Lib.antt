@@ -3,12 +3,7 @@ pub mod ScriptCommands
 pub mod ScriptItems
 pub mod ScriptOutput
 pub mod ScriptLogs
-pub mod WordLists
-pub mod WordAnswers
 pub mod Files
 pub mod Folders
 pub mod Generator
 pub mod RunLaws
-pub mod ScriptExamples
-pub mod FolderExamples
-pub mod WordExamples

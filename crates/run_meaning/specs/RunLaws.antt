@@ -1,5 +1,5 @@
 -- Laws of what a script prints (this profile).
-use Rattle.std.specs.Prelude.{◌≡◌, ◌⊎◌, ℕ, ◌≤◌, Bool, true, false, List, [], ◌∷◌, ◌++◌, ◌==◌, length, map, Option, Some, None}
+use Rattle.std.specs.Prelude.{◌≡◌, ℕ, ◌≤◌, Bool, true, false, List, [], ◌∷◌, ◌++◌, ◌==◌, length, map, Option, Some, None}
 use Rattle.std.specs.List.{list_all}
 use Rattle.log_meaning.specs.Names.{Name, Text}
 use Rattle.log_meaning.specs.Log.{Put, Log}
@@ -14,8 +14,6 @@ use Rattle.run_meaning.specs.ScriptOutput.{command_text, log_after, output_of, h
 use Rattle.run_meaning.specs.ScriptLogs.{edits_of, script_log, told_from, script_told, is_told_of}
 use Rattle.run_meaning.specs.Files.{File, load}
 use Rattle.run_meaning.specs.Folders.{folder_told}
-use Rattle.run_meaning.specs.WordLists.{Run, run_of}
-use Rattle.run_meaning.specs.WordAnswers.{Asks, usage, Begins, Ends, words_outcome}
 
 -- Read: a bad line, or a text without an end that begins at this line.
 pub data Fault : Type 0 where
@@ -95,27 +93,3 @@ KeptTextsAreAlike = (log : Log) (name : Name) (text : Text) → IsKeptAlike log 
 -- Read: a text within the limit is kept whole.
 abbrev pub ShortTextsAreKept : Type 0
 ShortTextsAreKept = (text : Text) → length text ≤ text_limit → kept text ≡ text
-
--- Read: no accepted list of words asks for more than 16 workers.
-abbrev pub WorkersAreBounded : Type 0
-WorkersAreBounded = (words : List (List ℕ)) (run : Run) → run_of words ≡ Some run → run.workers ≤ 16
-
--- Read: the words ask for this run and for no other, and it begins.
-pub record IsBegun (words : List (List ℕ)) : Type 0 where
-  pub run : Run
-  pub asks : Asks words run
-  pub only : (other : Run) → Asks words other → other ≡ run
-  pub begins : words_outcome words ≡ Begins run
-
--- Read: the words ask for no run, and are answered by exactly the usage line.
-pub record IsAnsweredByUsage (words : List (List ℕ)) : Type 0 where
-  pub none : (run : Run) → Asks words run → ⊥
-  pub ends : words_outcome words ≡ Ends usage
-
--- Read: each list of words is either accepted, as one command with one number of workers, or answered by the usage line.
-abbrev pub WordsAreAnswered : Type 0
-WordsAreAnswered = (words : List (List ℕ)) → IsBegun words ⊎ IsAnsweredByUsage words
-
--- Read: a list of words is accepted, for this run, exactly where it asks for it.
-abbrev pub RunsAreAsked : Type 0
-RunsAreAsked = (words : List (List ℕ)) (run : Run) → (run_of words ≡ Some run → Asks words run) × (Asks words run → run_of words ≡ Some run)

@@ -1,6 +1,6 @@
 //! Laws of what a run prints.
 
-ghost use Rattle.run_meaning.specs.RunLaws.{OutputIsInOrder, LongerBeginsWithIt, TellingsAreGrounded, FolderTellingsAreGrounded, KeptTextsAreAlike, ShortTextsAreKept, WorkersAreBounded, WordsAreAnswered, RunsAreAsked};
+ghost use Rattle.run_meaning.specs.RunLaws.{OutputIsInOrder, LongerBeginsWithIt, TellingsAreGrounded, FolderTellingsAreGrounded, KeptTextsAreAlike, ShortTextsAreKept};
 
 /// The output of a script is the lines of its commands in order, and then the line of its fault, if it has one, and its log
 /// is that of its edits in order; an input that begins with whole commands has an output and a log that begin with theirs.
@@ -20,12 +20,4 @@ pub fn law_folder()
 pub fn law_kept()
     ensures alike { KeptTextsAreAlike }
     ensures whole { ShortTextsAreKept }
-{}
-
-/// Accepted words ask for at most 16 workers. Each list of words either asks for exactly one run, which begins, or for none,
-/// and is answered by the usage line.
-pub fn law_words()
-    ensures workers { WorkersAreBounded }
-    ensures answered { WordsAreAnswered }
-    ensures asked { RunsAreAsked }
 {}

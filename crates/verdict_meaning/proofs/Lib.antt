@@ -1,4 +1,3 @@
-pub mod Computed
 pub mod Shortness
 pub mod Rounds
 pub mod Verdicts

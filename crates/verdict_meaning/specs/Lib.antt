@@ -4,7 +4,3 @@ pub mod Modules
 pub mod Verdicts
 pub mod Rounds
 pub mod VerdictLaws
-pub mod Telling
-pub mod ExampleTexts
-pub mod Examples
-pub mod RuleExamples

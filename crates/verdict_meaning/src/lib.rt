@@ -1,6 +1,5 @@
 //! The verdict on each module of a library. The definitions stand in `specs/`, one topic a file. There is no code: each
-//! function here does nothing, and its contract is a law or a worked case.
+//! function here does nothing, and its contract is a law.
 #![tactic(auto)]
 
-pub mod examples;
 pub mod verdict_laws;

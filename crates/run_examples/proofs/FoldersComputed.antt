@@ -1,0 +1,71 @@
+-- The worked examples compute.
+use Rattle.std.proofs.Common.{refl}
+use Rattle.std.specs.Str.{is_utf8, chars}
+use Rattle.std.specs.Fmt.{digits}
+use lib.Utf8.{encode}
+use Rattle.log_meaning.specs.Names.{is_among}
+use Rattle.log_meaning.specs.Log.{with_module, without_module, library_of, text_of}
+use Rattle.log_meaning.specs.Append.{append_answer, appended}
+use Rattle.text_meaning.specs.Cutting.{cut_on, lex}
+use Rattle.text_meaning.specs.Dividing.{divide_on, divide}
+use Rattle.printing_meaning.specs.Constants.{path_text}
+use Rattle.run_meaning.specs.Files.{with_file, module_files, pieces_answer, file_answer, load}
+use Rattle.run_meaning.specs.Folders.{folder_output}
+use Rattle.run_meaning.specs.Generator.{number_after, first_puts, later_puts, generated}
+use Rattle.run_examples.specs.FolderExamples.{EmptyFolder, OtherFiles, BadFiles, PlacesAreInFiles, SecondOfName, SecondInFile, EndingAlone, DrawsAreMade, ParentsAreDrawn, EditsAreDrawn, TextsAreMade, FirstHasNoParent, EditsStandInOrder}
+
+abbrev computing : Unit {0}
+unfolding is_utf8 chars digits encode is_among with_module without_module library_of text_of append_answer appended lex cut_on divide_on divide path_text with_file module_files pieces_answer file_answer load folder_output number_after first_puts later_puts generated
+computing = tt
+
+pub empty_folder : EmptyFolder
+unfolding computing
+empty_folder judging = refl
+
+pub other_files : OtherFiles
+unfolding computing
+other_files judging = refl
+
+pub bad_files : BadFiles
+unfolding computing
+bad_files judging = refl
+
+pub places_are_in_files : PlacesAreInFiles
+unfolding computing
+places_are_in_files = refl
+
+pub second_of_name : SecondOfName
+unfolding computing
+second_of_name = refl
+
+pub second_in_file : SecondInFile
+unfolding computing
+second_in_file judging = refl
+
+pub ending_alone : EndingAlone
+unfolding computing
+ending_alone judging = refl
+
+pub draws_are_made : DrawsAreMade
+unfolding computing
+draws_are_made = refl
+
+pub parents_are_drawn : ParentsAreDrawn
+unfolding computing
+parents_are_drawn = refl
+
+pub edits_are_drawn : EditsAreDrawn
+unfolding computing
+edits_are_drawn = refl
+
+pub texts_are_made : TextsAreMade
+unfolding computing
+texts_are_made = refl
+
+pub first_has_no_parent : FirstHasNoParent
+unfolding computing
+first_has_no_parent = refl
+
+pub edits_stand_in_order : EditsStandInOrder
+unfolding computing
+edits_stand_in_order = refl

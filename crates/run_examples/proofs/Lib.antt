@@ -1,0 +1,3 @@
+pub mod ScriptsComputed
+pub mod FoldersComputed
+pub mod WordsComputed

@@ -1,0 +1,3 @@
+pub mod ScriptExamples
+pub mod FolderExamples
+pub mod WordExamples

@@ -1,0 +1,4 @@
+pub mod Telling
+pub mod ExampleTexts
+pub mod Examples
+pub mod RuleExamples

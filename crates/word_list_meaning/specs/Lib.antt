@@ -1,0 +1,3 @@
+pub mod WordLists
+pub mod WordAnswers
+pub mod WordLaws

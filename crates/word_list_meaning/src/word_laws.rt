@@ -1,0 +1,11 @@
+//! The law of the lists of words.
+
+ghost use Rattle.word_list_meaning.specs.WordLaws.{WorkersAreBounded, WordsAreAnswered, RunsAreAsked};
+
+/// Accepted words ask for at most 16 workers. Each list of words either asks for exactly one run, which begins, or for none,
+/// and is answered by the usage line.
+pub fn law_words()
+    ensures workers { WorkersAreBounded }
+    ensures answered { WordsAreAnswered }
+    ensures asked { RunsAreAsked }
+{}
