@@ -8,7 +8,7 @@ use Rattle.lf_meaning.specs.Judgements.{IsTyping, IsSignature}
 use Rattle.translation_meaning.specs.Translation.{translate_object, translate_family}
 use Rattle.translation_meaning.specs.HeadMaps.{HeadMap}
 use Rattle.translation_meaning.specs.ProperValues.{ValuesAreProper}
-use Rattle.translation_typing.specs.AtomicBodies.{BodiesAreAtomic}
+use Rattle.sorted_translation.specs.AtomicBodies.{BodiesAreAtomic}
 use Rattle.translation_typing.specs.TypedTranslation.{translate_context, IsTypedTranslation}
 use Rattle.library_meaning.specs.Faces.{StructureFace, TheoryFace, ViewFace, IsTheory, IsView, Environment, flat_signature, flat_of}
 use Rattle.library_meaning.specs.Coherence.{IsCoherentMap, IsCoherent}

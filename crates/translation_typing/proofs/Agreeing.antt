@@ -11,9 +11,9 @@ use Rattle.translation_meaning.specs.Heads.{head_takes}
 use Rattle.translation_meaning.specs.HeadMaps.{HeadMap, image_of}
 use Rattle.translation_meaning.specs.Translation.{headed_image, family_head_image, family_of, translate_object, translate_head, translate_family, translate_kind, translate_class, translate_value, object_value, family_value, same_image}
 use Rattle.translation_typing.specs.TypedTranslation.{translate_context}
-use Rattle.translation_typing.proofs.Kinded.{family_kinded, kind_kinded}
-use Rattle.translation_typing.proofs.Known.{ObjectKnown, AtomicKnown, HeadKnown, FamilyKnown, KindKnown, object_known, family_known, kind_known}
-use Rattle.translation_typing.proofs.Images.{by_images}
+use Rattle.sorted_translation.proofs.Kinded.{family_kinded, kind_kinded}
+use Rattle.sorted_translation.proofs.Known.{ObjectKnown, AtomicKnown, HeadKnown, FamilyKnown, KindKnown, object_known, family_known, kind_known}
+use Rattle.sorted_translation.proofs.Images.{by_images}
 
 abbrev pub AgreeOn : Signature → HeadMap → HeadMap → Type 0
 AgreeOn sig first second = (c : Constant) (class : Class) → class_of sig c ≡ Some class → image_of first c ≡ image_of second c

@@ -1,13 +1,5 @@
-pub mod KindDomains
-pub mod Kinded
-pub mod Bases
-pub mod Images
-pub mod HeadSorts
-pub mod MappedHeads
-pub mod Commuting
 pub mod TypedHeads
 pub mod Carrying
-pub mod Known
 pub mod Agreeing
 pub mod Restricted
 pub mod Laws

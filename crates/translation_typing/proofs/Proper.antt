@@ -5,7 +5,7 @@ use Rattle.lf_meaning.specs.Signatures.{Value, SameAs, TermValue, FamilyValue}
 use Rattle.translation_meaning.specs.Translation.{object_value, family_value}
 use Rattle.translation_meaning.specs.ProperValues.{IsProperValue}
 use Rattle.translation_meaning.specs.ProperValues.{IsNoConstant, IsValueBody}
-use Rattle.translation_typing.specs.AtomicBodies.{IsAtomic, HasAtomicBody}
+use Rattle.sorted_translation.specs.AtomicBodies.{IsAtomic, HasAtomicBody}
 
 pub proper_object : (o : Object) → IsNoConstant o → object_value o ≡ TermValue o
 proper_object (Lam m) h = refl

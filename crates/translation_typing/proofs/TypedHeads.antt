@@ -9,7 +9,7 @@ use Rattle.lf_metatheory.proofs.Regular.{context_sorted}
 use Rattle.lf_metatheory.proofs.SubstitutionTyping.{substitute_is_family, substitute_is_kind}
 use Rattle.translation_meaning.specs.Heads.{Head, ObjectHead, FamilyHead, family_takes}
 use Rattle.translation_typing.specs.FamilyHeads.{FamilyTyped, OnSpine, UnderBinders}
-use Rattle.translation_typing.proofs.KindDomains.{domains_append, domains_length, domains_map, domains_count}
+use Rattle.sorted_translation.proofs.KindDomains.{domains_append, domains_length, domains_map, domains_count}
 
 -- a head of this kind
 abbrev pub HeadIs : Signature → Context → Kind → Head → Type 0

@@ -1,4 +1,0 @@
-pub mod AtomicBodies
-pub mod FamilyHeads
-pub mod TypedTranslation
-pub mod Composition

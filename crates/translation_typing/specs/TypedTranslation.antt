@@ -10,7 +10,7 @@ use Rattle.lf_meaning.specs.Judgements.{Checks, IsFamily, IsKind, IsContext, IsT
 use Rattle.translation_meaning.specs.HeadMaps.{HeadMap}
 use Rattle.translation_meaning.specs.Translation.{translate_object, translate_family, translate_kind, translate_class, translate_value}
 use Rattle.translation_meaning.specs.TypedMaps.{IsTypedMap}
-use Rattle.translation_typing.specs.AtomicBodies.{BodiesAreAtomic}
+use Rattle.sorted_translation.specs.AtomicBodies.{BodiesAreAtomic}
 
 -- Read: the families of the context, translated.
 abbrev pub translate_context : HeadMap → Context → Context

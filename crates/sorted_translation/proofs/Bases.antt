@@ -9,7 +9,7 @@ use Rattle.lf_substitution_laws.proofs.Families.{head_constant_map}
 use Rattle.translation_meaning.specs.Heads.{Head, ObjectHead, FamilyHead, head_takes}
 use Rattle.translation_meaning.specs.HeadMaps.{Image, HeadMap, image_of}
 use Rattle.translation_meaning.specs.Translation.{family_image, family_head_image, translate_object, translate_head, family_of, translate_family}
-use Rattle.translation_typing.specs.AtomicBodies.{IsAtomic, HasAtomicBody, BodiesAreAtomic}
+use Rattle.sorted_translation.specs.AtomicBodies.{IsAtomic, HasAtomicBody, BodiesAreAtomic}
 
 -- the constant at the head of a head's family
 abbrev pub base_of : Head → Constant → Constant

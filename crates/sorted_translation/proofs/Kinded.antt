@@ -7,7 +7,7 @@ use Rattle.lf_meaning.specs.Signatures.{Class, FamilyClass, KindClass, Signature
 use Rattle.lf_meaning.specs.Sorts.{HasSort, sorts_of}
 use Rattle.lf_meaning.specs.Judgements.{SynthesisesKind, IsFamily, IsKind}
 use Rattle.lf_metatheory.proofs.Typed.{checks_sort}
-use Rattle.translation_typing.proofs.KindDomains.{domains_of, domains_of_map}
+use Rattle.sorted_translation.proofs.KindDomains.{domains_of, domains_of_map}
 
 abbrev pub class_domains : Option Class → Option (List Simple)
 class_domains None = None

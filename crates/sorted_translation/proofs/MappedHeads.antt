@@ -11,8 +11,8 @@ use Rattle.lf_substitution_laws.proofs.Commutation.{substitutions_commute_family
 use Rattle.lf_substitution_laws.proofs.Past.{raise_family_past, raise_kind_past, substitute_family_past, substitute_kind_past}
 use Rattle.translation_meaning.specs.Heads.{Head, ObjectHead, FamilyHead, head_takes}
 use Rattle.translation_meaning.specs.Translation.{family_of}
-use Rattle.translation_typing.proofs.KindDomains.{with_simples, simples_append, simples_length}
-use Rattle.translation_typing.proofs.HeadSorts.{BodyFits, OnSpine, ForBinders, HeadFits}
+use Rattle.sorted_translation.proofs.KindDomains.{with_simples, simples_append, simples_length}
+use Rattle.sorted_translation.proofs.HeadSorts.{BodyFits, OnSpine, ForBinders, HeadFits}
 
 -- so many binders further in
 abbrev pub inside : ℕ → ℕ → ℕ

@@ -13,8 +13,8 @@ use Rattle.lf_substitution_laws.proofs.Past.{raise_past}
 use Rattle.lf_metatheory.proofs.Typed.{checks_sort}
 use Rattle.translation_meaning.specs.HeadMaps.{Image, HeadMap, image_of}
 use Rattle.translation_meaning.specs.Translation.{object_image, headed_image, translate_family, translate_class}
-use Rattle.translation_typing.specs.AtomicBodies.{BodiesAreAtomic}
-use Rattle.translation_typing.proofs.Bases.{bases, renamed, erase_translated}
+use Rattle.sorted_translation.specs.AtomicBodies.{BodiesAreAtomic}
+use Rattle.sorted_translation.proofs.Bases.{bases, renamed, erase_translated}
 
 some_is : {A : Type 0} {x y : A} → Some x ≡ Some y → x ≡ y
 some_is e = cc

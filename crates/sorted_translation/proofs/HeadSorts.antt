@@ -12,11 +12,11 @@ use Rattle.lf_metatheory.proofs.Typed.{family_sorted, kind_sorted}
 use Rattle.translation_meaning.specs.Heads.{Head, ObjectHead, FamilyHead, head_takes}
 use Rattle.translation_meaning.specs.HeadMaps.{HeadMap, image_of}
 use Rattle.translation_meaning.specs.Translation.{family_image, family_head_image, translate_object, translate_head, translate_kind}
-use Rattle.translation_typing.specs.AtomicBodies.{HasAtomicBody}
-use Rattle.translation_typing.proofs.KindDomains.{domains_of, domains_of_map, domains_of_length, with_simples, simples_append, simples_length, simples_erased}
-use Rattle.translation_typing.proofs.Kinded.{class_domains, HasDomains}
-use Rattle.translation_typing.proofs.Bases.{bases, renamed, erase_translated}
-use Rattle.translation_typing.proofs.Images.{IsMap, by_images, sorted_map}
+use Rattle.sorted_translation.specs.AtomicBodies.{HasAtomicBody}
+use Rattle.sorted_translation.proofs.KindDomains.{domains_of, domains_of_map, domains_of_length, with_simples, simples_append, simples_length, simples_erased}
+use Rattle.sorted_translation.proofs.Kinded.{class_domains, HasDomains}
+use Rattle.sorted_translation.proofs.Bases.{bases, renamed, erase_translated}
+use Rattle.sorted_translation.proofs.Images.{IsMap, by_images, sorted_map}
 
 -- arguments go on the spine, or for the binders, of which there are as many as domains
 pub data BodyFits (sig : Signature) (context : SimpleContext) (rest : List Simple) (binders : ℕ) (p : AtomicFamily) : Type 0 where

@@ -10,11 +10,11 @@ use Rattle.lf_substitution_laws.proofs.Constants.{constants_raise, constants_com
 use Rattle.translation_meaning.specs.Heads.{head_takes}
 use Rattle.translation_meaning.specs.HeadMaps.{HeadMap}
 use Rattle.translation_meaning.specs.Translation.{translate_object, translate_head, translate_family, translate_kind, family_of}
-use Rattle.translation_typing.proofs.Kinded.{HasDomains, IsKinded, IsKindedKind}
-use Rattle.translation_typing.proofs.Bases.{bases, renamed}
-use Rattle.translation_typing.proofs.Images.{IsMap, by_images, sorted_map}
-use Rattle.translation_typing.proofs.HeadSorts.{HeadFits, object_sorted, head_fits, constant_head_fits}
-use Rattle.translation_typing.proofs.MappedHeads.{map_head, family_of_map, raise_taken, substitute_taken, raise_closed_head, substitute_closed_head}
+use Rattle.sorted_translation.proofs.Kinded.{HasDomains, IsKinded, IsKindedKind}
+use Rattle.sorted_translation.proofs.Bases.{bases, renamed}
+use Rattle.sorted_translation.proofs.Images.{IsMap, by_images, sorted_map}
+use Rattle.sorted_translation.proofs.HeadSorts.{HeadFits, object_sorted, head_fits, constant_head_fits}
+use Rattle.sorted_translation.proofs.MappedHeads.{map_head, family_of_map, raise_taken, substitute_taken, raise_closed_head, substitute_closed_head}
 
 module _ (from to : Signature) (along : HeadMap) (map_is : IsMap from to along) where
   -- ---- raising

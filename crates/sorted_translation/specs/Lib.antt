@@ -1,0 +1,2 @@
+pub mod AtomicBodies
+pub mod SortedTranslation
