@@ -21,8 +21,8 @@ use Rattle.link_coherence_laws.proofs.WordsHold.{flat_once}
 use Rattle.verdict_meaning.specs.Modules.{scope_in}
 use Rattle.coherence_laws.specs.CoherenceLaws.{told_by}
 use Rattle.coherence_laws.proofs.LibrariesHold.{library_coherent}
-use Rattle.face_typing.specs.TypedFaces.{IsTypedEnvironment}
-use Rattle.face_typing.proofs.LinksTyped.{links_are_typed}
+use Rattle.row_typing.specs.TypedFaces.{IsTypedEnvironment}
+use Rattle.link_typing.proofs.LinksTyped.{links_are_typed}
 use Rattle.face_typing.proofs.LibrariesTyped.{faces_are_typed, known_views_carry}
 use Rattle.printing_meaning.specs.CarriedLines.{Carries}
 use Rattle.judged_output.specs.Carrying.{carried_object, carried_family, carried_over, carried_text, carried_along, carry}

@@ -12,7 +12,7 @@ use Rattle.library_meaning.specs.Coherence.{IsCoherent}
 use Rattle.expansion_meaning.specs.Stands.{StandsObject, StandsFamily}
 use Rattle.verdict_meaning.specs.Modules.{scope_in}
 use Rattle.coherence_laws.specs.CoherenceLaws.{told_by}
-use Rattle.face_typing.specs.TypedFaces.{IsTypedEnvironment}
+use Rattle.row_typing.specs.TypedFaces.{IsTypedEnvironment}
 use Rattle.printing_meaning.specs.CarriedLines.{Carries}
 use Rattle.judged_output.specs.Carrying.{carry}
 

@@ -4,7 +4,6 @@ use Rattle.std.specs.Prelude.{⊤}
 use Rattle.std.proofs.lemmas.Bool.{or_cases}
 use Rattle.lf_meaning.specs.Terms.{Name, Path}
 use Rattle.lf_meaning.specs.Signatures.{Class, Value, Declaration, same_name}
-use Rattle.lf_meaning.proofs.Equality.{same_name_sound}
 use Rattle.log_meaning.proofs.Members.{Member, in_append, append_left, in_flat_map}
 use Rattle.log_meaning.proofs.Order.{among_member, member_among}
 use Rattle.translation_meaning.specs.HeadMaps.{HeadMap}
@@ -34,10 +33,11 @@ use Rattle.holding_laws.specs.HoldingLaws.{Grows}
 use Rattle.holding_laws.specs.ExpansionHolds.{scope_signature, ScopeHolds}
 use Rattle.holding_laws.proofs.Declared.{place_of}
 use Rattle.holding_laws.proofs.Expanding.{standing_class_holds, standing_value_holds}
-use Rattle.link_coherence_laws.proofs.Onces.{place_member, Once, once_names, member_grows, HoldAfter, declarations_after}
+use Rattle.link_coherence_laws.proofs.Onces.{place_member, Once, once_names, member_grows, HoldAfter}
 use Rattle.link_coherence_laws.specs.LinkTargets.{target_of, StructuresHold, HereHolds}
-use Rattle.link_coherence_laws.proofs.WordsHold.{theory_at, flat_once, included_grows, included_members, accepted_target}
-use Rattle.link_coherence_laws.proofs.ImagesHold.{SettingHolds}
+use Rattle.link_coherence_laws.specs.BetweenTheories.{IsBetweenTheories}
+use Rattle.link_coherence_laws.proofs.WordsHold.{included_members, accepted_target}
+use Rattle.link_coherence_laws.proofs.ImagesHold.{SettingHolds, between_holds}
 use Rattle.link_coherence_laws.proofs.AssignedHold.{items_hold}
 use Rattle.link_coherence_laws.proofs.LinksHold.{map_holds, added_all}
 use Rattle.link_coherence_laws.proofs.InducedHold.{nothing_added, added_is_induced, induced_members}
@@ -226,28 +226,19 @@ module _ (environment : Environment) (coherent : IsCoherent environment) where
 
   -- ---- a view
 
-  no_here : HereHolds environment None
-  no_here = record { absent = λ face e. absurd (cc); structures = λ face e. absurd (cc) }
-
-  view_reaches : (codomain : Name) (name : Name) → (same_name codomain name || sees (includes_of (theory_of environment codomain)) name) ≡ true → Grows (flat_of environment name) (flat_of environment codomain)
-  view_reaches codomain name h =
-      ⊎_elim (λ e. subst (λ z. Grows (flat_of environment z) (flat_of environment codomain)) (same_name_sound codomain name e) (λ k class g. g)) (λ e. included_grows environment coherent codomain name e)
-      (or_cases (same_name codomain name) (sees (includes_of (theory_of environment codomain)) name) h)
+  pub view_is_between : (name : Written) (domain : Name) (target : TheoryFace) (codomain : Name) → is_some (theory_of environment domain) ≡ true → theory_of environment codomain ≡ Some target → IsBetweenTheories (view_setting environment name domain target codomain)
+  view_is_between name domain target codomain s e =
+      record {
+        here = refl;
+        structure = refl;
+        domain = s;
+        codomain = ap is_some e;
+        scope = ap (λ o. record { own = own_of o; includes = includes_of o; environment = environment }) (sym e);
+      }
 
   pub view_ok : (name : Written) (domain : Name) (target : TheoryFace) (codomain : Name) → is_some (theory_of environment domain) ≡ true → theory_of environment codomain ≡ Some target → SettingHolds (view_setting environment name domain target codomain)
   view_ok name domain target codomain s e =
-      let c = theory_at environment coherent codomain target e in
-      let flat : flat_of environment codomain ≡ flat_signature environment target = ap (λ o. own_parts environment (includes_of o) ++ own_of o) e in
-      record {
-        coherent = coherent;
-        here = no_here;
-        theory = s;
-        once = subst Once flat (flat_once environment coherent codomain);
-        holds = declarations_after [] (flat_signature environment target) c.holds;
-        reaches = λ x h. subst (Grows (flat_of environment x)) flat (view_reaches codomain x (ap (λ o. same_name codomain x || sees (includes_of o) x) e ∙ h));
-        own_named = λ d m q. ⊎_elim (λ n. let r = in_flat_map (own_part environment) target.includes d n in absurd (c.includes_others r.0 (member_among target.includes r.0 r.1) (sym (own_named environment coherent r.0 d r.2) ∙ q))) (λ n. n) (in_append (own_parts environment target.includes) target.own d m);
-        fresh = λ structure q. absurd (cc);
-      }
+      between_holds (view_setting environment name domain target codomain) coherent (view_is_between name domain target codomain s e)
 
   pub view_holds : (name domain codomain : Written) (assigns : List Assign) (face : ViewFace) → checked_view environment name domain codomain assigns ≡ Ok face → IsCoherentView environment face.name face × (face.name ≡ first_name name.path)
   view_holds name domain codomain assigns face h =

@@ -22,7 +22,7 @@ use Rattle.link_meaning.proofs.Linked.{own_named}
 use Rattle.holding_laws.specs.HoldingLaws.{Grows}
 use Rattle.holding_laws.proofs.Declared.{place_of, front_grows}
 use Rattle.link_coherence_laws.proofs.Onces.{place_member, Once, once_append, once_names, names_once, once_right, member_grows, member_declared, HoldAfter, hold_append, hold_more, after_declarations, declarations_after, own_is_once, closure_once, closure_holds}
-use Rattle.link_coherence_laws.proofs.WordsHold.{map_grows, includes_closed, includes_theories, theory_at}
+use Rattle.link_coherence_laws.proofs.WordsHold.{map_grows, includes_closed, includes_theories, paths_of_theory}
 use Rattle.link_coherence_laws.proofs.ImagesHold.{SettingHolds}
 use Rattle.link_coherence_laws.proofs.InducedHold.{InducedFrom}
 
@@ -52,13 +52,6 @@ absent_is_none : (known : Known) → known ≡ IsAbsent → is_some (theory_face
 absent_is_none known e h = true≢false (sym h ∙ ap (λ k. is_some (theory_face k)) e)
 
 module _ (environment : Environment) (coherent : IsCoherent environment) where
-  pub paths_of_theory : (theory : Name) (d : Declaration) → Member d (own_part environment theory) → 0 < length d.name.path
-  paths_of_theory theory d m = by (theory_of environment theory) refl m
-    where
-      by : (o : Option TheoryFace) → theory_of environment theory ≡ o → Member d (own_of o) → 0 < length d.name.path
-      by None e n = absurd n
-      by (Some face) e n = let p = place_of face.own d n in (theory_at environment coherent theory face e).own_paths p.0 d p.1
-
   -- an own constant is declared at its path
   pub declared_at : (theory : Name) (d : Declaration) → Member d (own_part environment theory) → declaration_of (own_part environment theory) (record { theory = theory; path = d.name.path }) ≡ Some d
   declared_at theory d m =

@@ -1,17 +1,5 @@
-pub mod Grown
-pub mod ProperImages
-pub mod WordsTyped
-pub mod SameValues
-pub mod Identity
-pub mod Places
-pub mod PlacedLinks
-pub mod LinkInterface
 pub mod TypedAfter
 pub mod TheoriesTyped
 pub mod ModulesTyped
 pub mod TypingTransfers
 pub mod LibrariesTyped
-pub mod Assigning
-pub mod CoveredValues
-pub mod SharedValues
-pub mod LinksTyped

@@ -30,12 +30,12 @@ use Rattle.verdict_meaning.proofs.Verdicts.{verdict_is_judged}
 use Rattle.coherence_laws.specs.CoherenceLaws.{told_by, AreClosed}
 use Rattle.coherence_laws.proofs.ModulesHold.{empty_holds}
 use Rattle.coherence_laws.proofs.LibrariesHold.{cycle_refuses, absent_reach, others_not, extends_to, itself_absent, told, theory_shown, view_shown, Sound, verdict_text, verdict_reached, sound, tells_more, accepted_theory, accepted_view, library_coherent, listed, closed_extends, grounded_short}
-use Rattle.face_typing.specs.TypedFaces.{IsTypedTheory, IsTypedView, IsTypedEnvironment}
+use Rattle.row_typing.specs.TypedFaces.{IsTypedTheory, IsTypedView, IsTypedEnvironment}
 use Rattle.face_typing.specs.FaceTypingLaws.{FacesAreTyped, TheoriesFlatten, ViewsCarryTyping, StructuresCarryTyping, GroundedKnowTyped, ClosedAreTyped, KnownViewsTranslate, KnownStructuresTranslate, KnownViewsCarryTyping, KnownStructuresCarryTyping}
-use Rattle.face_typing.proofs.LinkInterface.{LinksAreTyped}
+use Rattle.link_typing.proofs.LinkInterface.{LinksAreTyped}
 use Rattle.face_typing.proofs.ModulesTyped.{declare_all_typed, empty_typed, view_typed}
 use Rattle.face_typing.proofs.TypingTransfers.{theory_typing_transfers, view_typing_transfers}
-use Rattle.face_typing.proofs.ProperImages.{images_atomic}
+use Rattle.row_typing.proofs.ProperImages.{images_atomic}
 
 -- ---- one module
 

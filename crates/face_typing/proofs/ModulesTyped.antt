@@ -1,12 +1,12 @@
 -- What a module makes is well typed over what is known of others.
-use Rattle.std.proofs.Common.{◌≡◌, ℕ, List, [], ◌∷◌, ◌++◌, slice_get, Option, Some, None, is_some, true, Ok, refl, sym, ap, ◌∙◌, subst, append-nil}
+use Rattle.std.proofs.Common.{◌≡◌, ℕ, List, [], ◌∷◌, ◌++◌, slice_get, Option, Some, None, is_some, true, Ok, refl, ap, ◌∙◌, subst}
 use Rattle.lf_meaning.specs.Terms.{Name, Path}
 use Rattle.lf_meaning.specs.Signatures.{Class, Value}
 use Rattle.lf_meaning.specs.Judgements.{IsClass, ValueFits, IsSignature}
 use Rattle.lf_metatheory.proofs.Growing.{empty_signature}
 use Rattle.translation_meaning.specs.HeadMaps.{HeadMap}
 use Rattle.translation_meaning.specs.TypedMaps.{IsTypedMap}
-use Rattle.library_meaning.specs.Faces.{StructureFace, TheoryFace, ViewFace, IsAbsent, Environment, theory_of, includes_of, own_of, own_parts, flat_signature, flat_of}
+use Rattle.library_meaning.specs.Faces.{StructureFace, TheoryFace, ViewFace, IsAbsent, Environment, theory_of, flat_signature, flat_of}
 use Rattle.library_meaning.specs.Coherence.{IsCoherentTheory, IsCoherent}
 use Rattle.text_meaning.specs.Trees.{Expr, Written, Assign, Decl, IncludeDecl, StructDecl, ConstDecl}
 use Rattle.expansion_meaning.specs.Values.{expand_class, expand_value}
@@ -19,16 +19,16 @@ use Rattle.link_meaning.specs.Passes.{link_map}
 use Rattle.link_meaning.specs.Induced.{with_structure}
 use Rattle.link_meaning.proofs.Covered.{good_same}
 use Rattle.link_meaning.proofs.Valued.{label_came}
-use Rattle.link_meaning.proofs.Linked.{known_theory}
 use Rattle.verdict_meaning.specs.Dependencies.{first_name}
 use Rattle.verdict_meaning.specs.Modules.{module_test, scope_in, unused_test, declared_value, structure_setting, declare, declare_all, empty_theory, view_setting, checked_view}
 use Rattle.link_coherence_laws.proofs.LinksHold.{added_all}
-use Rattle.link_coherence_laws.proofs.InducedHold.{nothing_added, added_is_induced}
+use Rattle.link_coherence_laws.proofs.InducedHold.{added_is_induced}
 use Rattle.coherence_laws.proofs.TheoriesHold.{inclusion_step}
-use Rattle.coherence_laws.proofs.ModulesHold.{known_by_test, theory_there, Unused, unused_by, link_holds, scope_ok, setting_ok, declare_holds, view_ok}
-use Rattle.face_typing.specs.TypedFaces.{IsTypedTheory, IsTypedView, IsTypedEnvironment}
-use Rattle.face_typing.specs.TypedLinks.{HereTyped}
-use Rattle.face_typing.proofs.LinkInterface.{LinksAreTyped}
+use Rattle.coherence_laws.proofs.ModulesHold.{known_by_test, theory_there, Unused, unused_by, link_holds, scope_ok, setting_ok, declare_holds, view_is_between}
+use Rattle.row_typing.specs.TypedFaces.{IsTypedTheory, IsTypedView, IsTypedEnvironment}
+use Rattle.row_typing.specs.TypedLinks.{HereTyped}
+use Rattle.link_typing.proofs.LinkInterface.{LinksAreTyped}
+use Rattle.link_typing.proofs.BetweenTyped.{between_typed}
 use Rattle.face_typing.proofs.TheoriesTyped.{inclusion_typed, constant_typed, structure_typed}
 
 module _ (links : LinksAreTyped) (environment : Environment) (coherent : IsCoherent environment) (typed : IsTypedEnvironment environment) where
@@ -97,9 +97,6 @@ module _ (links : LinksAreTyped) (environment : Environment) (coherent : IsCoher
 
   -- ---- a view
 
-  no_here : HereTyped environment None
-  no_here = record { signature = λ face e. absurd (cc); structures = λ face e. absurd (cc) }
-
   pub view_typed : (name domain codomain : Written) (assigns : List Assign) (face : ViewFace) → checked_view environment name domain codomain assigns ≡ Ok face → IsTypedView environment face
   view_typed name domain codomain assigns face h =
       let a = came_by (module_test environment name.path domain) _ face h in
@@ -114,9 +111,5 @@ module _ (links : LinksAreTyped) (environment : Environment) (coherent : IsCoher
       view_next : (name : Written) (from to : Name) (target : TheoryFace) (assigns : List Assign) (along : HeadMap) → is_some (theory_of environment from) ≡ true → theory_of environment to ≡ Some target → link_map (view_setting environment name from target to) assigns ≡ Ok along
           → IsTypedView environment (record { name = first_name name.path; domain = from; codomain = to; map = along })
       view_next name from to target assigns along s t l =
-          let ok = view_ok environment coherent name from target to s t in
-          let n = nothing_added (view_setting environment name from target to) (flat_of environment from) along refl in
-          let scope = (typed.theories to target (known_theory (environment to) target t)).signature in
-          let k = links (view_setting environment name from target to) ok (record { environment = typed; here = no_here; scope = scope }) assigns along l in
-          subst (λ z. IsTypedMap (flat_of environment from) z along) (append-nil (flat_signature environment target) ∙ ap (λ o. own_parts environment (includes_of o) ++ own_of o) (sym t))
-          (subst (λ z. IsTypedMap (flat_of environment from) (flat_signature environment target ++ z) along) n k.map_is)
+          between_typed links (view_setting environment name from target to) assigns along coherent typed
+          (view_is_between environment coherent name from target to s t) l

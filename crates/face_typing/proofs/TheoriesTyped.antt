@@ -20,8 +20,8 @@ use Rattle.holding_laws.specs.HoldingLaws.{Grows}
 use Rattle.holding_laws.proofs.Declared.{front_grows}
 use Rattle.link_coherence_laws.proofs.Onces.{Once, once_left, member_grows}
 use Rattle.coherence_laws.proofs.TheoriesHold.{here_once}
-use Rattle.face_typing.specs.TypedFaces.{copies_of, HaveFittingImages, IsPlaced, IsTypedTheory, IsTypedEnvironment}
-use Rattle.face_typing.proofs.Grown.{typed_map_more}
+use Rattle.row_typing.specs.TypedFaces.{copies_of, HaveFittingImages, IsPlaced, IsTypedTheory, IsTypedEnvironment}
+use Rattle.row_typing.proofs.Grown.{typed_map_more}
 use Rattle.face_typing.proofs.TypedAfter.{signature_after, after_signature, typed_more, images_more, closure_typed}
 
 module _ (environment : Environment) (coherent : IsCoherent environment) (typed : IsTypedEnvironment environment) where

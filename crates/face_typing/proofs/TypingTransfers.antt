@@ -7,7 +7,7 @@ use Rattle.library_meaning.specs.Faces.{StructureFace, TheoryFace, ViewFace, Env
 use Rattle.library_meaning.specs.Coherence.{IsCoherentTheory, IsCoherentView, IsCoherent}
 use Rattle.link_coherence_laws.proofs.WordsHold.{includes_theories}
 use Rattle.coherence_laws.proofs.Transfer.{Extends, theory_same, parts_same, flat_same}
-use Rattle.face_typing.specs.TypedFaces.{copy_of, HaveFittingImages, IsPlaced, IsTypedTheory, IsTypedView}
+use Rattle.row_typing.specs.TypedFaces.{copy_of, HaveFittingImages, IsPlaced, IsTypedTheory, IsTypedView}
 
 module _ (environment more : Environment) (coherent : IsCoherent environment) (extends : Extends environment more) where
   module _ (name : Name) (face : TheoryFace) (c : IsCoherentTheory environment name face) where

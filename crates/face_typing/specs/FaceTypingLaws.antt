@@ -17,7 +17,7 @@ use Rattle.verdict_meaning.specs.Dependencies.{dependencies}
 use Rattle.verdict_meaning.specs.Rounds.{known_of, verdicts}
 use Rattle.verdict_meaning.specs.VerdictLaws.{known_to}
 use Rattle.coherence_laws.specs.CoherenceLaws.{told_by, AreClosed}
-use Rattle.face_typing.specs.TypedFaces.{IsTypedEnvironment}
+use Rattle.row_typing.specs.TypedFaces.{IsTypedEnvironment}
 
 -- Read: the faces of all accepted modules of a library are well typed.
 abbrev pub FacesAreTyped : Type 0

@@ -1,3 +1,1 @@
-pub mod TypedFaces
-pub mod TypedLinks
 pub mod FaceTypingLaws

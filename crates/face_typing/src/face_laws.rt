@@ -1,6 +1,5 @@
 //! Accepted theories flatten to well-typed signatures, and accepted views and structures carry typing.
 
-ghost use Rattle.face_typing.specs.TypedLinks.{RowsAreTyped};
 ghost use Rattle.face_typing.specs.FaceTypingLaws.{FacesAreTyped, GroundedKnowTyped, ClosedAreTyped, CoherentMapsAreProper, KnownViewsTranslate, KnownStructuresTranslate, KnownViewsCarryTyping, KnownStructuresCarryTyping, TheoriesFlatten, ViewsCarryTyping, StructuresCarryTyping};
 
 /// In each library the faces of accepted modules are well typed; so an accepted theory flattens to a well-typed signature, and
@@ -30,9 +29,4 @@ pub fn law_typed_maps()
 pub fn law_carrying()
     ensures views { KnownViewsCarryTyping }
     ensures structures { KnownStructuresCarryTyping }
-{}
-
-/// A row of words means a link with a typed map.
-pub fn law_typed_rows()
-    ensures { RowsAreTyped }
 {}

@@ -1,15 +1,17 @@
 -- The values that coverings and sharing links give hold only constants of the codomain.
-use Rattle.std.proofs.Common.{◌≡◌, ℕ, ◌<◌, Bool, true, false, cond, List, [], ◌∷◌, ◌++◌, length, slice_get, Option, Some, None, is_some, option_map, ◌&&◌, ◌⊎◌, inl, inr, ⊎_elim, refl, sym, ap, ◌∙◌, subst, true≢false, arith}
+use Rattle.std.proofs.Common.{◌≡◌, ℕ, ◌<◌, Bool, true, false, cond, List, [], ◌∷◌, ◌++◌, length, slice_get, Option, Some, None, is_some, option_map, ◌&&◌, ◌||◌, ◌⊎◌, inl, inr, ⊎_elim, refl, sym, ap, ◌∙◌, subst, true≢false, arith}
 use Rattle.std.proofs.lemmas.Bool.{or_cases, and_parts}
+use Rattle.std.proofs.lemmas.Option.{none-some}
 use Rattle.lf_meaning.specs.Terms.{Name, Path, Constant}
 use Rattle.lf_meaning.specs.Signatures.{Class, FamilyClass, KindClass, Value, Declaration, Signature, same_name, same_constant, declaration_of, undefined_class, class_of}
 use Rattle.lf_meaning.proofs.Equality.{same_name_sound}
-use Rattle.log_meaning.proofs.Members.{Member, any_found, append_left, append_right}
+use Rattle.log_meaning.proofs.Members.{Member, any_found, in_append, append_left, append_right, in_flat_map}
 use Rattle.log_meaning.proofs.Order.{among_member, member_among}
 use Rattle.translation_meaning.specs.HeadMaps.{Image, HeadMap, image_of}
 use Rattle.translation_meaning.specs.Differ.{value_in}
 use Rattle.library_meaning.specs.Faces.{StructureFace, TheoryFace, Environment, theory_of, structure_of, includes_of, own_of, own_part, own_parts, flat_of}
 use Rattle.library_meaning.specs.Closure.{sees}
+use Rattle.library_meaning.specs.Resolution.{Scope}
 use Rattle.library_meaning.specs.Holding.{ValueHolds, OptionalValueHolds, AlikeClasses}
 use Rattle.library_meaning.specs.Coherence.{DeclarationsHold, IsCoherentMap, IsCoherent, IsInduced}
 use Rattle.library_meaning.specs.Words.{Link, structure_link, behind_structure, structures_of, link_by, is_empty, structures_link, own_value, identity_mapping, identity_map}
@@ -18,14 +20,15 @@ use Rattle.expansion_meaning.proofs.Binding.{some_same}
 use Rattle.link_meaning.specs.Assignments.{Setting, is_or_includes, codomain_sees, included_theories, Assigned, Covering}
 use Rattle.link_meaning.specs.Coverings.{identity_covers, is_identity_covering, is_none_of, covers_of}
 use Rattle.link_meaning.specs.Equations.{IsCovering, ByIdentity, ByAssignment}
-use Rattle.link_meaning.proofs.Linked.{declarations_hold}
+use Rattle.link_meaning.proofs.Linked.{declarations_hold, own_named, includes_other}
 use Rattle.holding_laws.specs.HoldingLaws.{Grows}
 use Rattle.holding_laws.specs.ExpansionHolds.{scope_signature}
 use Rattle.holding_laws.proofs.Growing.{value_grows}
 use Rattle.holding_laws.proofs.Declared.{place_of, class_in, value_at}
 use Rattle.holding_laws.proofs.Translating.{placed_in, alike_through}
-use Rattle.link_coherence_laws.proofs.Onces.{Once, once_names, declaration_member, member_declared, HoldAfter, own_is_once}
+use Rattle.link_coherence_laws.proofs.Onces.{Once, once_names, declaration_member, member_declared, HoldAfter, declarations_after, own_is_once}
 use Rattle.link_coherence_laws.specs.LinkTargets.{target_of, HereHolds, LinkHolds}
+use Rattle.link_coherence_laws.specs.BetweenTheories.{IsBetweenTheories}
 use Rattle.link_coherence_laws.proofs.WordsHold.{theory_at, flat_once, included_grows, included_members, includes_closed, includes_theories, accepted_target, structure_member}
 
 -- a value that holds, at a class alike to that of a declaration
@@ -173,6 +176,45 @@ pub record SettingHolds (setting : Setting) : Type 0 where
   pub reaches : (name : Name) → codomain_sees setting name ≡ true → Grows (target_of setting.environment setting.here name) (scope_signature setting.scope)
   pub own_named : (d : Declaration) → Member d (scope_signature setting.scope) → d.name.theory ≡ setting.codomain → Member d setting.scope.own
   pub fresh : (structure : Name) → setting.structure ≡ Some structure → (d : Declaration) → Member d setting.scope.own → (rest : Path) → d.name.path ≡ structure ∷ rest → 0 < length rest → ⊥
+
+-- a link between known theories has such a setting
+module _ (setting : Setting) (coherent : IsCoherent setting.environment) (is : IsBetweenTheories setting) where
+  abbrev whole : Signature
+  whole = flat_of setting.environment setting.codomain
+
+  pub whole_scope : scope_signature setting.scope ≡ whole
+  whole_scope = ap scope_signature is.scope
+
+  nothing_here : HereHolds setting.environment setting.here
+  nothing_here = record { absent = λ face e. absurd (none-some face (sym is.here ∙ e)); structures = λ face e. absurd (none-some face (sym is.here ∙ e)) }
+
+  reached : (name : Name) → (same_name setting.codomain name || sees (includes_of (theory_of setting.environment setting.codomain)) name) ≡ true → Grows (flat_of setting.environment name) whole
+  reached name h =
+      ⊎_elim (λ e. subst (λ z. Grows (flat_of setting.environment z) whole) (same_name_sound setting.codomain name e) (λ k class g. g)) (λ e. included_grows setting.environment coherent setting.codomain name e)
+      (or_cases (same_name setting.codomain name) (sees (includes_of (theory_of setting.environment setting.codomain)) name) h)
+
+  own_of_codomain : (d : Declaration) → Member d whole → d.name.theory ≡ setting.codomain → Member d (own_part setting.environment setting.codomain)
+  own_of_codomain d m q =
+      let includes : List Name = includes_of (theory_of setting.environment setting.codomain) in
+      ⊎_elim (λ n. (let r = in_flat_map (own_part setting.environment) includes d n in
+      absurd (includes_other setting.environment coherent setting.codomain r.0 (member_among includes r.0 r.1) (sym (own_named setting.environment coherent r.0 d r.2) ∙ q))))
+      (λ n. n) (in_append (own_parts setting.environment includes) (own_part setting.environment setting.codomain) d m)
+
+  pub between_holds : SettingHolds setting
+  between_holds =
+      record {
+        coherent = coherent;
+        here = nothing_here;
+        theory = is.domain;
+        once = subst Once (sym whole_scope) (flat_once setting.environment coherent setting.codomain);
+        holds = subst (HoldAfter []) (sym whole_scope) (declarations_after [] whole (declarations_hold setting.environment coherent setting.codomain is.codomain));
+        reaches = λ name h.
+            subst (λ o. Grows (target_of setting.environment o name) (scope_signature setting.scope)) (sym is.here)
+            (subst (Grows (flat_of setting.environment name)) (sym whole_scope)
+            (reached name (ap (λ (s : Scope). same_name setting.codomain name || sees s.includes name) (sym is.scope) ∙ h)));
+        own_named = λ d m q. subst (λ (s : Scope). Member d s.own) (sym is.scope) (own_of_codomain d (subst (Member d) whole_scope m) q);
+        fresh = λ structure e. absurd (none-some structure (sym is.structure ∙ e));
+      }
 
 module _ (setting : Setting) (ok : SettingHolds setting) where
   -- what the codomain sees has all its constants there

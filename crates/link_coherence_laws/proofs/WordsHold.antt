@@ -1,5 +1,5 @@
 -- Words of morphisms, and rows of them, have maps of each kind that composition keeps; so they have coherent ones.
-use Rattle.std.proofs.Common.{◌≡◌, ℕ, zero, suc, Bool, true, false, cond, List, [], ◌∷◌, ◌++◌, take, slice_get, Option, Some, None, is_some, ◌⊎◌, inl, inr, ⊎_elim, refl, sym, ap, ◌∙◌, subst, true≢false}
+use Rattle.std.proofs.Common.{◌≡◌, ℕ, zero, suc, ◌<◌, Bool, true, false, cond, List, [], ◌∷◌, ◌++◌, length, take, slice_get, Option, Some, None, is_some, ◌⊎◌, inl, inr, ⊎_elim, refl, sym, ap, ◌∙◌, subst, true≢false}
 use Rattle.std.proofs.lemmas.Bool.{or_cases}
 use Rattle.lf_meaning.specs.Terms.{Name, Path}
 use Rattle.lf_meaning.specs.Signatures.{Declaration, Signature, same_name}
@@ -43,6 +43,13 @@ module _ (environment : Environment) (coherent : IsCoherent environment) where
 
   pub theory_at : (name : Name) (face : TheoryFace) → theory_of environment name ≡ Some face → IsCoherentTheory environment name face
   theory_at name face e = coherent.theories name face (known_theory (environment name) face e)
+
+  pub paths_of_theory : (theory : Name) (d : Declaration) → Member d (own_part environment theory) → 0 < length d.name.path
+  paths_of_theory theory d m = by (theory_of environment theory) refl m
+    where
+      by : (o : Option TheoryFace) → theory_of environment theory ≡ o → Member d (own_of o) → 0 < length d.name.path
+      by None e n = absurd n
+      by (Some face) e n = let p = place_of face.own d n in (theory_at theory face e).own_paths p.0 d p.1
 
   -- ---- flat signatures
 

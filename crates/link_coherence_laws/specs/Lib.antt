@@ -1,2 +1,3 @@
 pub mod LinkTargets
 pub mod TheoryScopes
+pub mod BetweenTheories

@@ -18,8 +18,8 @@ use Rattle.link_meaning.specs.Passes.{rest_behind, Reached, ByStructure, by_rest
 use Rattle.link_coherence_laws.specs.LinkTargets.{target_of}
 use Rattle.link_coherence_laws.proofs.ImagesHold.{SettingHolds}
 use Rattle.link_coherence_laws.proofs.AssignedHold.{rest_splits}
-use Rattle.face_typing.proofs.LinkInterface.{SettingTyped}
-use Rattle.face_typing.proofs.WordsTyped.{IsProperTranslation, row_translates}
+use Rattle.link_typing.proofs.LinkInterface.{SettingTyped}
+use Rattle.row_typing.proofs.WordsTyped.{IsProperTranslation, row_translates}
 
 -- ---- beginnings
 

@@ -11,8 +11,8 @@ use Rattle.library_meaning.specs.Words.{Link, structure_link, behind_structure, 
 use Rattle.link_meaning.proofs.Linked.{known_theory}
 use Rattle.holding_laws.proofs.Declared.{place_of}
 use Rattle.link_coherence_laws.proofs.WordsHold.{structure_member}
-use Rattle.face_typing.specs.TypedFaces.{IsTypedEnvironment}
-use Rattle.face_typing.proofs.Places.{LinkPlaced, structure_placed, structure_within}
+use Rattle.row_typing.specs.TypedFaces.{IsTypedEnvironment}
+use Rattle.row_typing.proofs.Places.{LinkPlaced, structure_placed, structure_within}
 
 some_is : {A : Type 0} {x y : A} → Some x ≡ Some y → x ≡ y
 some_is e = cc

@@ -16,10 +16,10 @@ use Rattle.library_meaning.specs.Words.{Link, RowMeans, row_meaning, structures_
 use Rattle.link_meaning.proofs.Linked.{known_theory}
 use Rattle.link_coherence_laws.specs.LinkTargets.{target_of, HereHolds}
 use Rattle.link_coherence_laws.proofs.WordsHold.{Composes, AreStructures, theory_at, structures_link_is, row_is}
-use Rattle.face_typing.specs.TypedFaces.{IsTypedEnvironment}
-use Rattle.face_typing.specs.TypedLinks.{HereTyped, RowsAreTyped}
-use Rattle.face_typing.proofs.ProperImages.{images_proper, proper_atomic_map}
-use Rattle.face_typing.proofs.Grown.{typed_map_more}
+use Rattle.row_typing.specs.TypedFaces.{IsTypedEnvironment}
+use Rattle.row_typing.specs.TypedLinks.{HereTyped, RowsAreTyped}
+use Rattle.row_typing.proofs.ProperImages.{images_proper, proper_atomic_map}
+use Rattle.row_typing.proofs.Grown.{typed_map_more}
 
 -- ---- typed maps of proper values
 

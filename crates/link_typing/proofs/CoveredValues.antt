@@ -34,13 +34,13 @@ use Rattle.link_coherence_laws.specs.LinkTargets.{target_of}
 use Rattle.link_coherence_laws.proofs.Onces.{place_member, Once, declaration_member, member_declared, own_is_once}
 use Rattle.link_coherence_laws.proofs.WordsHold.{flat_once, includes_closed, includes_theories, included_members}
 use Rattle.link_coherence_laws.proofs.ImagesHold.{SettingHolds, identity_grows}
-use Rattle.face_typing.proofs.LinkInterface.{SettingTyped}
-use Rattle.face_typing.proofs.Grown.{fits_more}
-use Rattle.face_typing.proofs.WordsTyped.{flat_typed}
-use Rattle.face_typing.proofs.SameValues.{SameAt, classes_same, values_same}
-use Rattle.face_typing.proofs.Identity.{identity_image, identity_typed}
-use Rattle.face_typing.proofs.ProperImages.{value_proper, images_proper}
-use Rattle.face_typing.proofs.Assigning.{ItemTyped}
+use Rattle.link_typing.proofs.LinkInterface.{SettingTyped}
+use Rattle.row_typing.proofs.Grown.{fits_more}
+use Rattle.row_typing.proofs.WordsTyped.{flat_typed}
+use Rattle.row_typing.proofs.SameValues.{SameAt, classes_same, values_same}
+use Rattle.row_typing.proofs.Identity.{identity_image, identity_typed}
+use Rattle.row_typing.proofs.ProperImages.{value_proper, images_proper}
+use Rattle.link_typing.proofs.Assigning.{ItemTyped}
 
 some_is : {A : Type 0} {x y : A} → Some x ≡ Some y → x ≡ y
 some_is e = cc

@@ -33,14 +33,14 @@ use Rattle.link_coherence_laws.proofs.Onces.{place_member, Once, once_left, once
 use Rattle.link_coherence_laws.proofs.ImagesHold.{SettingHolds}
 use Rattle.link_coherence_laws.proofs.AssignedHold.{ReachedHolds, reached_holds, rest_splits, items_hold}
 use Rattle.link_coherence_laws.proofs.LinksHold.{added_by, added, added_all, map_holds}
-use Rattle.face_typing.specs.TypedFaces.{HaveFittingImages}
-use Rattle.face_typing.proofs.LinkInterface.{SettingTyped, LinkTyped, LinksAreTyped}
-use Rattle.face_typing.proofs.Grown.{fits_more, declaration_more}
-use Rattle.face_typing.proofs.Places.{undefined_itself, class_declared, typed_more, typed_by_members}
-use Rattle.face_typing.proofs.ProperImages.{proper_atomic_map}
-use Rattle.face_typing.proofs.Assigning.{ItemTyped, TargetsFree, items_typed, targets_free}
-use Rattle.face_typing.proofs.CoveredValues.{flat_is_once, not_own, proper, ImageAt, image_at, covered_value, included_fits, done_is, declared}
-use Rattle.face_typing.proofs.SharedValues.{definition_keeps, shared_fits}
+use Rattle.row_typing.specs.TypedFaces.{HaveFittingImages}
+use Rattle.link_typing.proofs.LinkInterface.{SettingTyped, LinkTyped, LinksAreTyped}
+use Rattle.row_typing.proofs.Grown.{fits_more, declaration_more}
+use Rattle.row_typing.proofs.Places.{undefined_itself, class_declared, typed_more, typed_by_members}
+use Rattle.row_typing.proofs.ProperImages.{proper_atomic_map}
+use Rattle.link_typing.proofs.Assigning.{ItemTyped, TargetsFree, items_typed, targets_free}
+use Rattle.link_typing.proofs.CoveredValues.{flat_is_once, not_own, proper, ImageAt, image_at, covered_value, included_fits, done_is, declared}
+use Rattle.link_typing.proofs.SharedValues.{definition_keeps, shared_fits}
 
 some_is : {A : Type 0} {x y : A} → Some x ≡ Some y → x ≡ y
 some_is e = cc

@@ -7,7 +7,7 @@ use Rattle.library_meaning.specs.Faces.{StructureFace, TheoryFace, Environment, 
 use Rattle.library_meaning.specs.Coherence.{IsCoherent}
 use Rattle.library_meaning.specs.Words.{Link, RowMeans, row_meaning}
 use Rattle.link_coherence_laws.specs.LinkTargets.{target_of, HereHolds}
-use Rattle.face_typing.specs.TypedFaces.{IsTypedEnvironment}
+use Rattle.row_typing.specs.TypedFaces.{IsTypedEnvironment}
 
 -- Read: the theory that is being built is well typed so far, and so are the maps of its structures.
 pub record HereTyped (environment : Environment) (here : Option TheoryFace) : Type 0 where

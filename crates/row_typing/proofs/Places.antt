@@ -21,9 +21,9 @@ use Rattle.holding_laws.specs.HoldingLaws.{Grows}
 use Rattle.holding_laws.proofs.Declared.{place_of, front_grows}
 use Rattle.link_coherence_laws.proofs.Onces.{place_member, Once, once_left, member_declared}
 use Rattle.link_coherence_laws.proofs.WordsHold.{flat_once}
-use Rattle.face_typing.specs.TypedFaces.{IsPlaced, IsTypedTheory, IsTypedEnvironment}
-use Rattle.face_typing.proofs.ProperImages.{images_proper, proper_atomic_map}
-use Rattle.face_typing.proofs.Grown.{fits_more}
+use Rattle.row_typing.specs.TypedFaces.{IsPlaced, IsTypedTheory, IsTypedEnvironment}
+use Rattle.row_typing.proofs.ProperImages.{images_proper, proper_atomic_map}
+use Rattle.row_typing.proofs.Grown.{fits_more}
 
 some_is : {A : Type 0} {x y : A} → Some x ≡ Some y → x ≡ y
 some_is e = cc

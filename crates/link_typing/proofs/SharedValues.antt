@@ -31,18 +31,17 @@ use Rattle.holding_laws.specs.ExpansionHolds.{scope_signature}
 use Rattle.holding_laws.proofs.Declared.{place_of}
 use Rattle.link_coherence_laws.specs.LinkTargets.{target_of}
 use Rattle.link_coherence_laws.proofs.Onces.{Once}
-use Rattle.link_coherence_laws.proofs.WordsHold.{flat_once}
+use Rattle.link_coherence_laws.proofs.WordsHold.{flat_once, paths_of_theory}
 use Rattle.link_coherence_laws.proofs.ImagesHold.{SettingHolds, Source, source_of}
-use Rattle.coherence_laws.proofs.TheoriesHold.{paths_of_theory}
-use Rattle.face_typing.proofs.LinkInterface.{SettingTyped}
-use Rattle.face_typing.proofs.Grown.{fits_more}
-use Rattle.face_typing.proofs.WordsTyped.{flat_typed}
-use Rattle.face_typing.proofs.SameValues.{SameAt, classes_same}
-use Rattle.face_typing.proofs.Places.{copy_at, copies_at, copies_append, copies_next, Split, split_member, image_through, typed_by_members, parts_of, LinkPlaced}
-use Rattle.face_typing.proofs.PlacedLinks.{found, PlacedAs, link_placed}
-use Rattle.face_typing.proofs.ProperImages.{proper_atomic_map}
-use Rattle.face_typing.proofs.Assigning.{ItemTyped, TargetsFree, reached_behind}
-use Rattle.face_typing.proofs.CoveredValues.{known_as, same_declaration, value_of_image, flat_is_once, reached_member, proper, image_at, done_is}
+use Rattle.link_typing.proofs.LinkInterface.{SettingTyped}
+use Rattle.row_typing.proofs.Grown.{fits_more}
+use Rattle.row_typing.proofs.WordsTyped.{flat_typed}
+use Rattle.row_typing.proofs.SameValues.{SameAt, classes_same}
+use Rattle.row_typing.proofs.Places.{copy_at, copies_at, copies_append, copies_next, Split, split_member, image_through, typed_by_members, parts_of, LinkPlaced}
+use Rattle.row_typing.proofs.PlacedLinks.{found, PlacedAs, link_placed}
+use Rattle.row_typing.proofs.ProperImages.{proper_atomic_map}
+use Rattle.link_typing.proofs.Assigning.{ItemTyped, TargetsFree, reached_behind}
+use Rattle.link_typing.proofs.CoveredValues.{known_as, same_declaration, value_of_image, flat_is_once, reached_member, proper, image_at, done_is}
 
 some_is : {A : Type 0} {x y : A} → Some x ≡ Some y → x ≡ y
 some_is e = cc

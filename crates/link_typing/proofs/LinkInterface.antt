@@ -10,8 +10,8 @@ use Rattle.link_meaning.specs.Passes.{link_map}
 use Rattle.holding_laws.specs.ExpansionHolds.{scope_signature}
 use Rattle.link_coherence_laws.proofs.ImagesHold.{SettingHolds}
 use Rattle.link_coherence_laws.proofs.LinksHold.{added_all}
-use Rattle.face_typing.specs.TypedFaces.{HaveFittingImages, IsTypedEnvironment}
-use Rattle.face_typing.specs.TypedLinks.{HereTyped}
+use Rattle.row_typing.specs.TypedFaces.{HaveFittingImages, IsTypedEnvironment}
+use Rattle.row_typing.specs.TypedLinks.{HereTyped}
 
 -- what is known where a link is checked
 pub record SettingTyped (setting : Setting) : Type 0 where

@@ -1,0 +1,20 @@
+-- The maps of links are typed (Rabe and Kohlhase 2013, section 3: morphisms are typed assignments).
+use Rattle.std.specs.Prelude.{◌≡◌, List}
+use Rattle.std.proofs.Common.{Ok}
+use Rattle.translation_meaning.specs.HeadMaps.{HeadMap}
+use Rattle.translation_meaning.specs.TypedMaps.{IsTypedMap}
+use Rattle.library_meaning.specs.Faces.{flat_of}
+use Rattle.library_meaning.specs.Coherence.{IsCoherent}
+use Rattle.text_meaning.specs.Trees.{Assign}
+use Rattle.link_meaning.specs.Assignments.{Setting}
+use Rattle.link_meaning.specs.Passes.{link_map}
+use Rattle.link_coherence_laws.specs.BetweenTheories.{IsBetweenTheories}
+use Rattle.row_typing.specs.TypedFaces.{IsTypedEnvironment}
+
+-- Read: where all that is known is coherent and well typed, and the passes over the assignments of a link between known theories
+-- answer a map, it is typed.
+abbrev pub LinksHaveTypedMaps : Type 0
+LinksHaveTypedMaps =
+    (setting : Setting) (assigns : List Assign) (along : HeadMap) → IsCoherent setting.environment → IsTypedEnvironment setting.environment
+    → IsBetweenTheories setting → link_map setting assigns ≡ Ok along
+    → IsTypedMap (flat_of setting.environment setting.domain) (flat_of setting.environment setting.codomain) along

@@ -1,0 +1,7 @@
+pub mod Grown
+pub mod ProperImages
+pub mod WordsTyped
+pub mod SameValues
+pub mod Identity
+pub mod Places
+pub mod PlacedLinks

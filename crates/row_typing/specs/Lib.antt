@@ -1,0 +1,2 @@
+pub mod TypedFaces
+pub mod TypedLinks
