@@ -6,7 +6,7 @@ use Rattle.log_meaning.specs.Names.{Text}
 use Rattle.text_meaning.specs.Trees.{Judgement}
 use Rattle.text_meaning.specs.Reading.{JudgementText, ModuleTree, JudgementTree, Answer, Read, Syntax, TooDeep, Unsupported, Reads}
 use Rattle.text_laws.specs.ReadingLaws.{read}
-use Rattle.text_laws.proofs.OneAnswer.{one_reading}
+use Rattle.reading_laws.proofs.OneAnswer.{one_reading}
 use Rattle.translation_meaning.specs.Translation.{translate_object, translate_family}
 use Rattle.library_meaning.specs.Faces.{TheoryFace, ViewFace, IsView, view_face, Environment, theory_of, includes_of, own_of, own_parts, flat_signature, flat_of}
 use Rattle.library_meaning.specs.Coherence.{IsCoherent}

@@ -1,11 +1,12 @@
 -- What is spelled is read, with its nestings.
-use Rattle.std.proofs.Common.{◌≡◌, ℕ, ◌+◌, List, [], ◌∷◌, ◌++◌, None, refl, subst}
+use Rattle.std.proofs.Common.{◌≡◌, ℕ, ◌+◌, List, [], ◌∷◌, ◌++◌, None, refl, sym, ◌∙◌, subst}
 use Rattle.text_meaning.specs.Tokens.{Span, Token, sign, ident, ColonSign, LeftParen, RightParen, LeftBracket, RightBracket, LeftBrace, RightBrace, DotSign, EqualSign, EndSign, ArrowSign, BackSign}
 use Rattle.text_meaning.specs.Trees.{Binder, Expr, ArrowExpr, Exprs, Written, Assign, Decl, Module, Judgement}
 use Rattle.text_meaning.specs.Grammar.{join, applied, SpellsBinder, named, blank, SpellsExpr, arrows, backs, SpellsArrows, only_last, only_atoms, arrow, SpellsBacks, back, SpellsTail, tail_last, tail_atoms, tail_more, SpellsLast, only_binder, atoms_binder, SpellsAtoms, first_atom, more_atoms, SpellsAtom, name, type_word, parens, SpellsBinding, pi, lam, typed_lam, SpellsMorph, one_word, more_words, SpellsAssign, const_assign, include_assign, struct_assign, SpellsAssigns, no_assigns, more_assigns, SpellsDecl, include_decl, bare_struct, struct, const, defined, SpellsDecls, no_decls, more_decls, SpellsModule, sig, view, SpellsJudgement, judgement}
 use Rattle.text_meaning.specs.Nesting.{Nesting, expr_nesting, arrows_nesting, backs_nesting, tail_nesting, last_nesting, atoms_nesting, atom_nesting, binding_nesting, morph_nesting, assign_nesting, assigns_nesting, decl_nesting, decls_nesting, module_nesting, judgement_nesting}
 use Rattle.text_meaning.specs.Reading.{Target, Tree, ModuleTree, JudgementTree, Spells, spells_module, spells_judgement, nesting}
 use Rattle.text_meaning.specs.Parsing.{Simple, Atoms, NoAtoms, SomeAtoms, Row, Plain, AfterArrow, AfterBack, Brace, Curly, Square, PiOf, LamOf, TypedLamOf, Owner, Waiting, Ends, ObjectOf, InParens, InDomain, InBody, InCodomain, State, Whole, MoreWords, AtModule, AtDecl, AtAssign, AtOperand, AtVariable, AfterVariable, Binding, bound, add_atom, last_span, last_tree, row_span, row_tree, at_expr, at_morph, step, resume, arrow_move, start}
+use Rattle.text_laws.specs.ReadingLaws.{TreesAreDetermined}
 use Rattle.text_laws.proofs.Runs.{Reads, nothing, first, then, right_paren, right_bracket, right_brace, colon, equal, dot, end, IsWhole, ReadsWhole, first_whole, then_whole, whole_then, whole_then_whole}
 
 -- an operand with atoms is whole
@@ -165,3 +166,10 @@ pub spelled_reads : {target : Target} {ts : List Token} {t : Tree} (d : Spells t
 unfolding nesting
 spelled_reads (spells_module d) = module_reads d
 spelled_reads (spells_judgement d) = judgement_reads d
+
+tree_is : (t u : Tree) → Whole t ≡ Whole u → t ≡ u
+tree_is t u e = cc
+
+-- So tokens spell one tree at most.
+pub trees_are_determined : TreesAreDetermined
+trees_are_determined target ts t u d f = tree_is t u (sym (spelled_reads d).to ∙ (spelled_reads f).to)

@@ -1,3 +1,2 @@
--- What holds of the answers of a reader.
+-- What tokens and texts spell.
 pub mod ReadingLaws
-pub mod ReadingExamples

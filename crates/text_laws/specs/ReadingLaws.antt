@@ -1,22 +1,14 @@
--- What holds of the answers of a reader.
+-- What tokens spell, and what a text is read as.
 use Rattle.std.specs.Prelude.{◌≡◌, ℕ, List}
 use Rattle.text_meaning.specs.Tokens.{Token}
 use Rattle.text_meaning.specs.Cut.{Lexed, Tokens, NotUtf8, OpenComment}
 use Rattle.text_meaning.specs.Cutting.{lex}
-use Rattle.text_meaning.specs.Reading.{Target, Tree, Spells, Answer, Syntax, IsAnswer, with_end, Reads}
+use Rattle.text_meaning.specs.Reading.{Target, Tree, Spells, Answer, Syntax, with_end}
 use Rattle.text_meaning.specs.Parsing.{parse}
 
 -- Tokens spell at most one tree.
 abbrev pub TreesAreDetermined : Type 0
 TreesAreDetermined = (target : Target) (ts : List Token) (t u : Tree) → Spells target ts t → Spells target ts u → t ≡ u
-
--- Tokens, the end of the input behind them, spell a tree or have exactly one fault, and the function answers it.
-pub record HasOneAnswer (target : Target) (ts : List Token) (end : ℕ) : Type 0 where
-  pub is_answer : IsAnswer target (with_end ts end) (parse target (with_end ts end))
-  pub only : (other : Answer) → IsAnswer target (with_end ts end) other → other ≡ parse target (with_end ts end)
-
-abbrev pub TokensHaveOneAnswer : Type 0
-TokensHaveOneAnswer = (target : Target) (ts : List Token) (end : ℕ) → HasOneAnswer target ts end
 
 -- the answer to what a text is cut into, and to a text
 abbrev pub answer_to : Target → Lexed → Answer
@@ -26,11 +18,3 @@ answer_to target (OpenComment at) = Syntax at
 
 unfoldable pub read : Target → List ℕ → Answer
 read target text = answer_to target (lex text)
-
--- Each text spells a tree or has exactly one fault, and the function answers it.
-pub record HasOneReading (target : Target) (text : List ℕ) : Type 0 where
-  pub is_read : Reads target text (read target text)
-  pub only : (other : Answer) → Reads target text other → other ≡ read target text
-
-abbrev pub EachTextHasOneReading : Type 0
-EachTextHasOneReading = (target : Target) (text : List ℕ) → HasOneReading target text

@@ -1,4 +1,4 @@
-//! Laws about what tokens and texts spell.
+//! What tokens spell, and what the token machine makes of them.
 #![tactic(auto)]
 
 pub mod laws;

@@ -3,7 +3,7 @@ use Rattle.std.proofs.Common.{◌≡◌, ℕ, ◌≤◌, ne_eqb, arith, Some, Bo
 use Rattle.text_meaning.specs.Tokens.{Span, Sign, Kind, Mark, Token, sign, SigWord, ViewWord, RightBrace, DotSign}
 use Rattle.text_meaning.specs.Reading.{Answer, Syntax, TooDeep, Unsupported, is_too_deep, with_end}
 use Rattle.text_meaning.specs.Parsing.{Atoms, Waiting, Row, NoAtoms, State, Refused, Expect, MoreWords, AtOperand, at_operand, begins_operand, operand_ends, step, level, fault, expect, answer_on, is_refused, is_left_out, takes_include, is_bare_binder}
-use Rattle.text_laws.proofs.OneAnswer.{answer_refused, answer_deep, answer_goes}
+use Rattle.reading_laws.proofs.OneAnswer.{answer_refused, answer_deep, answer_goes}
 use Rattle.text_laws.proofs.Completes.{expect_here}
 use Rattle.twelf_reader.specs.Left.{left, next_kind, next_token}
 use Rattle.twelf_reader.specs.Going.{Fails, Goes, answer_with, bare_at, left_out_at, takes_at}

@@ -3,13 +3,14 @@ use Rattle.std.proofs.Common.{◌≡◌, ◌⊎◌, inl, inr, ℕ, ◌+◌, ◌-
 use Rattle.std.specs.Prelude.{Option, Some, None, nat_eq, nat_le, ◌==◌, ◌&&◌, not, option_map, option_and_then, codes}
 use Rattle.std.specs.List.{starts_with}
 use Rattle.std.specs.Str.{bytes_eq}
+use Rattle.std.proofs.lemmas.Bool.{and_parts, not-true}
 use Rattle.std.proofs.lemmas.Option.{same_Some}
 use Rattle.std.proofs.lemmas.List.{length-append, append-nil}
 use Rattle.std.proofs.lemmas.Slice.Eq.{bytes_eq-Decides}
 use Rattle.std.proofs.lemmas.Bool.Decides.{nat_tests}
 use Rattle.log_meaning.proofs.Places.{take_front, take_length, drop_front, take_drop}
 use Rattle.printing_meaning.specs.Numbers.{is_digit, is_number}
-use Rattle.word_list_meaning.specs.WordLists.{Task, CheckFolder, Run, default_workers, worker_part, is_folder, play_of, check_of, generate_of, task_of, with_part, without_part, part_in_front, part_at_end, first_of, run_of}
+use Rattle.word_list_meaning.specs.WordLists.{Task, Run, default_workers, worker_part, is_folder, play_of, check_of, generate_of, task_of, with_part, without_part, part_in_front, part_at_end, first_of, run_of}
 use Rattle.word_list_meaning.specs.WordAnswers.{IsPart, Asks}
 
 -- the word begins with `-`
@@ -28,29 +29,23 @@ count_for play check = cond play 0 (cond check 1 3)
 abbrev word_count : List ℕ → ℕ
 word_count word = count_for (bytes_eq word (codes "play")) (bytes_eq word (codes "check"))
 
-first_true : (a b : Bool) → (a && b) ≡ true → a ≡ true
-first_true true b h = refl
-first_true false b h = absurd cc
-
-not_true : (b : Bool) → not b ≡ true → b ≡ false
-not_true true h = absurd cc
-not_true false h = refl
+-- a tested value that is there has passed its test
+passed : {A : Type 0} (b : Bool) (found : Option A) (value : A) → cond b found None ≡ Some value → b ≡ true
+passed true found value h = refl
+passed false found value h = absurd cc
 
 digit_undashed : (byte : ℕ) → is_digit byte ≡ true → (byte == 45) ≡ false
-digit_undashed byte h = let least : nat_le 48 byte ≡ true = first_true (nat_le 48 byte) (nat_le byte 57) h in grind (arith, nat_tests)
+digit_undashed byte h = let least : nat_le 48 byte ≡ true = (and_parts (nat_le 48 byte) (nat_le byte 57) h).0 in grind (arith, nat_tests)
 
 number_undashed : (word : List ℕ) → is_number word ≡ true → is_dashed word ≡ false
 number_undashed [] h = absurd cc
 number_undashed (digit ∷ []) h = digit_undashed digit h
-number_undashed (digit ∷ second ∷ digits) h = digit_undashed digit (by_digits (not (digit == 48)) (is_digit digit) _ h)
-  where
-    by_digits : (a b c : Bool) → (a && (b && c)) ≡ true → b ≡ true
-    by_digits true b c i = first_true b c i
-    by_digits false b c i = absurd cc
+number_undashed (digit ∷ second ∷ digits) h =
+    let behind = (and_parts (not (digit == 48)) _ h).1 in digit_undashed digit (and_parts (is_digit digit) _ behind).0
 
 folder_undashed : (word : List ℕ) → is_folder word ≡ true → is_dashed word ≡ false
 folder_undashed [] h = absurd cc
-folder_undashed (byte ∷ bytes) h = not_true (byte == 45) h
+folder_undashed (byte ∷ bytes) h = not-true (byte == 45) h
 
 -- what a command's words are like behind its first word
 record IsShaped (words : List (List ℕ)) (count : ℕ) : Type 0 where
@@ -63,11 +58,7 @@ play_shaped (word ∷ words) task h = absurd cc
 
 check_shaped : (words : List (List ℕ)) (task : Task) → check_of words ≡ Some task → IsShaped words 1
 check_shaped [] task h = absurd cc
-check_shaped (folder ∷ []) task h = record { undashed = folder_undashed folder (tested (is_folder folder) h); counted = refl }
-  where
-    tested : (b : Bool) → cond b (Some (CheckFolder folder)) None ≡ Some task → b ≡ true
-    tested true i = refl
-    tested false i = absurd cc
+check_shaped (folder ∷ []) task h = record { undashed = folder_undashed folder (passed (is_folder folder) _ task h); counted = refl }
 check_shaped (folder ∷ second ∷ words) task h = absurd cc
 
 generate_shaped : (words : List (List ℕ)) (task : Task) → generate_of words ≡ Some task → IsShaped words 3
@@ -93,22 +84,14 @@ task_shaped word words task h = by_word (bytes_eq word (codes "play")) (bytes_eq
 
 -- a worker part begins with `-`
 part_dashed : (word : List ℕ) (words : List (List ℕ)) (workers : ℕ) → worker_part (word ∷ words) ≡ Some workers → is_dashed word ≡ true
-part_dashed word [] workers h = begun word (tested (starts_with nat_eq word (codes "--workers=")) _ h)
+part_dashed word [] workers h = begun word (passed (starts_with nat_eq word (codes "--workers=")) _ workers h)
   where
-    tested : (b : Bool) (found : Option ℕ) → cond b found None ≡ Some workers → b ≡ true
-    tested true found i = refl
-    tested false found i = absurd cc
-
     begun : (bytes : List ℕ) → starts_with nat_eq bytes (codes "--workers=") ≡ true → is_dashed bytes ≡ true
     begun [] i = absurd cc
-    begun (byte ∷ bytes) i = let here : (45 == byte) ≡ true = first_true (45 == byte) _ i in grind (arith, nat_tests)
+    begun (byte ∷ bytes) i = let here : (45 == byte) ≡ true = (and_parts (45 == byte) _ i).0 in grind (arith, nat_tests)
 part_dashed word (number ∷ []) workers h =
-    let same : word ≡ codes "--workers" = (bytes_eq-Decides word (codes "--workers")).0 (tested (bytes_eq word (codes "--workers")) _ h) in
+    let same : word ≡ codes "--workers" = (bytes_eq-Decides word (codes "--workers")).0 (passed (bytes_eq word (codes "--workers")) _ workers h) in
     ap is_dashed same
-  where
-    tested : (b : Bool) (found : Option ℕ) → cond b found None ≡ Some workers → b ≡ true
-    tested true found i = refl
-    tested false found i = absurd cc
 part_dashed word (number ∷ third ∷ words) workers h = absurd cc
 
 -- Two readings of the same words.
@@ -124,7 +107,7 @@ same_fronts (p ∷ part) rest (q ∷ other) behind n e =
     let same = same_fronts part rest other behind fewer behind_them in
     ((λ i. first i ∷ same.0 i), same.1)
 
--- as many words in two lists that are one, where as many stand in one part of each
+-- lists that are one have as many words
 same_counts : (a b c d : List (List ℕ)) → a ++ b ≡ c ++ d → length a + length b ≡ length c + length d
 same_counts a b c d e = sym (length-append a b) ∙ ap length e ∙ length-append c d
 

@@ -1,4 +1,4 @@
-use Rattle.text_laws.proofs.OneAnswer.{trees_are_determined}
+use Rattle.text_laws.proofs.Spelled.{trees_are_determined}
 use Rattle.text_laws.proofs.laws.law_one_tree.Goals as goal
 
 pub returns : goal.returns

@@ -6,7 +6,8 @@ use Rattle.text_meaning.specs.Cutting.{lex}
 use Rattle.text_meaning.specs.Nesting.{Nesting}
 use Rattle.text_meaning.specs.Reading.{Target, Tree, Spells, nesting, Begins, is_too_deep, any_too_deep, StopsAt, IsLeftOut, IsTooDeepAt, Answer, Read, Syntax, TooDeep, Unsupported, IsAnswer, with_end, IsAnswerTo}
 use Rattle.text_meaning.specs.Parsing.{State, Whole, AtOperand, step, level, run, levels, is_refused, is_left_out, fault, answer_at_end, answer_on, start, parse}
-use Rattle.text_laws.specs.ReadingLaws.{TreesAreDetermined, TokensHaveOneAnswer, answer_to, read, EachTextHasOneReading}
+use Rattle.text_laws.specs.ReadingLaws.{answer_to, read}
+use Rattle.reading_laws.specs.AnswerLaws.{TokensHaveOneAnswer, EachTextHasOneReading}
 use Rattle.token_laws.proofs.CutFollows.{or_front, or_back}
 use Rattle.token_laws.proofs.OneCut.{one_cut}
 use Rattle.text_laws.proofs.Runs.{levels-append}
@@ -14,7 +15,7 @@ use Rattle.text_laws.proofs.Spelled.{spelled_reads}
 use Rattle.text_laws.proofs.Fits.{Fits}
 use Rattle.text_laws.proofs.Sound.{step_fits, run_fits, start_fits, read_spelled}
 use Rattle.text_laws.proofs.Completes.{Alive, step_lives, start_alive, refused_run}
-use Rattle.text_laws.proofs.Stopping.{end_steps, begins_if, begins_only, run-snoc, goes_if, goes_only, lives_on, alive_at, left_out_if, left_out_only}
+use Rattle.reading_laws.proofs.Stopping.{end_steps, begins_if, begins_only, run-snoc, goes_if, goes_only, lives_on, alive_at, left_out_if, left_out_only}
 
 -- ---- nestings
 
@@ -229,12 +230,6 @@ one_answer target ts end =
       is_answer = answers target [] ts (start target) (record { from = end; to = end }) (start_comes target);
       only = only_answer target (with_end ts end);
     }
-
-tree_is : (t u : Tree) → Whole t ≡ Whole u → t ≡ u
-tree_is t u e = cc
-
-pub trees_are_determined : TreesAreDetermined
-trees_are_determined target ts t u d f = tree_is t u (sym (spelled_reads d).to ∙ (spelled_reads f).to)
 
 lexed_answer : (target : Target) (lexed : Lexed) → IsAnswerTo target lexed (answer_to target lexed)
 lexed_answer target (Tokens ts end) = (one_answer target ts end).is_answer

@@ -6,7 +6,7 @@ use Rattle.std.proofs.Common.{refl}
 use Rattle.text_meaning.specs.Cutting.{cut_on, lex}
 use Rattle.text_meaning.specs.Parsing.{resume, answer_on, parse}
 use Rattle.text_laws.specs.ReadingLaws.{read}
-use Rattle.text_laws.specs.ReadingExamples.{ReadingExamples}
+use Rattle.reading_laws.specs.ReadingExamples.{ReadingExamples}
 
 pub reading_examples : ReadingExamples
 unfolding read parse answer_on resume lex cut_on is_utf8 chars utf8_valid_len encode_utf8

@@ -1,0 +1,19 @@
+// Laws about the answers of a reader. Each is the contract of a function that does nothing.
+
+ghost use Rattle.reading_laws.specs.AnswerLaws.{TokensHaveOneAnswer, EachTextHasOneReading};
+ghost use Rattle.reading_laws.specs.ReadingExamples.{ReadingExamples};
+
+/// Tokens with the end of the input behind them spell a tree or have exactly one fault, and `parse` answers it.
+pub fn law_one_answer()
+    ensures { TokensHaveOneAnswer }
+{}
+
+/// Each text spells a tree or has exactly one fault, and `read` answers it.
+pub fn law_one_reading()
+    ensures { EachTextHasOneReading }
+{}
+
+/// Small texts are read as the grammar and the rules of stopping say.
+pub fn law_reading_examples()
+    ensures { ReadingExamples }
+{}

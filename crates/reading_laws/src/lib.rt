@@ -1,0 +1,4 @@
+//! Laws about the one answer that tokens and texts have.
+#![tactic(auto)]
+
+pub mod laws;
