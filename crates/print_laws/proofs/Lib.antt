@@ -8,3 +8,5 @@ pub mod BareItems
 pub mod LaidModules
 pub mod SpelledModules
 pub mod Printed
+pub mod GapsBehind
+pub mod PrintedJudged

@@ -11,7 +11,7 @@ use Rattle.print_laws.specs.PrintedModules.{module_items, module_text, expr_text
 use Rattle.print_laws.specs.PrintLaws.{IsSpelledModule, IsSpelledExpr, SpellsBack, SpellsBackExpr}
 use Rattle.print_laws.proofs.LaidOut.{laid_whole, laid_utf8}
 use Rattle.print_laws.proofs.Writable.{AreValid, cut_valid}
-use Rattle.print_laws.proofs.WellWritten.{expr_written, module_written, end_valid}
+use Rattle.print_laws.proofs.WellWritten.{IsWellWritten, expr_written, module_written, end_valid}
 use Rattle.print_laws.proofs.LaidExpressions.{expr_laid, no_gap}
 use Rattle.print_laws.proofs.LaidModules.{module_laid}
 use Rattle.print_laws.proofs.SpelledExpressions.{forms}
@@ -19,7 +19,7 @@ use Rattle.print_laws.proofs.SpelledModules.{module_at}
 use Rattle.print_laws.proofs.BareItems.{bare_items, bare_module_items}
 
 -- the tokens of a text that spells something are writable
-valid_tokens : (text : List ℕ) (ts : List Token) (end : ℕ) → IsLexed text (Tokens ts end) → AreValid ts
+pub valid_tokens : (text : List ℕ) (ts : List Token) (end : ℕ) → IsLexed text (Tokens ts end) → AreValid ts
 valid_tokens text ts end l = cut_valid text l.1 l.0
 
 spelled_back : (text : List ℕ) (tree : Module) (ts : List Token) (end : ℕ) → IsLexed text (Tokens ts end) → SpellsModule (with_end ts end) tree → SpellsBack (module_text tree) tree
@@ -49,18 +49,23 @@ printed_modules m s =
     subst (λ is. SpellsBack (text_of is) m) items
     (record { tokens = back.tokens; end = back.end; tree = back.tree; lexed = back.lexed; spells = back.spells; same = back.same ∙ s.same; reads = back.reads })
 
+-- a well-written expression
+pub expression_back : (e : Expr) → IsWellWritten e → SpellsBackExpr (expr_text e) e
+unfolding expr_text
+expression_back e w =
+    let items = expr_items true e tight in
+    let laid = expr_laid true e tight [] w no_gap refl in
+    let at = (forms e w).whole 0 tight in
+    record {
+      tree = at.tree;
+      spells = (tokens_of 0 items, length (text_of items), at.span, (laid_utf8 items [] laid, laid_whole items laid), at.spells);
+      same = at.same;
+    }
+
 pub printed_expressions : (e : Expr) → IsSpelledExpr e → SpellsBackExpr (expr_text e) e
 unfolding expr_text
 printed_expressions e s =
     let d = s.spells in
-    let written = expr_written d.4 (valid_tokens s.text d.0 d.1 d.3) in
     let items : expr_items true s.tree tight ≡ expr_items true e tight = sym (bare_items true s.tree tight) ∙ ap (λ t. expr_items true t tight) s.same ∙ bare_items true e tight in
-    let laid = expr_laid true s.tree tight [] written no_gap refl in
-    let at = (forms s.tree written).whole 0 tight in
-    let last : ℕ = length (text_of (expr_items true s.tree tight)) in
-    subst (λ is. SpellsBackExpr (text_of is) e) items
-    (record {
-      tree = at.tree;
-      spells = (tokens_of 0 (expr_items true s.tree tight), last, at.span, (laid_utf8 (expr_items true s.tree tight) [] laid, laid_whole (expr_items true s.tree tight) laid), at.spells);
-      same = at.same ∙ s.same;
-    })
+    let back = expression_back s.tree (expr_written d.4 (valid_tokens s.text d.0 d.1 d.3)) in
+    subst (λ is. SpellsBackExpr (text_of is) e) items (record { tree = back.tree; spells = back.spells; same = back.same ∙ s.same })

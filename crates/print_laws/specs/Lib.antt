@@ -2,4 +2,5 @@
 pub mod PrintedItems
 pub mod PrintedExpressions
 pub mod PrintedModules
+pub mod PrintedJudgements
 pub mod PrintLaws
