@@ -1,5 +1,5 @@
 -- What is printed spells the tree (this profile).
-use Rattle.std.specs.Prelude.{◌≡◌, false, List, ℕ}
+use Rattle.std.specs.Prelude.{◌≡◌, false, List, ◌++◌, ℕ, codes}
 use Rattle.text_meaning.specs.Tokens.{Token}
 use Rattle.text_meaning.specs.Cut.{Tokens, IsLexed}
 use Rattle.text_meaning.specs.Trees.{Expr, Module, Judgement}
@@ -64,6 +64,12 @@ pub record SpellsBackJudgement (text : List ℕ) (j : Judgement) : Type 0 where
   pub same : IsSameJudgement tree j
   pub reads : any_too_deep (judgement_nesting spells) ≡ false → Reads JudgementText text (Read (JudgementTree tree))
 
+-- Before a colon and the printed text of another expression, or behind them, this text spells the expression as a part of the
+-- judgement, and where nothing in the judgement stands deeper than 500 it is read as that judgement.
+pub record SpellsBackWithin (text : List ℕ) (e : Expr) : Type 0 where
+  pub object : (f : Expr) → IsSpelledExpr f → SpellsBackJudgement (text ++ (codes " : " ++ expr_text f)) (record { object = e; family = f })
+  pub family : (f : Expr) → IsSpelledExpr f → SpellsBackJudgement (expr_text f ++ (codes " : " ++ text)) (record { object = f; family = e })
+
 -- A module that some text spells is printed as a text that spells it, and is read again as that module.
 abbrev pub PrintedModulesAreRead : Type 0
 PrintedModulesAreRead = (m : Module) → IsSpelledModule m → SpellsBack (module_text m) m
@@ -71,6 +77,10 @@ PrintedModulesAreRead = (m : Module) → IsSpelledModule m → SpellsBack (modul
 -- An expression that some text spells is printed as a text that spells it.
 abbrev pub PrintedExpressionsSpell : Type 0
 PrintedExpressionsSpell = (e : Expr) → IsSpelledExpr e → SpellsBackExpr (expr_text e) e
+
+-- An expression that some text spells is printed as a text that is read again as that expression within a judgement.
+abbrev pub PrintedExpressionsAreReadWithin : Type 0
+PrintedExpressionsAreReadWithin = (e : Expr) → IsSpelledExpr e → SpellsBackWithin (expr_text e) e
 
 -- Two expressions that texts spell, printed with a colon between them, are a text that spells this judgement, and are read
 -- again as that judgement.

@@ -1,5 +1,5 @@
 use Rattle.print_laws.proofs.Printed.{printed_modules, printed_expressions}
-use Rattle.print_laws.proofs.PrintedJudged.{printed_judgements, judged_expressions}
+use Rattle.print_laws.proofs.PrintedJudged.{printed_judgements, printed_within, judged_expressions}
 use Rattle.print_laws.proofs.laws.law_printed.Goals as goal
 
 pub returns-clause-modules : goal.returns-clause-modules
@@ -13,3 +13,6 @@ returns-clause-judgements c = printed_judgements
 
 pub returns-clause-judged : goal.returns-clause-judged
 returns-clause-judged c = judged_expressions
+
+pub returns-clause-within : goal.returns-clause-within
+returns-clause-within c = printed_within

@@ -1,0 +1,6 @@
+pub mod Costs
+pub mod CostsOfItems
+pub mod CheapestPlaces
+pub mod CheapestSpelling
+pub mod CheapestModules
+pub mod Fewest

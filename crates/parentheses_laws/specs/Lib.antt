@@ -1,0 +1,2 @@
+-- Parentheses of texts, and that printed texts have the fewest.
+pub mod FewestParentheses
