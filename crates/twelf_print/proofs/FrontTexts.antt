@@ -1,20 +1,16 @@
 -- The text of modules from those of their parts.
-use Rattle.std.proofs.Common.{◌≡◌, ℕ, ◌+◌, ◌<◌, List, [], ◌∷◌, ◌++◌, take, length, slice_index_or, codes, refl, sym, ap, ap₂, ◌∙◌, append_assoc, append-nil, map, subst, arith}
+use Rattle.std.proofs.Common.{◌≡◌, ℕ, ◌+◌, ◌<◌, List, [], ◌∷◌, ◌++◌, take, length, slice_index_or, codes, refl, sym, ap, ◌∙◌, append_assoc, append-nil, map, arith}
 use Rattle.std.specs.Prelude.{Option, Some, None, flat_map}
 use Rattle.text_meaning.specs.Tokens.{spelled}
 use Rattle.text_meaning.specs.Trees as trees
-use Rattle.mmt_syntax.specs.Readings.{read_words, read_written, read_assign, read_assigns, read_decl, read_decls}
+use Rattle.mmt_syntax.specs.Readings.{read_words, read_written, read_assigns}
 use Rattle.mmt_syntax.specs.declared.written.Written.{Written}
 use Rattle.mmt_syntax.specs.declared.assign.Assign.{Assign}
-use Rattle.mmt_syntax.specs.declared.decl.Decl.{Decl}
-use Rattle.print_laws.specs.PrintedItems.{Gap, tight, space, new_line, Item, dot_item, right_brace, equal_item, left_brace, text_of}
+use Rattle.print_laws.specs.PrintedItems.{Gap, tight, space, new_line, Item, dot_item, right_brace, equal_item, text_of}
 use Rattle.print_laws.specs.PrintedExpressions.{whole_items}
-use Rattle.print_laws.specs.PrintedModules.{written_item, morph_items, assign_items, body_items, body_gap, value_items, value_gap, decl_items, module_items, module_text}
+use Rattle.print_laws.specs.PrintedModules.{morph_items, assign_items, value_items, value_gap, decl_items, module_items, module_text}
 use Rattle.print_laws.proofs.LaidOut.{text_append}
-use Rattle.twelf_print.specs.Fronts.{spaced, more_words, words_text, assign_front, assigns_text, constant_text, structure_text, decl_front, decls_text, view_front, module_front}
-use Rattle.print_laws.specs.PrintedModules.{expr_text}
-use Rattle.print_laws.specs.PrintLaws.{IsSpelledModule, IsSpelledExpr, SpellsBack, SpellsBackExpr}
-use Rattle.print_laws.proofs.Printed.{printed_modules, printed_expressions}
+use Rattle.twelf_print.specs.Fronts.{spaced, more_words, words_text, assign_front, constant_text, structure_text, decl_front, module_front}
 use Rattle.twelf_print.proofs.Texts.{written_then, next_taken}
 
 -- ---- words
@@ -188,13 +184,6 @@ structure_written o n d (x ∷ xs) h a b c e f g k =
     let t4 : List ℕ = t3 ++ codes "= { " in
     let F : List ℕ = text_of (flat_map (assign_items space) (x ∷ xs)) in
     written_then o (t4 ++ F) (codes "}") (written_then o t4 F (written_then o t3 (codes "= { ") (written_then o t2 (spaced d) (written_then o t1 (codes ": ") (written_then o (codes "%struct ") (spaced n) a b) c) e) f) g) k
-
--- the pieces of a module spell it
-pub spells_as : {o : List ℕ} {m : trees.Module} → o ≡ module_text m → IsSpelledModule m → SpellsBack o m
-spells_as {o} {m} e s = subst (λ t. SpellsBack t m) (sym e) (printed_modules m s)
-
-pub spells_expr : {o : List ℕ} {e : trees.Expr} → o ≡ expr_text e → IsSpelledExpr e → SpellsBackExpr o e
-spells_expr {o} {e} h s = subst (λ t. SpellsBackExpr t e) (sym h) (printed_expressions e s)
 
 -- a list that was found to have a length that is not 0
 pub some_assigns : (xs : List Assign) (n : ℕ) → n ≡ length xs → (n ≡ 0 → ⊥) → 0 < length (read_assigns xs)

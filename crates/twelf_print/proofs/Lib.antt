@@ -1,2 +1,4 @@
 pub mod Texts
+pub mod Nodes
 pub mod FrontTexts
+pub mod PublicClauses

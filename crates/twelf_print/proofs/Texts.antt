@@ -1,20 +1,17 @@
 -- The text of an expression, from those of its parts.
-use Rattle.std.proofs.Common.{◌≡◌, ℕ, zero, suc, ◌+◌, ◌<◌, Bool, true, false, not, ◌&&◌, ◌||◌, cond, List, [], ◌∷◌, ◌++◌, take, length, slice_index_or, codes, refl, sym, ap, ap₂, ◌∙◌, subst, append_assoc, append-nil, map, fold, arith}
-use Rattle.std.specs.Prelude.{Some, None, flat_map, if◌then◌else◌}
+use Rattle.std.proofs.Common.{◌≡◌, ℕ, ◌+◌, ◌<◌, Bool, true, false, ◌&&◌, ◌||◌, List, [], ◌∷◌, ◌++◌, take, length, slice_index_or, codes, refl, sym, ap, ◌∙◌, append_assoc, append-nil, map, fold, arith}
+use Rattle.std.specs.Prelude.{if◌then◌else◌}
 use Rattle.std.proofs.lemmas.List.{take_more}
-use Rattle.std.specs.declared.boxed.Box.{Box}
-use Rattle.std.specs.declared.alloc.Global.{Global}
 use Rattle.text_meaning.specs.Tokens.{Path, spelled, dotted}
 use Rattle.text_meaning.specs.Trees as trees
+use Rattle.text_meaning.specs.UpToSpans.{no_span}
 use Rattle.lf_terms.specs.declared.path.Path as code
-use Rattle.mmt_syntax.specs.Readings.{read_span, read_node, read_binder, read_expr, as_arguments, read_arguments, expressions_of}
-use Rattle.mmt_syntax.specs.declared.expr.Binder.{Binder}
+use Rattle.mmt_syntax.specs.Readings.{read_span, read_node, read_expr, read_arguments}
 use Rattle.mmt_syntax.specs.declared.expr.Expr.{Expr}
-use Rattle.mmt_syntax.specs.declared.expr.Exprs.{Exprs}
 use Rattle.mmt_syntax.specs.declared.expr.Node.TheVariants as nodes
-use Rattle.mmt_syntax.proofs.ReadingEquations.{read_expr_is, read_node_ty, read_node_name, read_node_app, read_node_pi, read_node_lam, read_node_typed_lam, read_node_arrow, read_node_back}
-use Rattle.print_laws.specs.PrintedItems.{Gap, tight, space, Item, path_item, type_item, colon_item, arrow_item, back_item, left_brace, right_brace, left_bracket, right_bracket, left_paren, right_paren, text_of}
-use Rattle.print_laws.specs.PrintedExpressions.{is_word, is_binding, is_operand, is_last_operand, is_back, binder_bytes, binder_item, enclosed, placed, expr_items, args_items}
+use Rattle.mmt_syntax.proofs.ReadingEquations.{read_expr_is, read_node_ty, read_node_name}
+use Rattle.print_laws.specs.PrintedItems.{Gap, tight, space, Item, path_item, type_item, arrow_item, back_item, right_brace, right_bracket, left_paren, right_paren, text_of}
+use Rattle.print_laws.specs.PrintedExpressions.{is_word, is_binding, is_operand, is_last_operand, is_back, binder_bytes, placed, expr_items, args_items}
 use Rattle.print_laws.proofs.LaidOut.{text_append}
 use Rattle.twelf_print.specs.Places.{opening, closing, inner_gap, inner_free}
 
@@ -68,10 +65,6 @@ pub or_none : (a b : Bool) → a ≡ (a || (false && b))
 or_none true b = refl
 or_none false b = refl
 
--- what was written of a value that is reached
-pub moved : {x y : Expr} (p : List ℕ) {q : List ℕ} (f : Expr → List ℕ) → x ≡ y → q ≡ p ++ f x → q ≡ p ++ f y
-moved p f e h = h ∙ ap (λ z. p ++ f z) e
-
 -- ---- the forms
 
 pub ty_text : (e : Expr) (free : Bool) (gap : Gap) → e.node ≡ nodes.Ty → codes "type" ++ gap ≡ text_of (expr_items free (read_expr e) gap)
@@ -84,78 +77,69 @@ unfolding expr_items
 name_text e p free gap h =
     sym (ap (λ t. text_of (expr_items free t gap)) (read_expr_is e ∙ ap (λ n. read_node n (read_span e.span)) h ∙ read_node_name p (read_span e.span)) ∙ one_item (path_item p gap))
 
-pub app_text : (e : Expr) (h : Box Expr Global) (es : Exprs) (free : Bool) (gap : Gap) → e.node ≡ nodes.App h es
-    → text_of (placed (is_word (read_expr h.value)) (expr_items true (read_expr h.value) space) (expr_items true (read_expr h.value) tight) space) ++ text_of (args_items free (read_arguments (expressions_of es)) gap)
-    ≡ text_of (expr_items free (read_expr e) gap)
+pub app_text : (h : trees.Expr) (xs : trees.Exprs) (free : Bool) (gap : Gap)
+    → text_of (placed (is_word h) (expr_items true h space) (expr_items true h tight) space) ++ text_of (args_items free xs gap)
+    ≡ text_of (expr_items free (trees.AppExpr no_span h xs) gap)
 unfolding expr_items
-app_text e h es free gap k =
-    sym (ap (λ t. text_of (expr_items free t gap)) (read_expr_is e ∙ ap (λ n. read_node n (read_span e.span)) k ∙ read_node_app h es (read_span e.span))
-    ∙ text_append (placed (is_word (read_expr h.value)) (expr_items true (read_expr h.value) space) (expr_items true (read_expr h.value) tight) space) (args_items free (read_arguments (expressions_of es)) gap))
+app_text h xs free gap =
+    sym (text_append (placed (is_word h) (expr_items true h space) (expr_items true h tight) space) (args_items free xs gap))
 
 -- `{x : A} B` in the pieces that are written
-pub pi_text : (e : Expr) (x : Binder) (a b : Box Expr Global) (free : Bool) (gap : Gap) → e.node ≡ nodes.Pi x a b
-    → ((((codes "{" ++ (binder_bytes (read_binder x) ++ space)) ++ codes ": ") ++ text_of (expr_items true (read_expr a.value) tight)) ++ codes "} ") ++ text_of (expr_items true (read_expr b.value) gap)
-    ≡ text_of (expr_items free (read_expr e) gap)
+pub pi_text : (x : trees.Binder) (a b : trees.Expr) (gap : Gap)
+    → ((((codes "{" ++ (binder_bytes x ++ space)) ++ codes ": ") ++ text_of (expr_items true a tight)) ++ codes "} ") ++ text_of (expr_items true b gap)
+    ≡ text_of (expr_items true (trees.PiExpr no_span x a b) gap)
 unfolding expr_items text_of
-pi_text e x a b free gap k =
-    let A : List Item = expr_items true (read_expr a.value) tight in
-    let B : List Item = expr_items true (read_expr b.value) gap in
-    let read = ap (λ t. text_of (expr_items free t gap)) (read_expr_is e ∙ ap (λ n. read_node n (read_span e.span)) k ∙ read_node_pi x a b (read_span e.span)) in
+pi_text x a b gap =
+    let A : List Item = expr_items true a tight in
+    let B : List Item = expr_items true b gap in
     let parts : text_of (A ++ (right_brace space ∷ B)) ≡ text_of A ++ (codes "} " ++ text_of B) = text_append A (right_brace space ∷ B) in
-    append_assoc (((codes "{" ++ (binder_bytes (read_binder x) ++ space)) ++ codes ": ") ++ text_of A) (codes "} ") (text_of B)
-    ∙ append_assoc ((codes "{" ++ (binder_bytes (read_binder x) ++ space)) ++ codes ": ") (text_of A) (codes "} " ++ text_of B)
-    ∙ ap (λ t. ((codes "{" ++ (binder_bytes (read_binder x) ++ space)) ++ codes ": ") ++ t) (sym parts)
-    ∙ append_assoc (codes "{" ++ (binder_bytes (read_binder x) ++ space)) (codes ": ") (text_of (A ++ (right_brace space ∷ B)))
-    ∙ ap (λ t. codes "{" ++ t) (append_assoc (binder_bytes (read_binder x)) space (codes ": " ++ text_of (A ++ (right_brace space ∷ B))))
-    ∙ sym read
+    append_assoc (((codes "{" ++ (binder_bytes x ++ space)) ++ codes ": ") ++ text_of A) (codes "} ") (text_of B)
+    ∙ append_assoc ((codes "{" ++ (binder_bytes x ++ space)) ++ codes ": ") (text_of A) (codes "} " ++ text_of B)
+    ∙ ap (λ t. ((codes "{" ++ (binder_bytes x ++ space)) ++ codes ": ") ++ t) (sym parts)
+    ∙ append_assoc (codes "{" ++ (binder_bytes x ++ space)) (codes ": ") (text_of (A ++ (right_brace space ∷ B)))
+    ∙ ap (λ t. codes "{" ++ t) (append_assoc (binder_bytes x) space (codes ": " ++ text_of (A ++ (right_brace space ∷ B))))
 
-pub typed_lam_text : (e : Expr) (x : Binder) (a b : Box Expr Global) (free : Bool) (gap : Gap) → e.node ≡ nodes.Lam x (Some a) b
-    → ((((codes "[" ++ (binder_bytes (read_binder x) ++ space)) ++ codes ": ") ++ text_of (expr_items true (read_expr a.value) tight)) ++ codes "] ") ++ text_of (expr_items true (read_expr b.value) gap)
-    ≡ text_of (expr_items free (read_expr e) gap)
+pub typed_lam_text : (x : trees.Binder) (a b : trees.Expr) (gap : Gap)
+    → ((((codes "[" ++ (binder_bytes x ++ space)) ++ codes ": ") ++ text_of (expr_items true a tight)) ++ codes "] ") ++ text_of (expr_items true b gap)
+    ≡ text_of (expr_items true (trees.TypedLamExpr no_span x a b) gap)
 unfolding expr_items text_of
-typed_lam_text e x a b free gap k =
-    let A : List Item = expr_items true (read_expr a.value) tight in
-    let B : List Item = expr_items true (read_expr b.value) gap in
-    let read = ap (λ t. text_of (expr_items free t gap)) (read_expr_is e ∙ ap (λ n. read_node n (read_span e.span)) k ∙ read_node_typed_lam x a b (read_span e.span)) in
+typed_lam_text x a b gap =
+    let A : List Item = expr_items true a tight in
+    let B : List Item = expr_items true b gap in
     let parts : text_of (A ++ (right_bracket space ∷ B)) ≡ text_of A ++ (codes "] " ++ text_of B) = text_append A (right_bracket space ∷ B) in
-    append_assoc (((codes "[" ++ (binder_bytes (read_binder x) ++ space)) ++ codes ": ") ++ text_of A) (codes "] ") (text_of B)
-    ∙ append_assoc ((codes "[" ++ (binder_bytes (read_binder x) ++ space)) ++ codes ": ") (text_of A) (codes "] " ++ text_of B)
-    ∙ ap (λ t. ((codes "[" ++ (binder_bytes (read_binder x) ++ space)) ++ codes ": ") ++ t) (sym parts)
-    ∙ append_assoc (codes "[" ++ (binder_bytes (read_binder x) ++ space)) (codes ": ") (text_of (A ++ (right_bracket space ∷ B)))
-    ∙ ap (λ t. codes "[" ++ t) (append_assoc (binder_bytes (read_binder x)) space (codes ": " ++ text_of (A ++ (right_bracket space ∷ B))))
-    ∙ sym read
+    append_assoc (((codes "[" ++ (binder_bytes x ++ space)) ++ codes ": ") ++ text_of A) (codes "] ") (text_of B)
+    ∙ append_assoc ((codes "[" ++ (binder_bytes x ++ space)) ++ codes ": ") (text_of A) (codes "] " ++ text_of B)
+    ∙ ap (λ t. ((codes "[" ++ (binder_bytes x ++ space)) ++ codes ": ") ++ t) (sym parts)
+    ∙ append_assoc (codes "[" ++ (binder_bytes x ++ space)) (codes ": ") (text_of (A ++ (right_bracket space ∷ B)))
+    ∙ ap (λ t. codes "[" ++ t) (append_assoc (binder_bytes x) space (codes ": " ++ text_of (A ++ (right_bracket space ∷ B))))
 
-pub lam_text : (e : Expr) (x : Binder) (b : Box Expr Global) (free : Bool) (gap : Gap) → e.node ≡ nodes.Lam x None b
-    → ((codes "[" ++ (binder_bytes (read_binder x) ++ tight)) ++ codes "] ") ++ text_of (expr_items true (read_expr b.value) gap) ≡ text_of (expr_items free (read_expr e) gap)
+pub lam_text : (x : trees.Binder) (b : trees.Expr) (gap : Gap)
+    → ((codes "[" ++ (binder_bytes x ++ tight)) ++ codes "] ") ++ text_of (expr_items true b gap) ≡ text_of (expr_items true (trees.LamExpr no_span x b) gap)
 unfolding expr_items text_of
-lam_text e x b free gap k =
-    let B : List Item = expr_items true (read_expr b.value) gap in
-    let read = ap (λ t. text_of (expr_items free t gap)) (read_expr_is e ∙ ap (λ n. read_node n (read_span e.span)) k ∙ read_node_lam x b (read_span e.span)) in
-    append_assoc (codes "[" ++ (binder_bytes (read_binder x) ++ tight)) (codes "] ") (text_of B)
-    ∙ ap (λ t. codes "[" ++ t) (append_assoc (binder_bytes (read_binder x)) tight (codes "] " ++ text_of B))
-    ∙ sym read
+lam_text x b gap =
+    let B : List Item = expr_items true b gap in
+    append_assoc (codes "[" ++ (binder_bytes x ++ tight)) (codes "] ") (text_of B)
+    ∙ ap (λ t. codes "[" ++ t) (append_assoc (binder_bytes x) tight (codes "] " ++ text_of B))
 
-pub arrow_text : (e : Expr) (a b : Box Expr Global) (free : Bool) (gap : Gap) → e.node ≡ nodes.Arrow a b
-    → (text_of (placed (is_operand (read_expr a.value)) (expr_items false (read_expr a.value) space) (expr_items true (read_expr a.value) tight) space) ++ codes "-> ")
-    ++ text_of (placed (if is_back (read_expr b.value) then false else true) (expr_items true (read_expr b.value) gap) (expr_items true (read_expr b.value) tight) gap)
-    ≡ text_of (expr_items free (read_expr e) gap)
+pub arrow_text : (a b : trees.Expr) (gap : Gap)
+    → (text_of (placed (is_operand a) (expr_items false a space) (expr_items true a tight) space) ++ codes "-> ")
+    ++ text_of (placed (if is_back b then false else true) (expr_items true b gap) (expr_items true b tight) gap)
+    ≡ text_of (expr_items true (trees.ArrowExpr no_span a b) gap)
 unfolding expr_items text_of
-arrow_text e a b free gap k =
-    let A : List Item = placed (is_operand (read_expr a.value)) (expr_items false (read_expr a.value) space) (expr_items true (read_expr a.value) tight) space in
-    let B : List Item = placed (if is_back (read_expr b.value) then false else true) (expr_items true (read_expr b.value) gap) (expr_items true (read_expr b.value) tight) gap in
+arrow_text a b gap =
+    let A : List Item = placed (is_operand a) (expr_items false a space) (expr_items true a tight) space in
+    let B : List Item = placed (if is_back b then false else true) (expr_items true b gap) (expr_items true b tight) gap in
     append_assoc (text_of A) (codes "-> ") (text_of B) ∙ sym (text_append A (arrow_item ∷ B))
-    ∙ sym (ap (λ t. text_of (expr_items free t gap)) (read_expr_is e ∙ ap (λ n. read_node n (read_span e.span)) k ∙ read_node_arrow a b (read_span e.span)))
 
-pub back_text : (e : Expr) (b a : Box Expr Global) (free : Bool) (gap : Gap) → e.node ≡ nodes.Back b a
-    → (text_of (placed (is_operand (read_expr b.value) || is_back (read_expr b.value)) (expr_items false (read_expr b.value) space) (expr_items true (read_expr b.value) tight) space) ++ codes "<- ")
-    ++ text_of (placed (if free then is_last_operand (read_expr a.value) else is_operand (read_expr a.value)) (expr_items free (read_expr a.value) gap) (expr_items true (read_expr a.value) tight) gap)
-    ≡ text_of (expr_items free (read_expr e) gap)
+pub back_text : (b a : trees.Expr) (free : Bool) (gap : Gap)
+    → (text_of (placed (is_operand b || is_back b) (expr_items false b space) (expr_items true b tight) space) ++ codes "<- ")
+    ++ text_of (placed (if free then is_last_operand a else is_operand a) (expr_items free a gap) (expr_items true a tight) gap)
+    ≡ text_of (expr_items free (trees.BackExpr no_span b a) gap)
 unfolding expr_items text_of
-back_text e b a free gap k =
-    let B : List Item = placed (is_operand (read_expr b.value) || is_back (read_expr b.value)) (expr_items false (read_expr b.value) space) (expr_items true (read_expr b.value) tight) space in
-    let A : List Item = placed (if free then is_last_operand (read_expr a.value) else is_operand (read_expr a.value)) (expr_items free (read_expr a.value) gap) (expr_items true (read_expr a.value) tight) gap in
+back_text b a free gap =
+    let B : List Item = placed (is_operand b || is_back b) (expr_items false b space) (expr_items true b tight) space in
+    let A : List Item = placed (if free then is_last_operand a else is_operand a) (expr_items free a gap) (expr_items true a tight) gap in
     append_assoc (text_of B) (codes "<- ") (text_of A) ∙ sym (text_append B (back_item ∷ A))
-    ∙ sym (ap (λ t. text_of (expr_items free t gap)) (read_expr_is e ∙ ap (λ n. read_node n (read_span e.span)) k ∙ read_node_back b a (read_span e.span)))
 
 -- ---- rows
 
@@ -188,64 +172,64 @@ dotted_next names i n e h = ap dotted (next_taken names i n e h) ∙ dotted_last
     dotted_last [] n = ap (λ t. 46 ∷ t) (append-nil n)
     dotted_last (x ∷ xs) n = ap (λ t. 46 ∷ (x ++ t)) (dotted_last xs n) ∙ ap (λ t. 46 ∷ t) (sym (append_assoc x (dotted xs) (46 ∷ n)))
 
--- ---- what the arms write
+-- ---- what is written of each form
 
-pub pi_written : (o : List ℕ) {p1 p2 p3 p4 p5 p6 : List ℕ} (e : Expr) (x : Binder) (a b : Box Expr Global) (free : Bool) (gap : Gap) → e.node ≡ nodes.Pi x a b
-    → p1 ≡ o ++ codes "{" → p2 ≡ p1 ++ (binder_bytes (read_binder x) ++ space) → p3 ≡ p2 ++ codes ": " → p4 ≡ p3 ++ text_of (expr_items true (read_expr a.value) tight)
-    → p5 ≡ p4 ++ codes "} " → p6 ≡ p5 ++ text_of (expr_items true (read_expr b.value) gap) → p6 ≡ o ++ text_of (expr_items free (read_expr e) gap)
-pi_written o e x a b free gap k q1 q2 q3 q4 q5 q6 =
-    let t2 : List ℕ = codes "{" ++ (binder_bytes (read_binder x) ++ space) in
-    let A : List ℕ = text_of (expr_items true (read_expr a.value) tight) in
-    let B : List ℕ = text_of (expr_items true (read_expr b.value) gap) in
+pub pi_written : (o : List ℕ) {p1 p2 p3 p4 p5 p6 : List ℕ} (x : trees.Binder) (a b : trees.Expr) (gap : Gap)
+    → p1 ≡ o ++ codes "{" → p2 ≡ p1 ++ (binder_bytes x ++ space) → p3 ≡ p2 ++ codes ": " → p4 ≡ p3 ++ text_of (expr_items true a tight)
+    → p5 ≡ p4 ++ codes "} " → p6 ≡ p5 ++ text_of (expr_items true b gap) → p6 ≡ o ++ text_of (expr_items true (trees.PiExpr no_span x a b) gap)
+pi_written o x a b gap q1 q2 q3 q4 q5 q6 =
+    let t2 : List ℕ = codes "{" ++ (binder_bytes x ++ space) in
+    let A : List ℕ = text_of (expr_items true a tight) in
+    let B : List ℕ = text_of (expr_items true b gap) in
     written_then o (((t2 ++ codes ": ") ++ A) ++ codes "} ") B
-    (written_then o ((t2 ++ codes ": ") ++ A) (codes "} ") (written_then o (t2 ++ codes ": ") A (written_then o t2 (codes ": ") (written_then o (codes "{") (binder_bytes (read_binder x) ++ space) q1 q2) q3) q4) q5) q6
-    ∙ ap (λ t. o ++ t) (pi_text e x a b free gap k)
+    (written_then o ((t2 ++ codes ": ") ++ A) (codes "} ") (written_then o (t2 ++ codes ": ") A (written_then o t2 (codes ": ") (written_then o (codes "{") (binder_bytes x ++ space) q1 q2) q3) q4) q5) q6
+    ∙ ap (λ t. o ++ t) (pi_text x a b gap)
 
-pub typed_lam_written : (o : List ℕ) {p1 p2 p3 p4 p5 p6 : List ℕ} (e : Expr) (x : Binder) (a b : Box Expr Global) (free : Bool) (gap : Gap) → e.node ≡ nodes.Lam x (Some a) b
-    → p1 ≡ o ++ codes "[" → p2 ≡ p1 ++ (binder_bytes (read_binder x) ++ space) → p3 ≡ p2 ++ codes ": " → p4 ≡ p3 ++ text_of (expr_items true (read_expr a.value) tight)
-    → p5 ≡ p4 ++ codes "] " → p6 ≡ p5 ++ text_of (expr_items true (read_expr b.value) gap) → p6 ≡ o ++ text_of (expr_items free (read_expr e) gap)
-typed_lam_written o e x a b free gap k q1 q2 q3 q4 q5 q6 =
-    let t2 : List ℕ = codes "[" ++ (binder_bytes (read_binder x) ++ space) in
-    let A : List ℕ = text_of (expr_items true (read_expr a.value) tight) in
-    let B : List ℕ = text_of (expr_items true (read_expr b.value) gap) in
+pub typed_lam_written : (o : List ℕ) {p1 p2 p3 p4 p5 p6 : List ℕ} (x : trees.Binder) (a b : trees.Expr) (gap : Gap)
+    → p1 ≡ o ++ codes "[" → p2 ≡ p1 ++ (binder_bytes x ++ space) → p3 ≡ p2 ++ codes ": " → p4 ≡ p3 ++ text_of (expr_items true a tight)
+    → p5 ≡ p4 ++ codes "] " → p6 ≡ p5 ++ text_of (expr_items true b gap) → p6 ≡ o ++ text_of (expr_items true (trees.TypedLamExpr no_span x a b) gap)
+typed_lam_written o x a b gap q1 q2 q3 q4 q5 q6 =
+    let t2 : List ℕ = codes "[" ++ (binder_bytes x ++ space) in
+    let A : List ℕ = text_of (expr_items true a tight) in
+    let B : List ℕ = text_of (expr_items true b gap) in
     written_then o (((t2 ++ codes ": ") ++ A) ++ codes "] ") B
-    (written_then o ((t2 ++ codes ": ") ++ A) (codes "] ") (written_then o (t2 ++ codes ": ") A (written_then o t2 (codes ": ") (written_then o (codes "[") (binder_bytes (read_binder x) ++ space) q1 q2) q3) q4) q5) q6
-    ∙ ap (λ t. o ++ t) (typed_lam_text e x a b free gap k)
+    (written_then o ((t2 ++ codes ": ") ++ A) (codes "] ") (written_then o (t2 ++ codes ": ") A (written_then o t2 (codes ": ") (written_then o (codes "[") (binder_bytes x ++ space) q1 q2) q3) q4) q5) q6
+    ∙ ap (λ t. o ++ t) (typed_lam_text x a b gap)
 
-pub lam_written : (o : List ℕ) {p1 p2 p3 p4 : List ℕ} (e : Expr) (x : Binder) (b : Box Expr Global) (free : Bool) (gap : Gap) → e.node ≡ nodes.Lam x None b
-    → p1 ≡ o ++ codes "[" → p2 ≡ p1 ++ (binder_bytes (read_binder x) ++ tight) → p3 ≡ p2 ++ codes "] " → p4 ≡ p3 ++ text_of (expr_items true (read_expr b.value) gap)
-    → p4 ≡ o ++ text_of (expr_items free (read_expr e) gap)
-lam_written o e x b free gap k q1 q2 q3 q4 =
-    let t2 : List ℕ = codes "[" ++ (binder_bytes (read_binder x) ++ tight) in
-    written_then o (t2 ++ codes "] ") (text_of (expr_items true (read_expr b.value) gap)) (written_then o t2 (codes "] ") (written_then o (codes "[") (binder_bytes (read_binder x) ++ tight) q1 q2) q3) q4
-    ∙ ap (λ t. o ++ t) (lam_text e x b free gap k)
+pub lam_written : (o : List ℕ) {p1 p2 p3 p4 : List ℕ} (x : trees.Binder) (b : trees.Expr) (gap : Gap)
+    → p1 ≡ o ++ codes "[" → p2 ≡ p1 ++ (binder_bytes x ++ tight) → p3 ≡ p2 ++ codes "] " → p4 ≡ p3 ++ text_of (expr_items true b gap)
+    → p4 ≡ o ++ text_of (expr_items true (trees.LamExpr no_span x b) gap)
+lam_written o x b gap q1 q2 q3 q4 =
+    let t2 : List ℕ = codes "[" ++ (binder_bytes x ++ tight) in
+    written_then o (t2 ++ codes "] ") (text_of (expr_items true b gap)) (written_then o t2 (codes "] ") (written_then o (codes "[") (binder_bytes x ++ tight) q1 q2) q3) q4
+    ∙ ap (λ t. o ++ t) (lam_text x b gap)
 
-pub app_written : (o : List ℕ) {p q : List ℕ} (e : Expr) (h : Box Expr Global) (es : Exprs) (free : Bool) (gap : Gap) → e.node ≡ nodes.App h es
-    → p ≡ o ++ text_of (placed (is_word (read_expr h.value)) (expr_items true (read_expr h.value) space) (expr_items true (read_expr h.value) tight) space)
-    → q ≡ p ++ text_of (args_items free (read_arguments (expressions_of es)) gap) → q ≡ o ++ text_of (expr_items free (read_expr e) gap)
-app_written o e h es free gap k a b =
-    written_then o (text_of (placed (is_word (read_expr h.value)) (expr_items true (read_expr h.value) space) (expr_items true (read_expr h.value) tight) space)) (text_of (args_items free (read_arguments (expressions_of es)) gap)) a b
-    ∙ ap (λ t. o ++ t) (app_text e h es free gap k)
+pub app_written : (o : List ℕ) {p q : List ℕ} (h : trees.Expr) (xs : trees.Exprs) (free : Bool) (gap : Gap)
+    → p ≡ o ++ text_of (placed (is_word h) (expr_items true h space) (expr_items true h tight) space)
+    → q ≡ p ++ text_of (args_items free xs gap) → q ≡ o ++ text_of (expr_items free (trees.AppExpr no_span h xs) gap)
+app_written o h xs free gap a b =
+    written_then o (text_of (placed (is_word h) (expr_items true h space) (expr_items true h tight) space)) (text_of (args_items free xs gap)) a b
+    ∙ ap (λ t. o ++ t) (app_text h xs free gap)
 
-pub arrow_written : (o : List ℕ) {p q r : List ℕ} (e : Expr) (a b : Box Expr Global) (free : Bool) (gap : Gap) → e.node ≡ nodes.Arrow a b
-    → p ≡ o ++ text_of (placed (is_operand (read_expr a.value)) (expr_items false (read_expr a.value) space) (expr_items true (read_expr a.value) tight) space)
+pub arrow_written : (o : List ℕ) {p q r : List ℕ} (a b : trees.Expr) (gap : Gap)
+    → p ≡ o ++ text_of (placed (is_operand a) (expr_items false a space) (expr_items true a tight) space)
     → q ≡ p ++ codes "-> "
-    → r ≡ q ++ text_of (placed (if is_back (read_expr b.value) then false else true) (expr_items true (read_expr b.value) gap) (expr_items true (read_expr b.value) tight) gap)
-    → r ≡ o ++ text_of (expr_items free (read_expr e) gap)
-arrow_written o e a b free gap k f g h =
-    let A : List ℕ = text_of (placed (is_operand (read_expr a.value)) (expr_items false (read_expr a.value) space) (expr_items true (read_expr a.value) tight) space) in
-    let B : List ℕ = text_of (placed (if is_back (read_expr b.value) then false else true) (expr_items true (read_expr b.value) gap) (expr_items true (read_expr b.value) tight) gap) in
-    written_then o (A ++ codes "-> ") B (written_then o A (codes "-> ") f g) h ∙ ap (λ t. o ++ t) (arrow_text e a b free gap k)
+    → r ≡ q ++ text_of (placed (if is_back b then false else true) (expr_items true b gap) (expr_items true b tight) gap)
+    → r ≡ o ++ text_of (expr_items true (trees.ArrowExpr no_span a b) gap)
+arrow_written o a b gap f g h =
+    let A : List ℕ = text_of (placed (is_operand a) (expr_items false a space) (expr_items true a tight) space) in
+    let B : List ℕ = text_of (placed (if is_back b then false else true) (expr_items true b gap) (expr_items true b tight) gap) in
+    written_then o (A ++ codes "-> ") B (written_then o A (codes "-> ") f g) h ∙ ap (λ t. o ++ t) (arrow_text a b gap)
 
-pub back_written : (o : List ℕ) {p q r : List ℕ} (e : Expr) (b a : Box Expr Global) (free : Bool) (gap : Gap) → e.node ≡ nodes.Back b a
-    → p ≡ o ++ text_of (placed (is_operand (read_expr b.value) || is_back (read_expr b.value)) (expr_items false (read_expr b.value) space) (expr_items true (read_expr b.value) tight) space)
+pub back_written : (o : List ℕ) {p q r : List ℕ} (b a : trees.Expr) (free : Bool) (gap : Gap)
+    → p ≡ o ++ text_of (placed (is_operand b || is_back b) (expr_items false b space) (expr_items true b tight) space)
     → q ≡ p ++ codes "<- "
-    → r ≡ q ++ text_of (placed (if free then is_last_operand (read_expr a.value) else is_operand (read_expr a.value)) (expr_items free (read_expr a.value) gap) (expr_items true (read_expr a.value) tight) gap)
-    → r ≡ o ++ text_of (expr_items free (read_expr e) gap)
-back_written o e b a free gap k f g h =
-    let B : List ℕ = text_of (placed (is_operand (read_expr b.value) || is_back (read_expr b.value)) (expr_items false (read_expr b.value) space) (expr_items true (read_expr b.value) tight) space) in
-    let A : List ℕ = text_of (placed (if free then is_last_operand (read_expr a.value) else is_operand (read_expr a.value)) (expr_items free (read_expr a.value) gap) (expr_items true (read_expr a.value) tight) gap) in
-    written_then o (B ++ codes "<- ") A (written_then o B (codes "<- ") f g) h ∙ ap (λ t. o ++ t) (back_text e b a free gap k)
+    → r ≡ q ++ text_of (placed (if free then is_last_operand a else is_operand a) (expr_items free a gap) (expr_items true a tight) gap)
+    → r ≡ o ++ text_of (expr_items free (trees.BackExpr no_span b a) gap)
+back_written o b a free gap f g h =
+    let B : List ℕ = text_of (placed (is_operand b || is_back b) (expr_items false b space) (expr_items true b tight) space) in
+    let A : List ℕ = text_of (placed (if free then is_last_operand a else is_operand a) (expr_items free a gap) (expr_items true a tight) gap) in
+    written_then o (B ++ codes "<- ") A (written_then o B (codes "<- ") f g) h ∙ ap (λ t. o ++ t) (back_text b a free gap)
 
 -- arguments so far, with one more
 pub args_written : (o : List ℕ) {p q : List ℕ} (done all : List Expr) (e : Expr) (free : Bool) (gap : Gap) → all ≡ done ++ (e ∷ [])

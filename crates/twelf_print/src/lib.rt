@@ -1,5 +1,6 @@
-//! Printed modules and expressions. What is printed spells what was printed, wherever some text does; parentheses
-//! stand only where the grammar needs them, and a declaration takes one line.
+//! Printed modules and expressions. Wherever some text spells the tree, what is printed spells it up to spans, and no text
+//! that spells it has fewer parentheses. It is read again as that tree where nothing in it stands deeper than 500. A
+//! declaration takes one line.
 #![tactic(auto)]
 
 mod expressions;

@@ -6,6 +6,7 @@ ghost use Rattle.print_laws.specs.PrintedItems.{text_of};
 ghost use Rattle.print_laws.specs.PrintedModules.{assign_items, decl_items, module_text};
 ghost use Rattle.twelf_print.specs.Fronts.{module_front, view_front, decls_text, words_text, assign_front, decl_front, constant_text, structure_text};
 ghost use Rattle.print_laws.specs.PrintLaws.{IsSpelledModule, SpellsBack};
+ghost use Rattle.parentheses_laws.specs.FewestParentheses.{HasFewestOfModule};
 
 use crate::expressions::expression;
 use crate::paths::path;
@@ -13,11 +14,12 @@ use lf_terms::{Bytes, Memory};
 use mmt_syntax::{Assign, Assigns, Decl, Decls, Expr, Module, Morph, StructDecl, ViewDecl};
 use std::alloc::Global;
 
-/// The text of a module. It spells the same tree up to spans, wherever the tree is one that some text spells, and is
-/// read again as that tree where nothing in it stands deeper than 500.
+/// The text of a module. Wherever the module is one that some text spells, this text spells it up to spans, no text that
+/// spells it has fewer parentheses, and it is read again as that module where nothing in it stands deeper than 500.
 pub fn print_module(alloc: Global, module: &Module) -> Result<Bytes, Memory>
     ensures text { IfOk result (λ text. text ≡ module_text (read_module «module».now)) }
     ensures spells { IfOk result (λ text. IsSpelledModule (read_module «module».now) → SpellsBack text (read_module «module».now)) }
+    ensures fewest { IfOk result (λ text. IsSpelledModule (read_module «module».now) → HasFewestOfModule text (read_module «module».now)) }
 {
     let mut out = Bytes::new(alloc);
     front(&mut out, module)?;

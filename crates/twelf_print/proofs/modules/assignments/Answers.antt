@@ -1,6 +1,5 @@
-use Rattle.std.proofs.Common.{◌≡◌, ◌∙◌, sym, ap, ◌++◌, ◌+◌, take, append-nil}
-use Rattle.std.specs.Prelude.{flat_map}
-use Rattle.mmt_syntax.specs.Readings.{read_assign, read_assigns}
+use Rattle.std.proofs.Common.{sym, append-nil}
+use Rattle.mmt_syntax.specs.Readings.{read_assign}
 use Rattle.print_laws.specs.PrintedItems.{text_of}
 use Rattle.print_laws.specs.PrintedModules.{assign_items}
 use Rattle.twelf_print.proofs.FrontTexts.{next_part}

@@ -1,4 +1,3 @@
-use Rattle.std.proofs.Common.{◌≡◌, ◌∙◌, sym, ap, length, map}
 use Rattle.std.proofs.lemmas.Result.{on_ok_weaker}
 use Rattle.mmt_syntax.specs.Readings.{read_assigns, read_written}
 use Rattle.twelf_print.proofs.FrontTexts.{structure_written, some_assigns}
