@@ -3,15 +3,11 @@ use Rattle.std.specs.Prelude.{◌≡◌, ℕ, true, List, slice_get, Some}
 use Rattle.log_meaning.specs.Names.{Name}
 use Rattle.log_meaning.specs.Log.{Library}
 use Rattle.lf_meaning.specs.Terms.{Object, Family, Context}
-use Rattle.lf_meaning.specs.Signatures.{Signature}
 use Rattle.lf_meaning.specs.Judgements.{IsTyping, IsSignature}
 use Rattle.translation_meaning.specs.Translation.{translate_object, translate_family}
-use Rattle.translation_meaning.specs.HeadMaps.{HeadMap}
-use Rattle.translation_meaning.specs.ProperValues.{ValuesAreProper}
-use Rattle.sorted_translation.specs.AtomicBodies.{BodiesAreAtomic}
 use Rattle.translation_typing.specs.TypedTranslation.{translate_context, IsTypedTranslation}
 use Rattle.library_meaning.specs.Faces.{StructureFace, TheoryFace, ViewFace, IsTheory, IsView, Environment, flat_signature, flat_of}
-use Rattle.library_meaning.specs.Coherence.{IsCoherentMap, IsCoherent}
+use Rattle.library_meaning.specs.Coherence.{IsCoherent}
 use Rattle.walk_meaning.specs.Walks.{is_grounded}
 use Rattle.verdict_meaning.specs.Dependencies.{dependencies}
 use Rattle.verdict_meaning.specs.Rounds.{known_of, verdicts}
@@ -30,10 +26,6 @@ GroundedKnowTyped = (library : Library) (name : Name) → is_grounded dependenci
 -- Read: so is what the verdicts of a library tell of names that are closed under their reach.
 abbrev pub ClosedAreTyped : Type 0
 ClosedAreTyped = (library : Library) (names : List Name) → AreClosed library names → IsTypedEnvironment (known_of names (verdicts library))
-
--- Read: the values of a coherent map are proper, and its families atomic.
-abbrev pub CoherentMapsAreProper : Type 0
-CoherentMapsAreProper = (from to : Signature) (along : HeadMap) → IsCoherentMap from to along → ValuesAreProper along × BodiesAreAtomic along
 
 -- Read: where all that is known is coherent and well typed, the map of a view is a typed one between well-typed signatures, of
 -- atomic families. So it commutes with raising and substitution, keeps typing, and composes.

@@ -1,6 +1,7 @@
 //! Accepted theories flatten to well-typed signatures, and accepted views and structures carry typing.
 
-ghost use Rattle.face_typing.specs.FaceTypingLaws.{FacesAreTyped, GroundedKnowTyped, ClosedAreTyped, CoherentMapsAreProper, KnownViewsTranslate, KnownStructuresTranslate, KnownViewsCarryTyping, KnownStructuresCarryTyping, TheoriesFlatten, ViewsCarryTyping, StructuresCarryTyping};
+ghost use Rattle.row_typing.specs.TypedLinks.{CoherentMapsAreProper};
+ghost use Rattle.face_typing.specs.FaceTypingLaws.{FacesAreTyped, GroundedKnowTyped, ClosedAreTyped, KnownViewsTranslate, KnownStructuresTranslate, KnownViewsCarryTyping, KnownStructuresCarryTyping, TheoriesFlatten, ViewsCarryTyping, StructuresCarryTyping};
 
 /// In each library the faces of accepted modules are well typed; so an accepted theory flattens to a well-typed signature, and
 /// an accepted view, and each structure, carries every typing judgement of its domain to one of its codomain.

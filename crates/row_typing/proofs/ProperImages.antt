@@ -9,7 +9,7 @@ use Rattle.translation_typing.proofs.Proper.{proper_atomic}
 use Rattle.library_meaning.specs.Holding.{ValueHolds}
 use Rattle.library_meaning.specs.Coherence.{IsCoherentMap}
 use Rattle.expansion_meaning.proofs.Binding.{some_same}
-use Rattle.face_typing.specs.FaceTypingLaws.{CoherentMapsAreProper}
+use Rattle.row_typing.specs.TypedLinks.{CoherentMapsAreProper}
 
 -- where the image of a constant stands
 record Placed (along : HeadMap) (image : Image) : Type 0 where

@@ -1,13 +1,21 @@
 -- Links that are well typed (this profile).
 use Rattle.std.specs.Prelude.{◌≡◌, ℕ, List, slice_get, Option, Some}
 use Rattle.lf_meaning.specs.Terms.{Path}
+use Rattle.lf_meaning.specs.Signatures.{Signature}
 use Rattle.lf_meaning.specs.Judgements.{IsSignature}
+use Rattle.translation_meaning.specs.HeadMaps.{HeadMap}
+use Rattle.translation_meaning.specs.ProperValues.{ValuesAreProper}
 use Rattle.translation_meaning.specs.TypedMaps.{IsTypedMap}
+use Rattle.sorted_translation.specs.AtomicBodies.{BodiesAreAtomic}
 use Rattle.library_meaning.specs.Faces.{StructureFace, TheoryFace, Environment, flat_signature, flat_of}
-use Rattle.library_meaning.specs.Coherence.{IsCoherent}
+use Rattle.library_meaning.specs.Coherence.{IsCoherentMap, IsCoherent}
 use Rattle.library_meaning.specs.Words.{Link, RowMeans, row_meaning}
 use Rattle.link_coherence_laws.specs.LinkTargets.{target_of, HereHolds}
 use Rattle.row_typing.specs.TypedFaces.{IsTypedEnvironment}
+
+-- Read: the values of a coherent map are proper, and its families atomic.
+abbrev pub CoherentMapsAreProper : Type 0
+CoherentMapsAreProper = (from to : Signature) (along : HeadMap) → IsCoherentMap from to along → ValuesAreProper along × BodiesAreAtomic along
 
 -- Read: the theory that is being built is well typed so far, and so are the maps of its structures.
 pub record HereTyped (environment : Environment) (here : Option TheoryFace) : Type 0 where
