@@ -1,6 +1,7 @@
 -- What is accepted comes from a text that reads as a tree, which has passed its tests.
 use Rattle.std.proofs.Common.{◌≡◌, ℕ, Bool, true, false, List, length, Some, Ok, Err, refl, sym, ap, ◌∙◌}
 use Rattle.lf_meaning.specs.Signatures.{same_name as same_bytes}
+use Rattle.lf_meaning.proofs.Equality.{same_name_sound}
 use Rattle.log_meaning.specs.Names.{Name, Text, is_among}
 use Rattle.log_meaning.specs.Log.{Library, text_of}
 use Rattle.text_meaning.specs.Trees.{Written, Decl, Module, SigModule, ViewModule}
@@ -11,6 +12,7 @@ use Rattle.expansion_meaning.specs.Rules.{Rule}
 use Rattle.expansion_meaning.proofs.Binding.{came_by, some_same}
 use Rattle.link_meaning.specs.Refusals.{Outcome, demand}
 use Rattle.link_meaning.proofs.Covered.{good_same}
+use Rattle.link_meaning.proofs.Valued.{demand_holds}
 use Rattle.verdict_meaning.specs.Dependencies.{first_name}
 use Rattle.verdict_meaning.specs.Modules.{empty_theory, declare_all, checked_view}
 use Rattle.verdict_meaning.specs.Verdicts.{Interface, Theory, View, Verdict, Accepted, Refused, verdict_by, known_by, written_name, checked, judge_tree, judge_answer, judge}
@@ -53,21 +55,33 @@ from_declarations environment (ViewModule written domain codomain assigns) face 
     no_view : {x : ViewFace} {y : TheoryFace} {n : ℕ} → View x ≡ Theory y n → ⊥
     no_view q = absurd (cc)
 
-tree_passes : (environment : Environment) (ungrounded : Name → Bool) (name : Name) (tree : Module) (b : Bool) (interface : Interface) → judge_tree environment ungrounded name tree b ≡ Ok interface → checked environment tree ≡ Ok interface
+-- a tree that is written with its name, and passes its tests
+record TreePasses (environment : Environment) (name : Name) (tree : Module) (interface : Interface) : Type 0 where
+  named : first_name (written_name tree).path ≡ name
+  passes : checked environment tree ≡ Ok interface
+
+tree_passes : (environment : Environment) (ungrounded : Name → Bool) (name : Name) (tree : Module) (b : Bool) (interface : Interface) → judge_tree environment ungrounded name tree b ≡ Ok interface → TreePasses environment name tree interface
 tree_passes environment ungrounded name tree true interface h = absurd (cycle_refuses name _ interface h)
 tree_passes environment ungrounded name tree false interface h =
-    (came_by (demand (same_bytes (first_name (written_name tree).path) name) (written_name tree).span Rule.WrongName (written_name tree).path) _ interface h).goes
+    let n = came_by (demand (same_bytes (first_name (written_name tree).path) name) (written_name tree).span Rule.WrongName (written_name tree).path) _ interface h in
+    record {
+      named = same_name_sound (first_name (written_name tree).path) name (demand_holds (same_bytes (first_name (written_name tree).path) name) (written_name tree).span Rule.WrongName (written_name tree).path n.item n.came);
+      passes = n.goes;
+    }
 
 -- ---- a text that is accepted
 
-pub record FromText (environment : Environment) (text : Text) (interface : Interface) : Type 0 where
+pub record FromText (environment : Environment) (name : Name) (text : Text) (interface : Interface) : Type 0 where
   pub tree : Module
   pub is_read : read ModuleText text ≡ Read (ModuleTree tree)
+  pub named : first_name (written_name tree).path ≡ name
   pub passes : checked environment tree ≡ Ok interface
 
 answer_passes : (environment : Environment) (ungrounded : Name → Bool) (name : Name) (text : Text) (answer : Answer) (interface : Interface)
-    → read ModuleText text ≡ answer → judge_answer environment ungrounded name answer ≡ Ok interface → FromText environment text interface
-answer_passes environment ungrounded name text (Read (ModuleTree tree)) interface e h = record { tree = tree; is_read = e; passes = tree_passes environment ungrounded name tree (ungrounded name) interface h }
+    → read ModuleText text ≡ answer → judge_answer environment ungrounded name answer ≡ Ok interface → FromText environment name text interface
+answer_passes environment ungrounded name text (Read (ModuleTree tree)) interface e h =
+    let t = tree_passes environment ungrounded name tree (ungrounded name) interface h in
+    record { tree = tree; is_read = e; named = t.named; passes = t.passes }
 answer_passes environment ungrounded name text (Read (JudgementTree tree)) interface e h = absurd (cc)
 answer_passes environment ungrounded name text (Syntax at) interface e h = absurd (cc)
 answer_passes environment ungrounded name text (TooDeep at) interface e h = absurd (cc)
@@ -80,7 +94,7 @@ accepted_outcome (Ok found) interface h = ap Ok (same h)
     same q = cc
 accepted_outcome (Err refusal) interface h = absurd (cc)
 
-from_text : (environment : Environment) (ungrounded : Name → Bool) (name : Name) (text : Text) (interface : Interface) → judge environment ungrounded name text ≡ Accepted interface → FromText environment text interface
+from_text : (environment : Environment) (ungrounded : Name → Bool) (name : Name) (text : Text) (interface : Interface) → judge environment ungrounded name text ≡ Accepted interface → FromText environment name text interface
 unfolding judge
 from_text environment ungrounded name text interface h =
     answer_passes environment ungrounded name text (read ModuleText text) interface refl (accepted_outcome (judge_answer environment ungrounded name (read ModuleText text)) interface h)
@@ -90,7 +104,7 @@ from_text environment ungrounded name text interface h =
 pub record FromLibrary (library : Library) (name : Name) (interface : Interface) : Type 0 where
   pub text : Text
   pub has : text_of library name ≡ Some text
-  pub from : FromText (known_to library name) text interface
+  pub from : FromText (known_to library name) name text interface
 
 pub from_library : (library : Library) (name : Name) (interface : Interface) → verdict_of library name ≡ Some (Accepted interface) → FromLibrary library name interface
 from_library library name interface h =

@@ -5,3 +5,5 @@ pub mod LibrariesHold
 pub mod AcceptedTrees
 pub mod SizesHold
 pub mod InclusionsReached
+pub mod AcceptedModules
+pub mod AcceptedViews

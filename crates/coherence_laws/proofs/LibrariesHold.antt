@@ -225,7 +225,7 @@ module _ (library : Library) where
 
   -- ---- the whole library
 
-  accepted_short : (name : Name) (interface : Interface) → verdict_of library name ≡ Some (Accepted interface) → Short dependencies library (length library) name
+  pub accepted_short : (name : Name) (interface : Interface) → verdict_of library name ≡ Some (Accepted interface) → Short dependencies library (length library) name
   unfolding ungrounded_names is_ungrounded
   accepted_short name interface h m =
       let c = ungrounded_is_cycle library name (member_among (walking dependencies library (length library)) name m) in

@@ -1,0 +1,8 @@
+use Rattle.coherence_laws.proofs.AcceptedViews.{accepted_views, written_views}
+use Rattle.coherence_laws.proofs.view_laws.law_views.Goals as goal
+
+pub returns-clause-faces : goal.returns-clause-faces
+returns-clause-faces c = accepted_views
+
+pub returns-clause-written : goal.returns-clause-written
+returns-clause-written c = written_views
