@@ -7,3 +7,5 @@ pub mod SizesHold
 pub mod InclusionsReached
 pub mod AcceptedModules
 pub mod AcceptedViews
+pub mod Declared
+pub mod AcceptedTheories

@@ -5,4 +5,5 @@
 
 pub mod face_laws;
 pub mod inclusion_laws;
+pub mod theory_laws;
 pub mod view_laws;

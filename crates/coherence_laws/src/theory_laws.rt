@@ -1,0 +1,17 @@
+//! Accepted theories.
+
+ghost use Rattle.coherence_laws.specs.TheoryLaws.{TestsAnswerDeclared, OneFaceDeclared, AcceptedTheories, WrittenTheories};
+
+/// The tests of declarations answer a face exactly where the declarations lead to it, one after another, and that is at most
+/// one.
+pub fn law_declarations()
+    ensures tests { TestsAnswerDeclared }
+    ensures one { OneFaceDeclared }
+{}
+
+/// A theory is accepted exactly where it is grounded and written with its name, and its declarations lead from the empty
+/// theory to its face.
+pub fn law_theories()
+    ensures faces { AcceptedTheories }
+    ensures written { WrittenTheories }
+{}
