@@ -46,7 +46,7 @@ accepted_theories library name face size = (
 )
 
 -- equal trees have equal declarations
-decls_same : {a b : Written} {s t : List Decl} → SigModule a s ≡ SigModule b t → s ≡ t
+pub decls_same : {a b : Written} {s t : List Decl} → SigModule a s ≡ SigModule b t → s ≡ t
 decls_same e = cc
 
 pub written_theories : WrittenTheories

@@ -1,10 +1,10 @@
 -- The tests of declarations answer a face exactly where the declarations lead to it.
-use Rattle.std.proofs.Common.{◌≡◌, ◌↔◌, ℕ, Bool, true, false, cond, not, ◌||◌, List, [], ◌∷◌, slice_get, Option, Some, None, is_some, Ok, inl, inr, refl, sym, ap, ap₂, ◌∙◌}
+use Rattle.std.proofs.Common.{◌≡◌, ◌↔◌, ℕ, true, not, ◌||◌, List, [], ◌∷◌, slice_get, Option, Some, None, is_some, Ok, refl, sym, ap, ap₂, ◌∙◌}
 use Rattle.std.specs.Prelude.{⊤}
 use Rattle.lf_meaning.specs.Terms.{Name, Path}
 use Rattle.lf_meaning.specs.Signatures.{Class, Value, Declaration, Signature, same_name}
 use Rattle.lf_meaning.proofs.Equality.{pointwise_sound, same_name_sound}
-use Rattle.log_meaning.proofs.Members.{Member, find_found}
+use Rattle.log_meaning.proofs.Members.{find_found}
 use Rattle.translation_meaning.specs.HeadMaps.{HeadMap}
 use Rattle.library_meaning.specs.Faces.{StructureFace, TheoryFace, Environment, theory_of, structure_of}
 use Rattle.library_meaning.specs.Resolution.{Scope, has_path, own_at}
@@ -12,7 +12,7 @@ use Rattle.library_meaning.specs.Coherence.{IsCoherent}
 use Rattle.text_meaning.specs.Trees.{Expr, Written, Assign, Decl, IncludeDecl, StructDecl, ConstDecl}
 use Rattle.expansion_meaning.specs.Rules.{Rule}
 use Rattle.expansion_meaning.specs.Values.{expand_class, expand_value}
-use Rattle.expansion_meaning.proofs.Binding.{came_by, goes_by, some_same}
+use Rattle.expansion_meaning.proofs.Binding.{came_by, goes_by}
 use Rattle.expansion_meaning.proofs.ValuesStand.{class_sound, class_complete, value_sound, value_complete}
 use Rattle.holding_laws.proofs.Declared.{place_of}
 use Rattle.link_meaning.specs.Refusals.{labelled}
@@ -26,22 +26,11 @@ use Rattle.verdict_meaning.specs.Dependencies.{first_name}
 use Rattle.verdict_meaning.specs.Modules.{module_test, scope_in, is_used, unused_test, declared_value, structure_setting, declare, declare_all}
 use Rattle.coherence_laws.specs.Declares.{IsNew, StandsIfWritten, Declares, DeclaresAll}
 use Rattle.coherence_laws.specs.TheoryLaws.{TestsAnswerDeclared, OneFaceDeclared}
-use Rattle.coherence_laws.proofs.TheoriesHold.{not_at, no_structure}
+use Rattle.coherence_laws.proofs.TheoriesHold.{not_at, no_structure, structure_found}
 use Rattle.coherence_laws.proofs.ModulesHold.{known_by_test, theory_there, unused_by}
 use Rattle.coherence_laws.proofs.AcceptedModules.{some_passes}
 
 -- ---- new names
-
--- a structure that is found is among them, and has the name
-found_by : (b : Bool) (x : StructureFace) (xs : List StructureFace) (name : Name) (structure : StructureFace) → same_name x.name name ≡ b
-    → (structure_of xs name ≡ Some structure → Member structure xs × (structure.name ≡ name)) → cond b (Some x) (structure_of xs name) ≡ Some structure → Member structure (x ∷ xs) × (structure.name ≡ name)
-found_by true x xs name structure t f h = let e : structure ≡ x = sym (some_same h) in (inl e, ap (λ (z : StructureFace). z.name) e ∙ same_name_sound x.name name t)
-found_by false x xs name structure t f h = let q = f h in (inr q.0, q.1)
-
-structure_found : (structures : List StructureFace) (name : Name) (structure : StructureFace) → structure_of structures name ≡ Some structure → Member structure structures × (structure.name ≡ name)
-unfolding structure_of
-structure_found [] name structure h = absurd (cc)
-structure_found (x ∷ xs) name structure h = found_by (same_name x.name name) x xs name structure refl (structure_found xs name structure) h
 
 nobody_at : (own : Signature) (path : Path) → ((i : ℕ) (d : Declaration) → slice_get own i ≡ Some d → d.name.path ≡ path → ⊥) → own_at own path ≡ None
 nobody_at own path f = by (own_at own path) refl

@@ -115,11 +115,11 @@ module _ (library : Library) where
       let t = in_others library x name q in
       no_return n name x (short_reached dependencies library n x name (short_reached dependencies library (suc n) name x s r.0 r.1) t.0 t.1) p q
 
-  in_reach : (name y : Name) → Member y (reach dependencies library name) → same_name name y ≡ false → is_among (others_reached library name) y ≡ true
+  pub in_reach : (name y : Name) → Member y (reach dependencies library name) → same_name name y ≡ false → is_among (others_reached library name) y ≡ true
   unfolding others_reached
   in_reach name y m f = member_among (filter (λ (z : Name). not (same_name name z)) (reach dependencies library name)) y (filter_in (λ (z : Name). not (same_name name z)) (reach dependencies library name) y m (ap not f))
 
-  known_here : (name y : Name) (b : Bool) → is_among (others_reached library name) y ≡ b → known_to library name y ≡ cond b (known_if (verdict_under (verdicts library) y)) IsAbsent
+  pub known_here : (name y : Name) (b : Bool) → is_among (others_reached library name) y ≡ b → known_to library name y ≡ cond b (known_if (verdict_under (verdicts library) y)) IsAbsent
   known_here name y b e = ap (λ z. cond z (known_if (verdict_under (verdicts library) y)) IsAbsent) e
 
   pub extends_to : (n : ℕ) (name x : Name) → Short dependencies library n name → is_among (others_reached library name) x ≡ true → Extends (known_to library x) (known_to library name)
@@ -146,7 +146,7 @@ module _ (library : Library) where
 
   -- ---- what is known is coherent
 
-  told_under : (x : Name) → known_if (verdict_of library x) ≡ known_if (verdict_under (verdicts library) x)
+  pub told_under : (x : Name) → known_if (verdict_of library x) ≡ known_if (verdict_under (verdicts library) x)
   unfolding verdict_of
   told_under x = refl
 

@@ -4,7 +4,7 @@ use lib.Pointwise.{pointwise}
 use Rattle.std.proofs.lemmas.Bool.{and_from}
 use Rattle.lf_meaning.specs.Terms.{Name, Path, Constant}
 use Rattle.lf_meaning.specs.Signatures.{Class, Value, Declaration, Signature, same_name, declaration_of}
-use Rattle.lf_meaning.proofs.Equality.{same_name_itself}
+use Rattle.lf_meaning.proofs.Equality.{same_name_sound, same_name_itself}
 use Rattle.log_meaning.proofs.Members.{Member, in_append, append_left, append_right, in_flat_map, flat_map_in, find_none}
 use Rattle.log_meaning.proofs.Order.{among_member, member_among}
 use Rattle.log_meaning.proofs.Places.{get_more, place_within, get_front, get_last}
@@ -16,6 +16,7 @@ use Rattle.library_meaning.specs.Holding.{ClassHolds, OptionalValueHolds}
 use Rattle.library_meaning.specs.Coherence.{AreTheories, IsClosure, DeclarationsHold, IsCoherentMap, IsCoherentTheory, IsCoherent, IsInduced}
 use Rattle.library_meaning.proofs.ClosureMembers.{inclusion_member, inclusion_old}
 use Rattle.library_meaning.proofs.ClosureKept.{inclusion_keeps}
+use Rattle.expansion_meaning.proofs.Binding.{some_same}
 use Rattle.link_meaning.specs.Assignments.{Setting}
 use Rattle.link_meaning.specs.Induced.{induced, with_structure}
 use Rattle.link_meaning.proofs.Linked.{own_named}
@@ -47,6 +48,17 @@ structure_some (x ∷ xs) name structure (inr m) e = structure_some_by (same_nam
 
 pub no_structure : (structures : List StructureFace) (name : Name) → structure_of structures name ≡ None → (structure : StructureFace) → Member structure structures → structure.name ≡ name → ⊥
 no_structure structures name h structure m e = true≢false (sym (structure_some structures name structure m e) ∙ ap is_some h)
+
+-- a structure that is found is among them, and has the name
+found_by : (b : Bool) (x : StructureFace) (xs : List StructureFace) (name : Name) (structure : StructureFace) → same_name x.name name ≡ b
+    → (structure_of xs name ≡ Some structure → Member structure xs × (structure.name ≡ name)) → cond b (Some x) (structure_of xs name) ≡ Some structure → Member structure (x ∷ xs) × (structure.name ≡ name)
+found_by true x xs name structure t f h = let e : structure ≡ x = sym (some_same h) in (inl e, ap (λ (z : StructureFace). z.name) e ∙ same_name_sound x.name name t)
+found_by false x xs name structure t f h = let q = f h in (inr q.0, q.1)
+
+pub structure_found : (structures : List StructureFace) (name : Name) (structure : StructureFace) → structure_of structures name ≡ Some structure → Member structure structures × (structure.name ≡ name)
+unfolding structure_of
+structure_found [] name structure h = absurd (cc)
+structure_found (x ∷ xs) name structure h = found_by (same_name x.name name) x xs name structure refl (structure_found xs name structure) h
 
 absent_is_none : (known : Known) → known ≡ IsAbsent → is_some (theory_face known) ≡ true → ⊥
 absent_is_none known e h = true≢false (sym h ∙ ap (λ k. is_some (theory_face k)) e)

@@ -9,6 +9,7 @@ use Rattle.verdict_meaning.specs.Modules.{empty_theory, declare_all}
 use Rattle.verdict_meaning.specs.Verdicts.{Theory, Accepted}
 use Rattle.verdict_meaning.specs.Rounds.{verdict_of}
 use Rattle.verdict_meaning.specs.VerdictLaws.{known_to}
+use Rattle.coherence_laws.specs.CoherenceLaws.{told_by}
 use Rattle.coherence_laws.specs.ViewLaws.{IsModule}
 use Rattle.coherence_laws.specs.Declares.{DeclaresAll}
 
@@ -44,3 +45,15 @@ abbrev pub WrittenTheories : Type 0
 WrittenTheories =
     (library : Library) (name : Name) (written : Written) (decls : List Decl) (face : TheoryFace) → IsModule library name (SigModule written decls)
     → (verdict_of library name ≡ Some (Accepted (Theory face (length (flat_signature (known_to library name) face))))) ↔ DeclaresAll (known_to library name) (empty_theory name) decls face
+
+-- Read: it is all one whether this is over what the module knows, or over all that the library's verdicts tell.
+abbrev pub AcceptedTheoriesTold : Type 0
+AcceptedTheoriesTold =
+    (library : Library) (name : Name) (face : TheoryFace) (size : ℕ)
+    → (verdict_of library name ≡ Some (Accepted (Theory face size))) ↔ IsAcceptedTheory library (told_by library) name face size
+
+-- Read: so it is of a written theory.
+abbrev pub WrittenTheoriesTold : Type 0
+WrittenTheoriesTold =
+    (library : Library) (name : Name) (written : Written) (decls : List Decl) (face : TheoryFace) → IsModule library name (SigModule written decls)
+    → (verdict_of library name ≡ Some (Accepted (Theory face (length (flat_signature (told_by library) face))))) ↔ DeclaresAll (told_by library) (empty_theory name) decls face

@@ -14,6 +14,7 @@ use Rattle.verdict_meaning.specs.Modules.{view_setting}
 use Rattle.verdict_meaning.specs.Verdicts.{View, Accepted, written_name}
 use Rattle.verdict_meaning.specs.Rounds.{verdict_of}
 use Rattle.verdict_meaning.specs.VerdictLaws.{known_to}
+use Rattle.coherence_laws.specs.CoherenceLaws.{told_by}
 
 -- Read: the name is grounded, and its text is read as this module, which is written with the name.
 pub record IsModule (library : Library) (name : Name) (tree : Module) : Type 0 where
@@ -61,3 +62,16 @@ WrittenViews =
     (library : Library) (name : Name) (written domain codomain : Written) (assigns : List Assign) (along : HeadMap)
     → IsModule library name (ViewModule written domain codomain assigns)
     → (verdict_of library name ≡ Some (Accepted (View (face_between name domain codomain along)))) ↔ IsViewBetween (known_to library name) written domain codomain assigns along
+
+-- Read: it is all one whether this is over what the module knows, or over all that the library's verdicts tell.
+abbrev pub AcceptedViewsTold : Type 0
+AcceptedViewsTold =
+    (library : Library) (name : Name) (face : ViewFace)
+    → (verdict_of library name ≡ Some (Accepted (View face))) ↔ IsAcceptedView library (told_by library) name face
+
+-- Read: so it is of a written view.
+abbrev pub WrittenViewsTold : Type 0
+WrittenViewsTold =
+    (library : Library) (name : Name) (written domain codomain : Written) (assigns : List Assign) (along : HeadMap)
+    → IsModule library name (ViewModule written domain codomain assigns)
+    → (verdict_of library name ≡ Some (Accepted (View (face_between name domain codomain along)))) ↔ IsViewBetween (told_by library) written domain codomain assigns along

@@ -1,3 +1,4 @@
+use Rattle.coherence_laws.proofs.ToldModules.{accepted_views_told, written_views_told}
 use Rattle.coherence_laws.proofs.AcceptedViews.{accepted_views, written_views}
 use Rattle.coherence_laws.proofs.view_laws.law_views.Goals as goal
 
@@ -6,3 +7,9 @@ returns-clause-faces c = accepted_views
 
 pub returns-clause-written : goal.returns-clause-written
 returns-clause-written c = written_views
+
+pub returns-clause-told : goal.returns-clause-told
+returns-clause-told c = accepted_views_told
+
+pub returns-clause-written_told : goal.returns-clause-written_told
+returns-clause-written_told c = written_views_told
