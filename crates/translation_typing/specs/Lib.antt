@@ -1,0 +1,3 @@
+pub mod FamilyHeads
+pub mod TypedTranslation
+pub mod Composition
