@@ -5,13 +5,3 @@ pub mod LibrariesHold
 pub mod AcceptedTrees
 pub mod SizesHold
 pub mod InclusionsReached
-pub mod AcceptedModules
-pub mod AcceptedViews
-pub mod Declared
-pub mod AcceptedTheories
-pub mod Alike
-pub mod StandsAlike
-pub mod WordsAlike
-pub mod LinksAlike
-pub mod DeclaredAlike
-pub mod ToldModules

@@ -1,5 +1,2 @@
 pub mod CoherenceLaws
 pub mod InclusionLaws
-pub mod ViewLaws
-pub mod Declares
-pub mod TheoryLaws

@@ -23,9 +23,9 @@ use Rattle.link_meaning.specs.Equations.{IsCovering, ByIdentity, ByAssignment, C
 use Rattle.link_meaning.specs.LinkLaws.{IsSettled, IsMapOfLink}
 use Rattle.link_meaning.proofs.Listing.{member_at}
 use Rattle.link_meaning.proofs.Linked.{included_in}
-use Rattle.coherence_laws.proofs.Alike.{Alike, alike_back, scope_over, AllNamed, DomainsNamed, theory_alike, part_alike, includes_named, included_parts_alike, structures_named, flat_alike, stands_for_alike}
-use Rattle.coherence_laws.proofs.StandsAlike.{value_alike}
-use Rattle.coherence_laws.proofs.WordsAlike.{WordsNamed, links_alike, link_domain, row_alike, row_domain}
+use Rattle.acceptance_laws.proofs.Alike.{Alike, alike_back, scope_over, AllNamed, DomainsNamed, theory_alike, part_alike, includes_named, included_parts_alike, structures_named, flat_alike, stands_for_alike}
+use Rattle.acceptance_laws.proofs.StandsAlike.{value_alike}
+use Rattle.acceptance_laws.proofs.WordsAlike.{WordsNamed, links_alike, link_domain, row_alike, row_domain}
 
 -- the words of an assignment are named
 abbrev pub AssignNamed : (Name → Bool) → Option TheoryFace → Assign → Type 0

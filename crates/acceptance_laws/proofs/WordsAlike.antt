@@ -10,7 +10,7 @@ use Rattle.library_meaning.specs.Words.{Link, structure_link, followed_by, behin
 use Rattle.text_meaning.specs.Trees.{Written}
 use Rattle.expansion_meaning.proofs.Binding.{some_same}
 use Rattle.link_meaning.specs.Assignments.{paths_of}
-use Rattle.coherence_laws.proofs.Alike.{Alike, DomainsNamed, theory_alike, structures_named}
+use Rattle.acceptance_laws.proofs.Alike.{Alike, DomainsNamed, theory_alike, structures_named}
 use Rattle.coherence_laws.proofs.TheoriesHold.{structure_found}
 
 -- the first name of a word is among these, unless the word is one of the theory's own

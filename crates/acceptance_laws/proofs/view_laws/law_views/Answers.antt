@@ -1,6 +1,6 @@
-use Rattle.coherence_laws.proofs.ToldModules.{accepted_views_told, written_views_told}
-use Rattle.coherence_laws.proofs.AcceptedViews.{accepted_views, written_views}
-use Rattle.coherence_laws.proofs.view_laws.law_views.Goals as goal
+use Rattle.acceptance_laws.proofs.ToldModules.{accepted_views_told, written_views_told}
+use Rattle.acceptance_laws.proofs.AcceptedViews.{accepted_views, written_views}
+use Rattle.acceptance_laws.proofs.view_laws.law_views.Goals as goal
 
 pub returns-clause-faces : goal.returns-clause-faces
 returns-clause-faces c = accepted_views

@@ -1,6 +1,6 @@
-use Rattle.coherence_laws.proofs.ToldModules.{accepted_theories_told, written_theories_told}
-use Rattle.coherence_laws.proofs.AcceptedTheories.{accepted_theories, written_theories}
-use Rattle.coherence_laws.proofs.theory_laws.law_theories.Goals as goal
+use Rattle.acceptance_laws.proofs.ToldModules.{accepted_theories_told, written_theories_told}
+use Rattle.acceptance_laws.proofs.AcceptedTheories.{accepted_theories, written_theories}
+use Rattle.acceptance_laws.proofs.theory_laws.law_theories.Goals as goal
 
 pub returns-clause-faces : goal.returns-clause-faces
 returns-clause-faces c = accepted_theories

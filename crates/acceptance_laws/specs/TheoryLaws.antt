@@ -10,8 +10,8 @@ use Rattle.verdict_meaning.specs.Verdicts.{Theory, Accepted}
 use Rattle.verdict_meaning.specs.Rounds.{verdict_of}
 use Rattle.verdict_meaning.specs.VerdictLaws.{known_to}
 use Rattle.coherence_laws.specs.CoherenceLaws.{told_by}
-use Rattle.coherence_laws.specs.ViewLaws.{IsModule}
-use Rattle.coherence_laws.specs.Declares.{DeclaresAll}
+use Rattle.acceptance_laws.specs.ViewLaws.{IsModule}
+use Rattle.acceptance_laws.specs.Declares.{DeclaresAll}
 
 -- Read: where what is known is coherent, the tests answer a face exactly where the declarations lead to it.
 abbrev pub TestsAnswerDeclared : Type 0

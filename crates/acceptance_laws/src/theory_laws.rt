@@ -1,6 +1,6 @@
 //! Accepted theories.
 
-ghost use Rattle.coherence_laws.specs.TheoryLaws.{TestsAnswerDeclared, OneFaceDeclared, AcceptedTheories, WrittenTheories, AcceptedTheoriesTold, WrittenTheoriesTold};
+ghost use Rattle.acceptance_laws.specs.TheoryLaws.{TestsAnswerDeclared, OneFaceDeclared, AcceptedTheories, WrittenTheories, AcceptedTheoriesTold, WrittenTheoriesTold};
 
 /// The tests of declarations answer a face exactly where the declarations lead to it, one after another, and that is at most
 /// one.

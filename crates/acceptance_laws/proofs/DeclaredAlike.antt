@@ -15,12 +15,12 @@ use Rattle.link_meaning.specs.Assignments.{label_in}
 use Rattle.link_meaning.specs.Induced.{induced_from, with_structure}
 use Rattle.verdict_meaning.specs.Dependencies.{Dependency, first_name, is_own_word, unless_own, at_written, word_dependencies, assign_dependencies, decl_dependencies}
 use Rattle.verdict_meaning.specs.Modules.{scope_in, structure_setting, empty_theory}
-use Rattle.coherence_laws.specs.ViewLaws.{IsViewBetween}
-use Rattle.coherence_laws.specs.Declares.{StandsIfWritten, Declares, DeclaresAll}
-use Rattle.coherence_laws.proofs.Alike.{Alike, AllNamed, DomainsNamed, theory_alike, part_alike, includes_named, stands_for_alike}
-use Rattle.coherence_laws.proofs.StandsAlike.{class_alike, value_alike}
-use Rattle.coherence_laws.proofs.WordsAlike.{WordNamed, WordsNamed}
-use Rattle.coherence_laws.proofs.LinksAlike.{AssignNamed, map_alike}
+use Rattle.acceptance_laws.specs.ViewLaws.{IsViewBetween}
+use Rattle.acceptance_laws.specs.Declares.{StandsIfWritten, Declares, DeclaresAll}
+use Rattle.acceptance_laws.proofs.Alike.{Alike, AllNamed, DomainsNamed, theory_alike, part_alike, includes_named, stands_for_alike}
+use Rattle.acceptance_laws.proofs.StandsAlike.{class_alike, value_alike}
+use Rattle.acceptance_laws.proofs.WordsAlike.{WordNamed, WordsNamed}
+use Rattle.acceptance_laws.proofs.LinksAlike.{AssignNamed, map_alike}
 
 -- the dependencies have their names among these
 abbrev pub DependenciesNamed : (Name → Bool) → List Dependency → Type 0

@@ -10,13 +10,13 @@ use Rattle.verdict_meaning.specs.Modules.{empty_theory, declare_all}
 use Rattle.verdict_meaning.specs.Verdicts.{Theory, Accepted, checked}
 use Rattle.verdict_meaning.specs.Rounds.{verdict_of}
 use Rattle.verdict_meaning.specs.VerdictLaws.{known_to}
-use Rattle.coherence_laws.specs.ViewLaws.{IsModule}
-use Rattle.coherence_laws.specs.Declares.{DeclaresAll}
-use Rattle.coherence_laws.specs.TheoryLaws.{IsAcceptedTheory, AcceptedTheories, WrittenTheories}
+use Rattle.acceptance_laws.specs.ViewLaws.{IsModule}
+use Rattle.acceptance_laws.specs.Declares.{DeclaresAll}
+use Rattle.acceptance_laws.specs.TheoryLaws.{IsAcceptedTheory, AcceptedTheories, WrittenTheories}
 use Rattle.coherence_laws.proofs.LibrariesHold.{grounded_know_coherent}
 use Rattle.coherence_laws.proofs.AcceptedTrees.{from_declarations}
-use Rattle.coherence_laws.proofs.AcceptedModules.{passed, accepted, one_tree}
-use Rattle.coherence_laws.proofs.Declared.{declared_sound, declared_complete}
+use Rattle.acceptance_laws.proofs.AcceptedModules.{passed, accepted, one_tree}
+use Rattle.acceptance_laws.proofs.Declared.{declared_sound, declared_complete}
 
 module _ (library : Library) (name : Name) where
   tree_declares : (tree : Module) (face : TheoryFace) (size : ℕ) → IsModule library name tree → checked (known_to library name) tree ≡ Ok (Theory face size) → IsAcceptedTheory library (known_to library name) name face size

@@ -1,5 +1,5 @@
-use Rattle.coherence_laws.proofs.Declared.{tests_answer_declared, one_face_declared}
-use Rattle.coherence_laws.proofs.theory_laws.law_declarations.Goals as goal
+use Rattle.acceptance_laws.proofs.Declared.{tests_answer_declared, one_face_declared}
+use Rattle.acceptance_laws.proofs.theory_laws.law_declarations.Goals as goal
 
 pub returns-clause-tests : goal.returns-clause-tests
 returns-clause-tests c = tests_answer_declared

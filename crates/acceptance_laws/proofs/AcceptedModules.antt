@@ -23,7 +23,7 @@ use Rattle.verdict_meaning.specs.Rounds.{ungrounded_names, verdict_of}
 use Rattle.verdict_meaning.specs.VerdictLaws.{known_to}
 use Rattle.verdict_meaning.proofs.Shortness.{short_grounded}
 use Rattle.verdict_meaning.proofs.Verdicts.{not_ungrounded, verdict_is_judged}
-use Rattle.coherence_laws.specs.ViewLaws.{IsModule}
+use Rattle.acceptance_laws.specs.ViewLaws.{IsModule}
 use Rattle.coherence_laws.proofs.LibrariesHold.{accepted_short}
 use Rattle.coherence_laws.proofs.AcceptedTrees.{from_library}
 

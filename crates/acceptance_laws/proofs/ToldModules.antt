@@ -20,16 +20,16 @@ use Rattle.verdict_meaning.specs.Rounds.{others_reached}
 use Rattle.verdict_meaning.specs.VerdictLaws.{known_to}
 use Rattle.verdict_meaning.proofs.Shortness.{Short, short_step}
 use Rattle.coherence_laws.specs.CoherenceLaws.{told_by}
-use Rattle.coherence_laws.specs.ViewLaws.{IsModule, IsViewBetween, IsAcceptedView, AcceptedViewsTold, WrittenViewsTold}
-use Rattle.coherence_laws.specs.Declares.{DeclaresAll}
-use Rattle.coherence_laws.specs.TheoryLaws.{AcceptedTheoriesTold, WrittenTheoriesTold}
+use Rattle.acceptance_laws.specs.ViewLaws.{IsModule, IsViewBetween, IsAcceptedView, AcceptedViewsTold, WrittenViewsTold}
+use Rattle.acceptance_laws.specs.Declares.{DeclaresAll}
+use Rattle.acceptance_laws.specs.TheoryLaws.{AcceptedTheoriesTold, WrittenTheoriesTold}
 use Rattle.coherence_laws.proofs.LibrariesHold.{in_reach, known_here, told_under, grounded_short, grounded_know_coherent, faces_are_coherent}
 use Rattle.coherence_laws.proofs.SizesHold.{sizes_are_lengths}
-use Rattle.coherence_laws.proofs.AcceptedViews.{accepted_views, written_views}
-use Rattle.coherence_laws.proofs.AcceptedTheories.{decls_same, accepted_theories, written_theories}
-use Rattle.coherence_laws.proofs.AcceptedModules.{one_tree}
-use Rattle.coherence_laws.proofs.Alike.{Alike, alike_back}
-use Rattle.coherence_laws.proofs.DeclaredAlike.{DependenciesNamed, view_alike, declared_alike, empty_named}
+use Rattle.acceptance_laws.proofs.AcceptedViews.{accepted_views, written_views}
+use Rattle.acceptance_laws.proofs.AcceptedTheories.{decls_same, accepted_theories, written_theories}
+use Rattle.acceptance_laws.proofs.AcceptedModules.{one_tree}
+use Rattle.acceptance_laws.proofs.Alike.{Alike, alike_back}
+use Rattle.acceptance_laws.proofs.DeclaredAlike.{DependenciesNamed, view_alike, declared_alike, empty_named}
 
 module _ (library : Library) (name : Name) where
   abbrev reached : Name → Bool

@@ -1,6 +1,6 @@
 //! Accepted views.
 
-ghost use Rattle.coherence_laws.specs.ViewLaws.{AcceptedViews, WrittenViews, AcceptedViewsTold, WrittenViewsTold};
+ghost use Rattle.acceptance_laws.specs.ViewLaws.{AcceptedViews, WrittenViews, AcceptedViewsTold, WrittenViewsTold};
 
 /// A view is accepted exactly where it is grounded and written with its name, its ends are accepted theories, and its map is
 /// that of the link between them: its assignments are read as something whose equations the map meets. It is all one

@@ -15,10 +15,10 @@ use Rattle.verdict_meaning.specs.Modules.{module_test, empty_theory, declare_all
 use Rattle.verdict_meaning.specs.Verdicts.{Theory, View, Accepted, checked}
 use Rattle.verdict_meaning.specs.Rounds.{verdict_of}
 use Rattle.verdict_meaning.specs.VerdictLaws.{known_to}
-use Rattle.coherence_laws.specs.ViewLaws.{IsModule, IsViewBetween, IsAcceptedView, face_between, AcceptedViews, WrittenViews}
+use Rattle.acceptance_laws.specs.ViewLaws.{IsModule, IsViewBetween, IsAcceptedView, face_between, AcceptedViews, WrittenViews}
 use Rattle.coherence_laws.proofs.ModulesHold.{known_by_test, theory_there}
 use Rattle.coherence_laws.proofs.LibrariesHold.{grounded_know_coherent}
-use Rattle.coherence_laws.proofs.AcceptedModules.{test_passed, some_passes, passed, accepted, one_tree}
+use Rattle.acceptance_laws.proofs.AcceptedModules.{test_passed, some_passes, passed, accepted, one_tree}
 
 module _ (environment : Environment) (coherent : IsCoherent environment) (written domain codomain : Written) (assigns : List Assign) where
   -- ---- the tests of a view

@@ -24,11 +24,11 @@ use Rattle.link_meaning.proofs.Linked.{link_map_meets_equations}
 use Rattle.link_coherence_laws.proofs.Onces.{place_member}
 use Rattle.verdict_meaning.specs.Dependencies.{first_name}
 use Rattle.verdict_meaning.specs.Modules.{module_test, scope_in, is_used, unused_test, declared_value, structure_setting, declare, declare_all}
-use Rattle.coherence_laws.specs.Declares.{IsNew, StandsIfWritten, Declares, DeclaresAll}
-use Rattle.coherence_laws.specs.TheoryLaws.{TestsAnswerDeclared, OneFaceDeclared}
+use Rattle.acceptance_laws.specs.Declares.{IsNew, StandsIfWritten, Declares, DeclaresAll}
+use Rattle.acceptance_laws.specs.TheoryLaws.{TestsAnswerDeclared, OneFaceDeclared}
 use Rattle.coherence_laws.proofs.TheoriesHold.{not_at, no_structure, structure_found}
 use Rattle.coherence_laws.proofs.ModulesHold.{known_by_test, theory_there, unused_by}
-use Rattle.coherence_laws.proofs.AcceptedModules.{some_passes}
+use Rattle.acceptance_laws.proofs.AcceptedModules.{some_passes}
 
 -- ---- new names
 

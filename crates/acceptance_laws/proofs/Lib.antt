@@ -1,0 +1,10 @@
+pub mod AcceptedModules
+pub mod AcceptedViews
+pub mod Declared
+pub mod AcceptedTheories
+pub mod Alike
+pub mod StandsAlike
+pub mod WordsAlike
+pub mod LinksAlike
+pub mod DeclaredAlike
+pub mod ToldModules
