@@ -27,7 +27,7 @@ pub record HasNoMoreParentheses (text : List ℕ) (others : List Token) : Type 0
   pub lexed : IsLexed text (Tokens tokens end)
   pub no_more : parentheses tokens ≤ parentheses others
 
--- No tokens that spell the module, up to spans, have fewer parentheses than this text. So no text has that spells it: its
+-- No tokens that spell the module, up to spans, have fewer parentheses than this text. So no text that spells it has fewer: its
 -- tokens and the end of the input behind them are such tokens. The same of an expression and of a judgement.
 abbrev pub HasFewestOfModule : List ℕ → Module → Type 0
 HasFewestOfModule text m = (ts : List Token) (tree : Module) → SpellsModule ts tree → IsSameModule tree m → HasNoMoreParentheses text ts

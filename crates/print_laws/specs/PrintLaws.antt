@@ -70,7 +70,8 @@ pub record SpellsBackWithin (text : List ℕ) (e : Expr) : Type 0 where
   pub object : (f : Expr) → IsSpelledExpr f → SpellsBackJudgement (text ++ (codes " : " ++ expr_text f)) (record { object = e; family = f })
   pub family : (f : Expr) → IsSpelledExpr f → SpellsBackJudgement (expr_text f ++ (codes " : " ++ text)) (record { object = f; family = e })
 
--- A module that some text spells is printed as a text that spells it, and is read again as that module.
+-- A module that some text spells is printed as a text that spells it, and that is read again as that module where nothing in it
+-- stands deeper than 500.
 abbrev pub PrintedModulesAreRead : Type 0
 PrintedModulesAreRead = (m : Module) → IsSpelledModule m → SpellsBack (module_text m) m
 
@@ -78,12 +79,13 @@ PrintedModulesAreRead = (m : Module) → IsSpelledModule m → SpellsBack (modul
 abbrev pub PrintedExpressionsSpell : Type 0
 PrintedExpressionsSpell = (e : Expr) → IsSpelledExpr e → SpellsBackExpr (expr_text e) e
 
--- An expression that some text spells is printed as a text that is read again as that expression within a judgement.
+-- An expression that some text spells is printed as a text that is read again as that expression within a judgement, where
+-- nothing in the judgement stands deeper than 500.
 abbrev pub PrintedExpressionsAreReadWithin : Type 0
 PrintedExpressionsAreReadWithin = (e : Expr) → IsSpelledExpr e → SpellsBackWithin (expr_text e) e
 
--- Two expressions that texts spell, printed with a colon between them, are a text that spells this judgement, and are read
--- again as that judgement.
+-- Two expressions that texts spell, printed with a colon between them, are a text that spells this judgement, and that is read
+-- again as that judgement where nothing in it stands deeper than 500.
 abbrev pub PrintedJudgementsAreRead : Type 0
 PrintedJudgementsAreRead = (j : Judgement) → IsSpelledExpr j.object → IsSpelledExpr j.family → SpellsBackJudgement (judgement_text j) j
 

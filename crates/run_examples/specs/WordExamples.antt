@@ -1,6 +1,5 @@
 -- Worked examples of words: which lists are accepted, and what they ask for.
-use Rattle.std.specs.Prelude.{◌≡◌, ℕ, [], ◌∷◌, Some, map, codes}
-use Rattle.std.specs.Prelude.{false}
+use Rattle.std.specs.Prelude.{◌≡◌, ℕ, false, [], ◌∷◌, Some, map, codes}
 use Rattle.word_list_meaning.specs.WordLists.{Task, Play, CheckFolder, Generate, Run, run_of, is_accepted}
 use Rattle.word_list_meaning.specs.WordAnswers.{Outcome, Begins, Ends, words_outcome}
 
@@ -32,8 +31,9 @@ GeneratorsAreAccepted =
     ∷ [])
     ≡ Some (by (Generate 1 5 3) 4) ∷ Some (by (Generate 2147483647 1000 1000) 2) ∷ Some (by (Generate 0 1 0) 0) ∷ []
 
--- No words; too many workers; a number with a leading zero; two worker parts; no folder; numbers past their ranges; words
--- that are no command.
+-- No words; too many workers; a number with a leading zero; a worker part without a number, two of them, and one in front of
+-- the command; no folder, an empty one, and one that begins with `-`; no folder beside a worker part; numbers past their
+-- ranges; too few numbers; and a word that is no command.
 abbrev pub OthersAreNot : Type 0
 OthersAreNot =
     map is_accepted
@@ -55,7 +55,7 @@ OthersAreNot =
     ∷ [])
     ≡ false ∷ false ∷ false ∷ false ∷ false ∷ false ∷ false ∷ false ∷ false ∷ false ∷ false ∷ false ∷ false ∷ false ∷ false ∷ []
 
--- No words, and too many workers: the usage line, with its line feed, and the status 2.
+-- The usage line, with its line feed, and the status 2.
 abbrev pub usage_answer : Outcome
 usage_answer = Ends (record {
   written =
@@ -63,6 +63,7 @@ usage_answer = Ends (record {
   status = 2;
 })
 
+-- No words, too many workers, no folder and a word that is no command are answered so; an accepted list among them begins its run.
 abbrev pub OthersAreAnswered : Type 0
 OthersAreAnswered =
     map words_outcome

@@ -1,3 +1,4 @@
 pub mod Workers
 pub mod WordsAsked
 pub mod WordsAnswered
+pub mod Tasks

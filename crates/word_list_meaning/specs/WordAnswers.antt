@@ -19,8 +19,8 @@ pub record Asks (words : List (List ℕ)) (run : Run) : Type 0 where
   pub workers : IsPart part run.workers
   pub stands : (words ≡ word ∷ (part ++ rest)) ⊎ (words ≡ word ∷ (rest ++ part))
 
--- Read: a run that ends at once, without reading anything: these bytes and no others are written to the sink, which is the
--- standard output in the program, and are flushed; and the status is the one with this number.
+-- Read: a run that ends at once, without reading anything: where the sink, which is the standard output in the program, does not
+-- fail, these bytes and no others are written to it and flushed, and the status is the one with this number.
 pub record Ending : Type 0 where
   pub written : List ℕ
   pub status : ℕ

@@ -1,11 +1,22 @@
 -- Laws of the lists of words (this profile).
-use Rattle.std.specs.Prelude.{◌≡◌, ◌⊎◌, ℕ, ◌≤◌, List, Some}
-use Rattle.word_list_meaning.specs.WordLists.{Run, run_of}
+use Rattle.std.specs.Prelude.{◌≡◌, ◌⊎◌, ℕ, ◌-◌, ◌^◌, ◌≤◌, true, List, Some, ⊤}
+use Rattle.word_list_meaning.specs.WordLists.{Task, Play, CheckFolder, Generate, Run, is_folder, run_of}
 use Rattle.word_list_meaning.specs.WordAnswers.{Asks, usage, Begins, Ends, words_outcome}
 
 -- Read: no accepted list of words asks for more than 16 workers.
 abbrev pub WorkersAreBounded : Type 0
 WorkersAreBounded = (words : List (List ℕ)) (run : Run) → run_of words ≡ Some run → run.workers ≤ 16
+
+-- Read: the task is within its ranges: a folder is not empty and does not begin with `-`, and each number of the generator
+-- lies within its bounds.
+abbrev pub IsInRange : Task → Type 0
+IsInRange Play = ⊤
+IsInRange (CheckFolder folder) = is_folder folder ≡ true
+IsInRange (Generate start modules edits) = (start ≤ 2 ^ 31 - 1) × (1 ≤ modules) × (modules ≤ 1000) × (edits ≤ 1000)
+
+-- Read: so is the task of each accepted list of words.
+abbrev pub TasksAreInRange : Type 0
+TasksAreInRange = (words : List (List ℕ)) (run : Run) → run_of words ≡ Some run → IsInRange run.task
 
 -- Read: the words ask for this run and for no other, and it begins.
 pub record IsBegun (words : List (List ℕ)) : Type 0 where

@@ -71,7 +71,7 @@ task_of word words =
     else (if bytes_eq word (codes "check") then check_of words
     else (if bytes_eq word (codes "gen") then generate_of words else None))
 
--- Read: the words behind the command's first word are these of the command, with this worker part.
+-- Read: what is run where these are the command's own words behind its first one, and this is its worker part.
 abbrev pub with_part : List ℕ → List (List ℕ) → List (List ℕ) → Option Run
 with_part word words part =
     option_and_then (λ (task : Task). option_map (λ (workers : ℕ). record { task = task; workers = workers }) (worker_part part)) (task_of word words)
@@ -79,11 +79,11 @@ with_part word words part =
 abbrev pub without_part : List ℕ → List (List ℕ) → Option Run
 without_part word words = option_map (λ (task : Task). record { task = task; workers = default_workers }) (task_of word words)
 
--- Read: a worker part of so many words stands directly behind the first word.
+-- Read: a worker part of these many words, or of fewer where there are fewer, stands directly behind the first word.
 abbrev pub part_in_front : List ℕ → List (List ℕ) → ℕ → Option Run
 part_in_front word words count = with_part word (drop count words) (take count words)
 
--- Read: a worker part of so many words stands at the end.
+-- Read: such a worker part stands at the end.
 abbrev pub part_at_end : List ℕ → List (List ℕ) → ℕ → Option Run
 part_at_end word words count = with_part word (take (length words - count) words) (drop (length words - count) words)
 
