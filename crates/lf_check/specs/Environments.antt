@@ -10,7 +10,7 @@ use Rattle.lf_check.specs.declared.environment.Variables.TheFolds.{fold-Variable
 
 -- The declarations that count.
 abbrev pub signature_over : Environment → Signature
-signature_over env = read_signature (take env.count env.sig.now)
+signature_over environment = read_signature (take environment.count environment.sig.now)
 
 -- The families of variables, given those of the outer ones.
 abbrev pub read_variables_layer : variables.Variables-F Context → Context
@@ -21,4 +21,4 @@ abbrev pub read_variables : Variables → Context
 read_variables = fold-Variables Context read_variables_layer
 
 abbrev pub context_over : Environment → Context
-context_over env = read_variables env.variables
+context_over environment = read_variables environment.variables

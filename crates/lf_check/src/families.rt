@@ -18,31 +18,39 @@ use lf_terms::{Class, Fam, Kind, Memory, Obj, QName, erase};
 use std::alloc::Global;
 
 /// Whether a family is one of the environment.
-pub(crate) fn check_family(alloc: Global, env: &Environment<'_>, family: &Fam) -> Result<(), Stop>
-    ensures { Checked result (family_fault (signature_over env.now) (context_over env.now) (read_family family.now)) }
+pub(crate) fn check_family(
+    alloc: Global,
+    environment: &Environment<'_>,
+    family: &Fam,
+) -> Result<(), Stop>
+    ensures { Checked result (family_fault (signature_over environment.now) (context_over environment.now) (read_family family.now)) }
 {
     match family {
         Fam::Pi(domain, body) => {
-            inside(0, check_family(alloc, env, domain))?;
-            let checked = check_family(alloc, &(&*env).under(domain), body);
+            inside(0, check_family(alloc, environment, domain))?;
+            let checked = check_family(alloc, &(&*environment).under(domain), body);
             inside(1, checked)
         }
         Fam::At { head, spine } => {
-            let kind = synthesise_kind(alloc, env, head, spine.as_slice())?;
+            let kind = synthesise_kind(alloc, environment, head, spine.as_slice())?;
             stands_at_type(alloc, &kind)
         }
     }
 }
 
 /// Whether a kind is one of the environment.
-pub(crate) fn check_kind_over(alloc: Global, env: &Environment<'_>, kind: &Kind) -> Result<(), Stop>
-    ensures { Checked result (kind_fault (signature_over env.now) (context_over env.now) (read_kind kind.now)) }
+pub(crate) fn check_kind_over(
+    alloc: Global,
+    environment: &Environment<'_>,
+    kind: &Kind,
+) -> Result<(), Stop>
+    ensures { Checked result (kind_fault (signature_over environment.now) (context_over environment.now) (read_kind kind.now)) }
 {
     match kind {
         Kind::Ty => Ok(()),
         Kind::Pi(domain, body) => {
-            inside(0, check_family(alloc, env, domain))?;
-            let checked = check_kind_over(alloc, &(&*env).under(domain), body);
+            inside(0, check_family(alloc, environment, domain))?;
+            let checked = check_kind_over(alloc, &(&*environment).under(domain), body);
             inside(1, checked)
         }
     }
@@ -51,15 +59,15 @@ pub(crate) fn check_kind_over(alloc: Global, env: &Environment<'_>, kind: &Kind)
 /// The kind that a family constant synthesises with its arguments, which it takes from left to right.
 fn synthesise_kind(
     alloc: Global,
-    env: &Environment<'_>,
+    environment: &Environment<'_>,
     head: &QName,
     spine: &[Obj],
 ) -> Result<Box<Kind>, Stop>
-    ensures { Found (λ k. read_kind k.value) result (synthesised_kind (signature_over env.now) (context_over env.now) (family_apply_all (FamilyCon (read_constant head.now)) (read_objects spine.now))) }
+    ensures { Found (λ k. read_kind k.value) result (synthesised_kind (signature_over environment.now) (context_over environment.now) (family_apply_all (FamilyCon (read_constant head.now)) (read_objects spine.now))) }
 {
-    let mut kind = constant_kind(alloc, env, head)?;
+    let mut kind = constant_kind(alloc, environment, head)?;
     for (i, argument) in spine.iter().enumerate() {
-        kind = take_argument(alloc, env, argument, 2 + i, &kind)?;
+        kind = take_argument(alloc, environment, argument, 2 + i, &kind)?;
     }
     Ok(kind)
 }
@@ -67,16 +75,16 @@ fn synthesise_kind(
 /// The kind so far takes an argument, which the number enters.
 fn take_argument(
     alloc: Global,
-    env: &Environment<'_>,
+    environment: &Environment<'_>,
     argument: &Obj,
     step: usize,
     kind: &Kind,
 ) -> Result<Box<Kind>, Stop>
-    ensures { Found (λ k. read_kind k.value) result (family_application_answer (Ok (read_kind kind.now)) step (read_object argument.now) (object_fault (signature_over env.now) (context_over env.now) (read_object argument.now))) }
+    ensures { Found (λ k. read_kind k.value) result (family_application_answer (Ok (read_kind kind.now)) step (read_object argument.now) (object_fault (signature_over environment.now) (context_over environment.now) (read_object argument.now))) }
 {
     match kind {
         Kind::Pi(domain, body) => {
-            inside(step, check_object(alloc, env, argument, domain))?;
+            inside(step, check_object(alloc, environment, argument, domain))?;
             Ok(applied(alloc, argument, domain, body)?)
         }
         Kind::Ty => Err(Stop::here(alloc, FaultKind::NotAFunction).inside(step)),
@@ -92,10 +100,14 @@ fn applied(alloc: Global, argument: &Obj, domain: &Fam, body: &Kind) -> Result<B
 }
 
 /// The kind of a family constant.
-fn constant_kind(alloc: Global, env: &Environment<'_>, constant: &QName) -> Result<Box<Kind>, Stop>
-    ensures { Found (λ k. read_kind k.value) result (family_constant_answer (class_of (signature_over env.now) (read_constant constant.now))) }
+fn constant_kind(
+    alloc: Global,
+    environment: &Environment<'_>,
+    constant: &QName,
+) -> Result<Box<Kind>, Stop>
+    ensures { Found (λ k. read_kind k.value) result (family_constant_answer (class_of (signature_over environment.now) (read_constant constant.now))) }
 {
-    match env.class(constant) {
+    match environment.class(constant) {
         Some(Class::Kind(kind)) => Ok(Box::new(alloc, kind.copy(alloc)?)?),
         Some(Class::Fam(_)) => Err(Stop::here(alloc, FaultKind::Level)),
         None => Err(Stop::here(alloc, FaultKind::UnknownConstant)),

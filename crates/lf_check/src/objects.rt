@@ -20,20 +20,20 @@ use std::alloc::Global;
 #[cycle(objects)]
 pub(crate) fn check_object(
     alloc: Global,
-    env: &Environment<'_>,
+    environment: &Environment<'_>,
     object: &Obj,
     family: &Fam,
 ) -> Result<(), Stop>
-    ensures { Checked result (object_fault (signature_over env.now) (context_over env.now) (read_object object.now) (read_family family.now)) }
+    ensures { Checked result (object_fault (signature_over environment.now) (context_over environment.now) (read_object object.now) (read_family family.now)) }
 {
     match (object, family) {
         (Obj::Lam(body), Fam::Pi(domain, codomain)) => {
-            let checked = check_object(alloc, &(&*env).under(domain), body, codomain);
+            let checked = check_object(alloc, &(&*environment).under(domain), body, codomain);
             inside(0, checked)
         }
         (Obj::Lam(_), Fam::At { .. }) => Err(Stop::here(alloc, FaultKind::Mismatch)),
         (Obj::At { head, spine }, _) => {
-            let found = synthesise(alloc, env, head, spine.as_slice())?;
+            let found = synthesise(alloc, environment, head, spine.as_slice())?;
             stands_at(alloc, &found, family)
         }
     }
@@ -43,15 +43,15 @@ pub(crate) fn check_object(
 #[cycle(objects)]
 pub(crate) fn synthesise(
     alloc: Global,
-    env: &Environment<'_>,
+    environment: &Environment<'_>,
     head: &Head,
     spine: &[Obj],
 ) -> Result<Box<Fam>, Stop>
-    ensures { Found (λ a. read_family a.value) result (synthesised (signature_over env.now) (context_over env.now) (apply_all (read_head head.now) (read_objects spine.now))) }
+    ensures { Found (λ a. read_family a.value) result (synthesised (signature_over environment.now) (context_over environment.now) (apply_all (read_head head.now) (read_objects spine.now))) }
 {
-    let mut classifier = head_family(alloc, env, head)?;
+    let mut classifier = head_family(alloc, environment, head)?;
     for (i, argument) in spine.iter().enumerate() {
-        classifier = take_argument(alloc, env, argument, 2 + i, &classifier)?;
+        classifier = take_argument(alloc, environment, argument, 2 + i, &classifier)?;
     }
     Ok(classifier)
 }
@@ -60,16 +60,16 @@ pub(crate) fn synthesise(
 #[cycle(objects)]
 fn take_argument(
     alloc: Global,
-    env: &Environment<'_>,
+    environment: &Environment<'_>,
     argument: &Obj,
     step: usize,
     classifier: &Fam,
 ) -> Result<Box<Fam>, Stop>
-    ensures { Found (λ a. read_family a.value) result (application_answer (Ok (read_family classifier.now)) step (read_object argument.now) (object_fault (signature_over env.now) (context_over env.now) (read_object argument.now))) }
+    ensures { Found (λ a. read_family a.value) result (application_answer (Ok (read_family classifier.now)) step (read_object argument.now) (object_fault (signature_over environment.now) (context_over environment.now) (read_object argument.now))) }
 {
     match classifier {
         Fam::Pi(domain, body) => {
-            inside(step, check_object(alloc, env, argument, domain))?;
+            inside(step, check_object(alloc, environment, argument, domain))?;
             Ok(applied(alloc, argument, domain, body)?)
         }
         Fam::At { .. } => Err(Stop::here(alloc, FaultKind::NotAFunction).inside(step)),
@@ -85,20 +85,24 @@ fn applied(alloc: Global, argument: &Obj, domain: &Fam, body: &Fam) -> Result<Bo
 }
 
 /// The family of a head without arguments.
-fn head_family(alloc: Global, env: &Environment<'_>, head: &Head) -> Result<Box<Fam>, Stop>
-    ensures { Found (λ a. read_family a.value) result (synthesised (signature_over env.now) (context_over env.now) (read_head head.now)) }
+fn head_family(alloc: Global, environment: &Environment<'_>, head: &Head) -> Result<Box<Fam>, Stop>
+    ensures { Found (λ a. read_family a.value) result (synthesised (signature_over environment.now) (context_over environment.now) (read_head head.now)) }
 {
     match head {
-        Head::Var(index) => variable_family(alloc, env, *index),
-        Head::Con(constant) => constant_family(alloc, env, constant),
+        Head::Var(index) => variable_family(alloc, environment, *index),
+        Head::Con(constant) => constant_family(alloc, environment, constant),
     }
 }
 
 /// The family of a variable, raised to its place.
-fn variable_family(alloc: Global, env: &Environment<'_>, index: u32) -> Result<Box<Fam>, Stop>
-    ensures { Found (λ a. read_family a.value) result (variable_answer (slice_get (context_over env.now) index) index) }
+fn variable_family(
+    alloc: Global,
+    environment: &Environment<'_>,
+    index: u32,
+) -> Result<Box<Fam>, Stop>
+    ensures { Found (λ a. read_family a.value) result (variable_answer (slice_get (context_over environment.now) index) index) }
 {
-    let Some(family) = env.family(index) else {
+    let Some(family) = environment.family(index) else {
         return Err(Stop::here(alloc, FaultKind::UnknownConstant));
     };
     let by = index.checked_add(1).ok_or(Memory)?;
@@ -106,10 +110,14 @@ fn variable_family(alloc: Global, env: &Environment<'_>, index: u32) -> Result<B
 }
 
 /// The family of a constant.
-fn constant_family(alloc: Global, env: &Environment<'_>, constant: &QName) -> Result<Box<Fam>, Stop>
-    ensures { Found (λ a. read_family a.value) result (constant_answer (class_of (signature_over env.now) (read_constant constant.now))) }
+fn constant_family(
+    alloc: Global,
+    environment: &Environment<'_>,
+    constant: &QName,
+) -> Result<Box<Fam>, Stop>
+    ensures { Found (λ a. read_family a.value) result (constant_answer (class_of (signature_over environment.now) (read_constant constant.now))) }
 {
-    match env.class(constant) {
+    match environment.class(constant) {
         Some(Class::Fam(family)) => Ok(Box::new(alloc, family.copy(alloc)?)?),
         Some(Class::Kind(_)) => Err(Stop::here(alloc, FaultKind::Level)),
         None => Err(Stop::here(alloc, FaultKind::UnknownConstant)),

@@ -56,43 +56,48 @@ fn check_declaration(
     ensures { Checked result (declaration_fault (read_signature (take index sig.now)) (read_declaration decl.now)) }
 {
     let empty = Ctx::new(alloc);
-    let env = Environment::before(sig, index, &empty);
-    inside(0, check_class(alloc, &env, &decl.class))?;
+    let environment = Environment::before(sig, index, &empty);
+    inside(0, check_class(alloc, &environment, &decl.class))?;
     match &decl.value {
         None => Ok(()),
         Some(value) => {
-            let checked = check_value(alloc, &env, value, &decl.class);
+            let checked = check_value(alloc, &environment, value, &decl.class);
             inside(1, checked)
         }
     }
 }
 
 /// Whether a class is a family or a kind in no context.
-fn check_class(alloc: Global, env: &Environment<'_>, class: &Class) -> Result<(), Stop>
-    requires { context_over env.now ≡ [] }
-    ensures { Checked result (class_fault (signature_over env.now) (read_class class.now)) }
+fn check_class(alloc: Global, environment: &Environment<'_>, class: &Class) -> Result<(), Stop>
+    requires { context_over environment.now ≡ [] }
+    ensures { Checked result (class_fault (signature_over environment.now) (read_class class.now)) }
 {
     match class {
-        Class::Fam(family) => check_family(alloc, env, family),
-        Class::Kind(kind) => check_kind_over(alloc, env, kind),
+        Class::Fam(family) => check_family(alloc, environment, family),
+        Class::Kind(kind) => check_kind_over(alloc, environment, kind),
     }
 }
 
 /// Whether a value fits a class.
 fn check_value(
     alloc: Global,
-    env: &Environment<'_>,
+    environment: &Environment<'_>,
     value: &Value,
     class: &Class,
 ) -> Result<(), Stop>
-    requires { context_over env.now ≡ [] }
-    ensures { Checked result (value_fault (signature_over env.now) (read_value value.now) (read_class class.now)) }
+    requires { context_over environment.now ≡ [] }
+    ensures { Checked result (value_fault (signature_over environment.now) (read_value value.now) (read_class class.now)) }
 {
     match (value, class) {
-        (Value::Same(constant), _) => check_same(alloc, env, constant, class),
-        (Value::Term(object), Class::Fam(family)) => check_object(alloc, env, object, family),
+        (Value::Same(constant), _) => check_same(alloc, environment, constant, class),
+        (Value::Term(object), Class::Fam(family)) => check_object(
+            alloc,
+            environment,
+            object,
+            family,
+        ),
         (Value::Fam { binders, body }, Class::Kind(kind)) if has_domains(kind, *binders) => {
-            check_behind(alloc, env, kind, body)
+            check_behind(alloc, environment, kind, body)
         }
         (Value::Fam { .. }, Class::Kind(_)) => Err(Stop::here(alloc, FaultKind::Mismatch)),
         (Value::Term(_), Class::Kind(_)) => Err(Stop::here(alloc, FaultKind::Level)),
@@ -103,13 +108,13 @@ fn check_value(
 /// Whether a name is a constant of that classifier.
 fn check_same(
     alloc: Global,
-    env: &Environment<'_>,
+    environment: &Environment<'_>,
     constant: &QName,
     class: &Class,
 ) -> Result<(), Stop>
-    ensures { Checked result (same_fault (class_of (signature_over env.now) (read_constant constant.now)) (read_class class.now)) }
+    ensures { Checked result (same_fault (class_of (signature_over environment.now) (read_constant constant.now)) (read_class class.now)) }
 {
-    let Some(found) = env.class(constant) else {
+    let Some(found) = environment.class(constant) else {
         return Err(Stop::here(alloc, FaultKind::UnknownConstant));
     };
     match (found, class) {
@@ -136,14 +141,14 @@ fn has_domains(kind: &Kind, count: u32) -> bool
 /// Whether a family is one behind the domains of a kind.
 fn check_behind(
     alloc: Global,
-    env: &Environment<'_>,
+    environment: &Environment<'_>,
     domains: &Kind,
     body: &Fam,
 ) -> Result<(), Stop>
-    ensures { Checked result (family_fault (signature_over env.now) (with_domains (read_kind domains.now) (context_over env.now)) (read_family body.now)) }
+    ensures { Checked result (family_fault (signature_over environment.now) (with_domains (read_kind domains.now) (context_over environment.now)) (read_family body.now)) }
 {
     match domains {
-        Kind::Ty => check_family(alloc, env, body),
-        Kind::Pi(domain, rest) => check_behind(alloc, &(&*env).under(domain), rest, body),
+        Kind::Ty => check_family(alloc, environment, body),
+        Kind::Pi(domain, rest) => check_behind(alloc, &(&*environment).under(domain), rest, body),
     }
 }

@@ -9,5 +9,5 @@ use Rattle.lf_check.proofs.families.synthesise_kind.Given as goal
 -- What the kind so far gives with the arguments that are left is what the constant gives with all of them.
 abbrev pub invariant-loop-i : goal.invariant-loop-i
 invariant-loop-i l =
-    synthesised_kind (signature_over l.env) (context_over l.env) (family_apply_all (FamilyCon (read_constant l.head)) (read_objects l.spine))
-    ≡ family_arguments_answer (signature_over l.env) (context_over l.env) (Ok (read_kind l.kind.value)) l.i (read_objects (drop l.i l.spine))
+    synthesised_kind (signature_over l.environment) (context_over l.environment) (family_apply_all (FamilyCon (read_constant l.head)) (read_objects l.spine))
+    ≡ family_arguments_answer (signature_over l.environment) (context_over l.environment) (Ok (read_kind l.kind.value)) l.i (read_objects (drop l.i l.spine))

@@ -9,6 +9,6 @@ use Rattle.lf_check.proofs.families.take_argument.Goals as goal
 
 pub returns-in-Ty : goal.returns-in-Ty
 returns-in-Ty c =
-    let env = c.args.env.now in
+    let environment = c.args.environment.now in
     let at_itself : Stops c.here.result (Some (here NotAFunction)) = rw c.here.ensures refl in
-    no_kind_function c.inside-in-Ty.result (read_kind c.args.kind.now) c.args.step (read_object c.args.argument.now) (object_fault (signature_over env) (context_over env) (read_object c.args.argument.now)) (ap read_kind c.in-Ty.is ∙ read_kind_ty) (c.inside-in-Ty.ensures (Some (here NotAFunction)) at_itself)
+    no_kind_function c.inside-in-Ty.result (read_kind c.args.kind.now) c.args.step (read_object c.args.argument.now) (object_fault (signature_over environment) (context_over environment) (read_object c.args.argument.now)) (ap read_kind c.in-Ty.is ∙ read_kind_ty) (c.inside-in-Ty.ensures (Some (here NotAFunction)) at_itself)

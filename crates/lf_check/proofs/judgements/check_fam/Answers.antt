@@ -12,8 +12,8 @@ returns-clause-accepted c =
     let sig = read_signature c.args.sig.now in
     let context = read_context c.args.ctx.now in
     let a = read_family c.args.fam.now in
-    let env = c.new.result in
-    let answer : Answers c.finish.result (family_fault sig context a) = rw (← c.new.ensures.signature, ← c.new.ensures.context) (c.finish.ensures (family_fault (signature_over env) (context_over env) a) c.check_family.ensures) in
+    let environment = c.new.result in
+    let answer : Answers c.finish.result (family_fault sig context a) = rw (← c.new.ensures.signature, ← c.new.ensures.context) (c.finish.ensures (family_fault (signature_over environment) (context_over environment) a) c.check_family.ensures) in
     accepts (IsFamily sig context a) (family_fault sig context a) c.finish.result answer (family_sound sig context a)
 
 pub returns-clause-refused : goal.returns-clause-refused
@@ -21,6 +21,6 @@ returns-clause-refused c =
     let sig = read_signature c.args.sig.now in
     let context = read_context c.args.ctx.now in
     let a = read_family c.args.fam.now in
-    let env = c.new.result in
-    let answer : Answers c.finish.result (family_fault sig context a) = rw (← c.new.ensures.signature, ← c.new.ensures.context) (c.finish.ensures (family_fault (signature_over env) (context_over env) a) c.check_family.ensures) in
+    let environment = c.new.result in
+    let answer : Answers c.finish.result (family_fault sig context a) = rw (← c.new.ensures.signature, ← c.new.ensures.context) (c.finish.ensures (family_fault (signature_over environment) (context_over environment) a) c.check_family.ensures) in
     refuses (IsFamily sig context a) (family_fault sig context a) c.finish.result answer (family_complete sig context a)

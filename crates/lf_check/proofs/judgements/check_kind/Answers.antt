@@ -12,8 +12,8 @@ returns-clause-accepted c =
     let sig = read_signature c.args.sig.now in
     let context = read_context c.args.ctx.now in
     let k = read_kind c.args.kind.now in
-    let env = c.new.result in
-    let answer : Answers c.finish.result (kind_fault sig context k) = rw (← c.new.ensures.signature, ← c.new.ensures.context) (c.finish.ensures (kind_fault (signature_over env) (context_over env) k) c.check_kind_over.ensures) in
+    let environment = c.new.result in
+    let answer : Answers c.finish.result (kind_fault sig context k) = rw (← c.new.ensures.signature, ← c.new.ensures.context) (c.finish.ensures (kind_fault (signature_over environment) (context_over environment) k) c.check_kind_over.ensures) in
     accepts (IsKind sig context k) (kind_fault sig context k) c.finish.result answer (kind_sound sig context k)
 
 pub returns-clause-refused : goal.returns-clause-refused
@@ -21,6 +21,6 @@ returns-clause-refused c =
     let sig = read_signature c.args.sig.now in
     let context = read_context c.args.ctx.now in
     let k = read_kind c.args.kind.now in
-    let env = c.new.result in
-    let answer : Answers c.finish.result (kind_fault sig context k) = rw (← c.new.ensures.signature, ← c.new.ensures.context) (c.finish.ensures (kind_fault (signature_over env) (context_over env) k) c.check_kind_over.ensures) in
+    let environment = c.new.result in
+    let answer : Answers c.finish.result (kind_fault sig context k) = rw (← c.new.ensures.signature, ← c.new.ensures.context) (c.finish.ensures (kind_fault (signature_over environment) (context_over environment) k) c.check_kind_over.ensures) in
     refuses (IsKind sig context k) (kind_fault sig context k) c.finish.result answer (kind_complete sig context k)

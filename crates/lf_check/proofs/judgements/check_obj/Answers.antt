@@ -13,8 +13,8 @@ returns-clause-accepted c =
     let context = read_context c.args.ctx.now in
     let m = read_object c.args.obj.now in
     let a = read_family c.args.fam.now in
-    let env = c.new.result in
-    let answer : Answers c.finish.result (object_fault sig context m a) = rw (← c.new.ensures.signature, ← c.new.ensures.context) (c.finish.ensures (object_fault (signature_over env) (context_over env) m a) c.check_object.ensures) in
+    let environment = c.new.result in
+    let answer : Answers c.finish.result (object_fault sig context m a) = rw (← c.new.ensures.signature, ← c.new.ensures.context) (c.finish.ensures (object_fault (signature_over environment) (context_over environment) m a) c.check_object.ensures) in
     accepts (Checks sig context m a) (object_fault sig context m a) c.finish.result answer (object_sound sig context m a)
 
 pub returns-clause-refused : goal.returns-clause-refused
@@ -23,6 +23,6 @@ returns-clause-refused c =
     let context = read_context c.args.ctx.now in
     let m = read_object c.args.obj.now in
     let a = read_family c.args.fam.now in
-    let env = c.new.result in
-    let answer : Answers c.finish.result (object_fault sig context m a) = rw (← c.new.ensures.signature, ← c.new.ensures.context) (c.finish.ensures (object_fault (signature_over env) (context_over env) m a) c.check_object.ensures) in
+    let environment = c.new.result in
+    let answer : Answers c.finish.result (object_fault sig context m a) = rw (← c.new.ensures.signature, ← c.new.ensures.context) (c.finish.ensures (object_fault (signature_over environment) (context_over environment) m a) c.check_object.ensures) in
     refuses (Checks sig context m a) (object_fault sig context m a) c.finish.result answer (object_complete sig context m a)

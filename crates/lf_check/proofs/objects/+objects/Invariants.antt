@@ -9,5 +9,5 @@ use Rattle.lf_check.proofs.objects.+objects.Given as goal
 -- What the classifier so far gives with the arguments that are left is what the head gives with all of them.
 abbrev pub invariant-synthesise-loop-i : goal.invariant-synthesise-loop-i
 invariant-synthesise-loop-i l =
-    synthesised (signature_over l.env) (context_over l.env) (apply_all (read_head l.head) (read_objects l.spine))
-    ≡ arguments_answer (signature_over l.env) (context_over l.env) (Ok (read_family l.classifier.value)) l.i (read_objects (drop l.i l.spine))
+    synthesised (signature_over l.environment) (context_over l.environment) (apply_all (read_head l.head) (read_objects l.spine))
+    ≡ arguments_answer (signature_over l.environment) (context_over l.environment) (Ok (read_family l.classifier.value)) l.i (read_objects (drop l.i l.spine))

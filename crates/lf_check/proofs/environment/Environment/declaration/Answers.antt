@@ -7,15 +7,15 @@ use Rattle.lf_check.proofs.environment.Environment.declaration.Goals as goal
 
 pub returns-in-Some : goal.returns-in-Some
 returns-in-Some c =
-    let env = c.args.self.now in
-    copied_read read_declaration c.at.result ∙ ap (option_map read_declaration) c.at.ensures.item ∙ declared_before env.sig.now c.args.name.now env.count c.in-Some.place (sym c.in-Some.ensures) c.if-place-self.true
+    let environment = c.args.self.now in
+    copied_read read_declaration c.at.result ∙ ap (option_map read_declaration) c.at.ensures.item ∙ declared_before environment.sig.now c.args.name.now environment.count c.in-Some.place (sym c.in-Some.ensures) c.if-place-self.true
 
 pub returns-in-Some-2 : goal.returns-in-Some-2
 returns-in-Some-2 c =
-    let env = c.args.self.now in
-    not_before env.sig.now c.args.name.now env.count c.in-Some.place (sym c.in-Some.ensures) c.if-place-self.false
+    let environment = c.args.self.now in
+    not_before environment.sig.now c.args.name.now environment.count c.in-Some.place (sym c.in-Some.ensures) c.if-place-self.false
 
 pub returns-in-None : goal.returns-in-None
 returns-in-None c =
-    let env = c.args.self.now in
-    not_declared env.sig.now c.args.name.now env.count (sym c.in-None.ensures)
+    let environment = c.args.self.now in
+    not_declared environment.sig.now c.args.name.now environment.count (sym c.in-None.ensures)
