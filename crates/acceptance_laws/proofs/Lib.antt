@@ -8,3 +8,4 @@ pub mod WordsAlike
 pub mod LinksAlike
 pub mod DeclaredAlike
 pub mod ToldModules
+pub mod RefusedModules

@@ -14,7 +14,7 @@ module _ (one two : Scope) (goes : (variables : Variables) (path : Path) (resolv
   name_alike locals path head s = record { resolved = s.resolved; stands = goes (variables_of locals) path s.resolved s.stands; begins = s.begins }
 
   mutual
-    object_alike : (expression : Expr) (locals : Locals) (family : Family) (object : Object) → StandsObject one locals expression family object → StandsObject two locals expression family object
+    pub object_alike : (expression : Expr) (locals : Locals) (family : Family) (object : Object) → StandsObject one locals expression family object → StandsObject two locals expression family object
     object_alike (TypeExpr span) locals family object s = absurd s
     object_alike (PiExpr span binder domain body) locals family object s = absurd s
     object_alike (ArrowExpr span domain body) locals family object s = absurd s
@@ -68,7 +68,7 @@ module _ (one two : Scope) (goes : (variables : Variables) (path : Path) (resolv
           is = s.is;
         }
 
-    family_alike : (expression : Expr) (locals : Locals) (family : Family) → StandsFamily one locals expression family → StandsFamily two locals expression family
+    pub family_alike : (expression : Expr) (locals : Locals) (family : Family) → StandsFamily one locals expression family → StandsFamily two locals expression family
     family_alike (PiExpr span binder domain body) locals family s =
         record {
           domain = s.domain;

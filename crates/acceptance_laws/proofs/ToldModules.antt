@@ -16,10 +16,9 @@ use Rattle.library_meaning.specs.Faces.{TheoryFace, ViewFace, theory_face, Envir
 use Rattle.verdict_meaning.specs.Dependencies.{Dependency, at_written, decl_dependencies, module_dependencies, answer_dependencies, dependencies}
 use Rattle.verdict_meaning.specs.Modules.{empty_theory}
 use Rattle.verdict_meaning.specs.Verdicts.{Theory, Accepted}
-use Rattle.verdict_meaning.specs.Rounds.{others_reached}
+use Rattle.verdict_meaning.specs.Rounds.{others_reached, told_by}
 use Rattle.verdict_meaning.specs.VerdictLaws.{known_to}
 use Rattle.verdict_meaning.proofs.Shortness.{Short, short_step}
-use Rattle.coherence_laws.specs.CoherenceLaws.{told_by}
 use Rattle.acceptance_laws.specs.ViewLaws.{IsModule, IsViewBetween, IsAcceptedView, AcceptedViewsTold, WrittenViewsTold}
 use Rattle.acceptance_laws.specs.Declares.{DeclaresAll}
 use Rattle.acceptance_laws.specs.TheoryLaws.{AcceptedTheoriesTold, WrittenTheoriesTold}

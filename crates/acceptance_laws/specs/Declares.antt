@@ -40,7 +40,7 @@ pub record AddsConstant (environment : Environment) (here : TheoryFace) (name : 
   pub is : next ≡ with_constant here name class value
 
 -- Read: the theory has one more structure, with a new name, from an accepted theory, and the constants that it induces. Its map
--- is that of the link into the theory so far: the assignments are read as something whose equations the map meets.
+-- is that of the link into the theory so far: the assignments have a reading, and the map meets its equations.
 pub record AddsStructure (environment : Environment) (here : TheoryFace) (name : Written) (domain : Name) (assigns : List Assign) (next : TheoryFace) : Type 0 where
   pub is_new : IsNew here (first_name name.path)
   pub from : IsSome (theory_of environment domain)

@@ -1,3 +1,4 @@
 pub mod Declares
 pub mod ViewLaws
 pub mod TheoryLaws
+pub mod RefusedModules

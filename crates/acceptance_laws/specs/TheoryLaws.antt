@@ -7,9 +7,8 @@ use Rattle.library_meaning.specs.Faces.{TheoryFace, Environment, flat_signature}
 use Rattle.library_meaning.specs.Coherence.{IsCoherent}
 use Rattle.verdict_meaning.specs.Modules.{empty_theory, declare_all}
 use Rattle.verdict_meaning.specs.Verdicts.{Theory, Accepted}
-use Rattle.verdict_meaning.specs.Rounds.{verdict_of}
+use Rattle.verdict_meaning.specs.Rounds.{verdict_of, told_by}
 use Rattle.verdict_meaning.specs.VerdictLaws.{known_to}
-use Rattle.coherence_laws.specs.CoherenceLaws.{told_by}
 use Rattle.acceptance_laws.specs.ViewLaws.{IsModule}
 use Rattle.acceptance_laws.specs.Declares.{DeclaresAll}
 

@@ -12,9 +12,8 @@ use Rattle.link_meaning.specs.LinkLaws.{IsMapOfLink}
 use Rattle.verdict_meaning.specs.Dependencies.{first_name, dependencies}
 use Rattle.verdict_meaning.specs.Modules.{view_setting}
 use Rattle.verdict_meaning.specs.Verdicts.{View, Accepted, written_name}
-use Rattle.verdict_meaning.specs.Rounds.{verdict_of}
+use Rattle.verdict_meaning.specs.Rounds.{verdict_of, told_by}
 use Rattle.verdict_meaning.specs.VerdictLaws.{known_to}
-use Rattle.coherence_laws.specs.CoherenceLaws.{told_by}
 
 -- Read: the name is grounded, and its text is read as this module, which is written with the name.
 pub record IsModule (library : Library) (name : Name) (tree : Module) : Type 0 where
@@ -25,7 +24,7 @@ pub record IsModule (library : Library) (name : Name) (tree : Module) : Type 0 w
   pub named : first_name (written_name tree).path ≡ name
 
 -- Read: over what is known, both ends of the written view are accepted theories, and the map is that of the link between them:
--- the assignments are read as something whose equations the map meets.
+-- the assignments have a reading, and the map meets its equations.
 pub record IsViewBetween (environment : Environment) (written domain codomain : Written) (assigns : List Assign) (along : HeadMap) : Type 0 where
   pub from : IsSome (theory_of environment (first_name domain.path))
   pub target : TheoryFace

@@ -24,11 +24,10 @@ use Rattle.verdict_meaning.specs.Dependencies.{Dependency, first_name, decl_depe
 use Rattle.verdict_meaning.specs.Inclusions.{decl_inclusions, answer_inclusions, text_inclusions, inclusions_in, ReachesByInclusions, Directly, Through}
 use Rattle.verdict_meaning.specs.Modules.{module_test, scope_in, unused_test, declared_value, structure_setting, declare, declare_all, empty_theory}
 use Rattle.verdict_meaning.specs.Verdicts.{Theory, Verdict, Accepted, known_by}
-use Rattle.verdict_meaning.specs.Rounds.{verdict_of}
+use Rattle.verdict_meaning.specs.Rounds.{verdict_of, told_by}
 use Rattle.verdict_meaning.specs.VerdictLaws.{known_to}
 use Rattle.verdict_meaning.proofs.Shortness.{Short, short_step}
-use Rattle.coherence_laws.specs.CoherenceLaws.{told_by}
-use Rattle.coherence_laws.specs.InclusionLaws.{ClosureIsOfText, AcceptedHasClosure, ClosureIsReached, ReachedAreAccepted}
+use Rattle.coherence_laws.specs.InclusionLaws.{ClosureIsOfText, AcceptedHasClosure, ClosureIsReached, ReachedAreAccepted, AcceptedNotReachedByItself}
 use Rattle.coherence_laws.proofs.ModulesHold.{known_by_test, theory_there}
 use Rattle.coherence_laws.proofs.Transfer.{theory_same}
 use Rattle.coherence_laws.proofs.LibrariesHold.{told, sound, tells_more, accepted_theory, library_coherent}
@@ -211,3 +210,7 @@ closure_is_reached library name face other e = (
 pub reached_are_accepted : ReachedAreAccepted
 reached_are_accepted library name face other e r =
     ((library_coherent library).theories name face e).includes other ((closure_is_reached library name face other e).1 r)
+
+pub not_reached_by_itself : AcceptedNotReachedByItself
+not_reached_by_itself library name face e r =
+    ((library_coherent library).theories name face e).includes_others name ((closure_is_reached library name face name e).1 r) refl

@@ -25,12 +25,12 @@ use Rattle.link_meaning.proofs.Valued.{demand_holds}
 use Rattle.verdict_meaning.specs.Dependencies.{Dependency, first_name, dependencies}
 use Rattle.verdict_meaning.specs.Modules.{empty_theory, declare_all, checked_view}
 use Rattle.verdict_meaning.specs.Verdicts.{Interface, Theory, View, Verdict, Accepted, Refused, verdict_by, known_by, written_name, checked, cycle_at, judge_tree, judge_answer, judge}
-use Rattle.verdict_meaning.specs.Rounds.{verdict_under, known_if, known_of, others_reached, ungrounded_names, verdicts, verdict_of}
+use Rattle.verdict_meaning.specs.Rounds.{verdict_under, known_if, known_of, others_reached, ungrounded_names, verdicts, verdict_of, told_by}
 use Rattle.verdict_meaning.specs.VerdictLaws.{known_to}
 use Rattle.verdict_meaning.proofs.Shortness.{Short, short_reached, reach_within_reach}
 use Rattle.verdict_meaning.proofs.Rounds.{in_others}
 use Rattle.verdict_meaning.proofs.Verdicts.{not_ungrounded, verdict_exactly, verdict_is_judged, ungrounded_is_cycle}
-use Rattle.coherence_laws.specs.CoherenceLaws.{told_by, AreClosed, FacesAreCoherent, GroundedKnowCoherent, ClosedAreCoherent}
+use Rattle.coherence_laws.specs.CoherenceLaws.{AreClosed, FacesAreCoherent, GroundedKnowCoherent, ClosedAreCoherent}
 use Rattle.coherence_laws.proofs.ModulesHold.{declare_all_holds, empty_holds, view_holds}
 use Rattle.coherence_laws.proofs.Transfer.{Extends, theory_transfers, view_transfers}
 
@@ -262,14 +262,14 @@ module _ (library : Library) where
 
   -- ---- names that are closed under their reach
 
-  known_in : (names : List Name) (y : Name) (b : Bool) → is_among names y ≡ b → known_of names (verdicts library) y ≡ cond b (known_if (verdict_under (verdicts library) y)) IsAbsent
+  pub known_in : (names : List Name) (y : Name) (b : Bool) → is_among names y ≡ b → known_of names (verdicts library) y ≡ cond b (known_if (verdict_under (verdicts library) y)) IsAbsent
   known_in names y b e = ap (λ z. cond z (known_if (verdict_under (verdicts library) y)) IsAbsent) e
 
   none_known : (o : Option Verdict) → is_some o ≡ false → known_if o ≡ IsAbsent
   none_known None h = refl
   none_known (Some verdict) h = absurd (true≢false h)
 
-  absent_known : (y : Name) → is_present library y ≡ false → known_if (verdict_under (verdicts library) y) ≡ IsAbsent
+  pub absent_known : (y : Name) → is_present library y ≡ false → known_if (verdict_under (verdicts library) y) ≡ IsAbsent
   absent_known y e = sym (told_under y) ∙ none_known (verdict_of library y) (verdict_exactly library y ∙ e)
 
   pub closed_extends : (names : List Name) → AreClosed library names → (name : Name) → is_among names name ≡ true → Extends (known_to library name) (known_of names (verdicts library))

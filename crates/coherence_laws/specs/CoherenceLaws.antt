@@ -2,18 +2,14 @@
 use Rattle.std.specs.Prelude.{◌≡◌, ℕ, true, List, length, Some}
 use Rattle.log_meaning.specs.Names.{Name, is_among}
 use Rattle.log_meaning.specs.Log.{Library, is_present}
-use Rattle.library_meaning.specs.Faces.{TheoryFace, Environment, flat_signature}
+use Rattle.library_meaning.specs.Faces.{TheoryFace, flat_signature}
 use Rattle.library_meaning.specs.Coherence.{IsCoherent}
 use Rattle.verdict_meaning.specs.Dependencies.{dependencies}
 use Rattle.verdict_meaning.specs.Verdicts.{Theory, Accepted}
-use Rattle.verdict_meaning.specs.Rounds.{known_if, known_of, others_reached, verdicts, verdict_of}
+use Rattle.verdict_meaning.specs.Rounds.{known_of, others_reached, verdicts, verdict_of, told_by}
 use Rattle.verdict_meaning.specs.VerdictLaws.{known_to}
 use Rattle.walk_meaning.specs.Walks.{is_grounded}
 use Rattle.walk_meaning.specs.Reach.{reach}
-
--- Read: what the verdicts of a library tell of each name.
-abbrev pub told_by : Library → Environment
-told_by library name = known_if (verdict_of library name)
 
 -- Read: the faces of all accepted modules of a library are coherent.
 abbrev pub FacesAreCoherent : Type 0

@@ -7,7 +7,7 @@ use Rattle.library_meaning.specs.Faces.{TheoryFace, IsTheory, theory_of}
 use Rattle.library_meaning.specs.Closure.{sees, closure_of}
 use Rattle.library_meaning.specs.Coherence.{IsClosure}
 use Rattle.verdict_meaning.specs.Inclusions.{inclusions_in, ReachesByInclusions}
-use Rattle.coherence_laws.specs.CoherenceLaws.{told_by}
+use Rattle.verdict_meaning.specs.Rounds.{told_by}
 
 -- Read: what an accepted theory shows as its closure is the closure of the inclusions of its text, in their order, over what
 -- the library's verdicts tell.
@@ -32,3 +32,8 @@ abbrev pub ReachedAreAccepted : Type 0
 ReachedAreAccepted =
     (library : Library) (name : Name) (face : TheoryFace) (other : Name) → told_by library name ≡ IsTheory face
     → ReachesByInclusions library name other → IsSome (theory_of (told_by library) other)
+
+-- Read: no accepted theory reaches itself so.
+abbrev pub AcceptedNotReachedByItself : Type 0
+AcceptedNotReachedByItself =
+    (library : Library) (name : Name) (face : TheoryFace) → told_by library name ≡ IsTheory face → ReachesByInclusions library name name → ⊥

@@ -12,7 +12,8 @@ use Rattle.expansion_meaning.specs.Answers.{must, or_broken}
 use Rattle.expansion_meaning.specs.Locals.{Locals, with_local}
 use Rattle.expansion_meaning.specs.NameHeads.{Level, Objects, Families, level_of, name_head}
 use Rattle.expansion_meaning.specs.Expansion.{span_of, lambda_at, domain_of, object_at, family_at_type, expand_object, expand_head, expand_arguments, expand_family, expand_kind}
-use Rattle.expansion_meaning.specs.Stands.{IsAtomicFamily, StandsObject, StandsHead, StandsArguments, StandsFamily, StandsKind}
+use Rattle.translation_meaning.specs.AtomicFamilies.{IsAtomicFamily}
+use Rattle.expansion_meaning.specs.Stands.{StandsObject, StandsHead, StandsArguments, StandsFamily, StandsKind}
 use Rattle.expansion_meaning.proofs.Binding.{came_by, ok_same, must_holds, there}
 use Rattle.expansion_meaning.proofs.NamesStand.{level_kept, name_sound}
 

@@ -1,8 +1,9 @@
 -- What a written expression stands for, as relations: one case for each form of expression, and one argument for each case
 -- (this profile; heads take arguments as in Harper and Licata 2007, section 2).
 use Rattle.std.specs.Prelude.{◌≡◌, ℕ, Some, None, true, false, [], ⊤}
-use Rattle.lf_meaning.specs.Terms.{Path, Object, Lam, At, Var, Family, Pi, AtFamily, Kind, Ty, PiKind, domain_count}
+use Rattle.lf_meaning.specs.Terms.{Path, Object, Lam, At, Var, Family, Pi, Kind, Ty, PiKind, domain_count}
 use Rattle.lf_meaning.specs.Signatures.{Class, FamilyClass, KindClass, Value, Declaration}
+use Rattle.translation_meaning.specs.AtomicFamilies.{IsAtomicFamily}
 use Rattle.translation_meaning.specs.Heads.{Head, ObjectHead, FamilyHead, head_takes}
 use Rattle.translation_meaning.specs.Translation.{object_value, family_value}
 use Rattle.library_meaning.specs.Resolution.{Scope, Resolved, Variable, Declared, Unknown, Ambiguous}
@@ -60,11 +61,6 @@ pub record ProductStands (domain_stands : Family → Type 0) (body_stands : Fami
   pub is : family ≡ Pi domain codomain
   pub first : domain_stands domain
   pub second : body_stands domain codomain
-
--- Read: the family is no Π.
-abbrev pub IsAtomicFamily : Family → Type 0
-IsAtomicFamily (Pi domain codomain) = ⊥
-IsAtomicFamily (AtFamily p) = ⊤
 
 -- Read: some family head is this family at `type`.
 abbrev pub IsFamilyHead : (Head → Type 0) → Family → Type 0

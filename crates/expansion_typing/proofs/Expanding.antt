@@ -17,7 +17,8 @@ use Rattle.library_meaning.specs.Words.{own_value}
 use Rattle.text_meaning.specs.Trees.{Expr, TypeExpr, NameExpr, AppExpr, PiExpr, LamExpr, TypedLamExpr, ArrowExpr, BackExpr, Exprs, NoArgs, ThenArg}
 use Rattle.expansion_meaning.specs.Locals.{Local, Locals, with_local, variables_of, context_of, family_at}
 use Rattle.expansion_meaning.specs.NameHeads.{class_head}
-use Rattle.expansion_meaning.specs.Stands.{BeginsAs, NameStands, IsAtomicFamily, StandsObject, StandsHead, StandsArguments, StandsFamily, StandsKind, StandsClass, StandsFamilyValue, NameGives, BuildsValue, StandsValue}
+use Rattle.translation_meaning.specs.AtomicFamilies.{IsAtomicFamily}
+use Rattle.expansion_meaning.specs.Stands.{BeginsAs, NameStands, StandsObject, StandsHead, StandsArguments, StandsFamily, StandsKind, StandsClass, StandsFamilyValue, NameGives, BuildsValue, StandsValue}
 use Rattle.expansion_meaning.proofs.Binding.{some_same}
 use Rattle.holding_laws.specs.HoldingLaws.{Grows}
 use Rattle.holding_laws.specs.ExpansionHolds.{scope_signature}

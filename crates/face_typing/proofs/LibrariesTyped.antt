@@ -1,5 +1,5 @@
 -- The faces of all accepted modules of a library are well typed, and so flat signatures, views and structures.
-use Rattle.std.proofs.Common.{List, ◌≡◌, ℕ, zero, suc, Bool, true, false, ◌++◌, length, Option, Some, None, Ok, Err, refl, sym, ◌∙◌, subst}
+use Rattle.std.proofs.Common.{List, ◌≡◌, ℕ, zero, suc, Bool, true, false, ◌++◌, length, Option, Some, None, Ok, Err, refl, sym, ap, ◌∙◌, subst}
 use Rattle.std.specs.Prelude.{⊤}
 use Rattle.lf_meaning.specs.Judgements.{IsSignature}
 use Rattle.lf_meaning.proofs.Equality.{same_name_sound}
@@ -22,20 +22,21 @@ use Rattle.link_meaning.proofs.Linked.{known_theory}
 use Rattle.verdict_meaning.specs.Dependencies.{first_name, dependencies}
 use Rattle.verdict_meaning.specs.Modules.{empty_theory, declare_all, checked_view}
 use Rattle.verdict_meaning.specs.Verdicts.{Interface, Theory, View, Verdict, Accepted, Refused, verdict_by, known_by, written_name, checked, judge_tree, judge_answer, judge}
-use Rattle.verdict_meaning.specs.Rounds.{others_reached, ungrounded_names, verdict_of, known_of, verdicts}
+use Rattle.verdict_meaning.specs.Rounds.{others_reached, ungrounded_names, verdict_of, known_of, verdicts, told_by}
 use Rattle.verdict_meaning.specs.VerdictLaws.{known_to}
 use Rattle.verdict_meaning.proofs.Shortness.{Short, short_reached}
 use Rattle.verdict_meaning.proofs.Rounds.{in_others}
 use Rattle.verdict_meaning.proofs.Verdicts.{verdict_is_judged}
-use Rattle.coherence_laws.specs.CoherenceLaws.{told_by, AreClosed}
-use Rattle.coherence_laws.proofs.ModulesHold.{empty_holds}
+use Rattle.coherence_laws.specs.CoherenceLaws.{AreClosed}
+use Rattle.coherence_laws.proofs.ModulesHold.{empty_holds, declare_all_holds}
 use Rattle.coherence_laws.proofs.LibrariesHold.{cycle_refuses, absent_reach, others_not, extends_to, itself_absent, told, theory_shown, view_shown, Sound, verdict_text, verdict_reached, sound, tells_more, accepted_theory, accepted_view, library_coherent, listed, closed_extends, grounded_short}
 use Rattle.row_typing.specs.TypedFaces.{IsTypedTheory, IsTypedView, IsTypedEnvironment}
 use Rattle.face_typing.specs.FaceTypingLaws.{FacesAreTyped, TheoriesFlatten, ViewsCarryTyping, StructuresCarryTyping, GroundedKnowTyped, ClosedAreTyped, KnownViewsTranslate, KnownStructuresTranslate, KnownViewsCarryTyping, KnownStructuresCarryTyping}
+use Rattle.face_typing.specs.JudgedTyping.{DeclaredTheoriesAreTyped, DeclaredStructuresAreTyped, JudgedTheoriesAreTyped, JudgedViewsAreTyped}
 use Rattle.link_typing.proofs.LinkInterface.{LinksAreTyped}
-use Rattle.face_typing.proofs.ModulesTyped.{declare_all_typed, empty_typed, view_typed}
+use Rattle.face_typing.proofs.ModulesTyped.{declare_all_typed, structure_is_typed, empty_typed, view_typed}
 use Rattle.face_typing.proofs.TypingTransfers.{theory_typing_transfers, view_typing_transfers}
-use Rattle.row_typing.proofs.ProperImages.{images_atomic}
+use Rattle.row_typing.proofs.ProperImages.{images_proper, proper_atomic_map}
 
 -- ---- one module
 
@@ -78,6 +79,26 @@ module _ (links : LinksAreTyped) (environment : Environment) (coherent : IsCoher
   pub judge_typed : (ungrounded : Name → Bool) (text : Text) → HoldsTyped environment (judge environment ungrounded name text)
   unfolding judge
   judge_typed ungrounded text = outcome_typed (judge_answer environment ungrounded name (read ModuleText text)) (answer_typed ungrounded (read ModuleText text))
+
+pub judged_theories_are_typed : LinksAreTyped → JudgedTheoriesAreTyped
+judged_theories_are_typed links environment name ungrounded text face size coherent typed absent h =
+    subst (HoldsTyped environment) h (judge_typed links environment coherent typed name absent ungrounded text)
+
+pub judged_views_are_typed : LinksAreTyped → JudgedViewsAreTyped
+judged_views_are_typed links environment name ungrounded text face coherent typed absent h =
+    subst (HoldsTyped environment) h (judge_typed links environment coherent typed name absent ungrounded text)
+
+-- ---- a theory that is being built
+
+pub declared_theories_are_typed : LinksAreTyped → DeclaredTheoriesAreTyped
+declared_theories_are_typed links environment name decls here coherent typed absent h =
+    declare_all_typed links environment coherent typed decls name (empty_theory name) here refl absent (empty_holds environment coherent name) (empty_typed links environment coherent typed name) h
+
+pub declared_structures_are_typed : LinksAreTyped → DeclaredStructuresAreTyped
+declared_structures_are_typed links environment name decls here written domain assigns along coherent typed absent h s v l =
+    let w = declare_all_holds environment coherent decls name (empty_theory name) here refl absent (empty_holds environment coherent name) h in
+    let t = declared_theories_are_typed links environment name decls here coherent typed absent h in
+    structure_is_typed links environment coherent typed here w.is (ap environment w.named ∙ absent) t written domain assigns along s v l
 
 -- ---- a library
 
@@ -186,31 +207,27 @@ theories_flatten typed library name face e = ((typed library).theories name face
 
 pub known_views_translate : KnownViewsTranslate
 known_views_translate environment name face coherent typed e =
-    record {
-      source = flat_typed environment typed face.domain;
-      target = flat_typed environment typed face.codomain;
-      typed = typed.views name face e;
-      atomic = images_atomic (flat_of environment face.domain) (flat_of environment face.codomain) face.map (coherent.views name face e).map_is;
-    }
+    let p = images_proper (flat_of environment face.domain) (flat_of environment face.codomain) face.map (coherent.views name face e).map_is in (
+      record { source = flat_typed environment typed face.domain; target = flat_typed environment typed face.codomain; typed = typed.views name face e; atomic = proper_atomic_map face.map p },
+      p,
+    )
 
 pub known_structures_translate : KnownStructuresTranslate
 known_structures_translate environment name face i structure coherent typed e p =
     let t = typed.theories name face e in
-    record {
-      source = flat_typed environment typed structure.domain;
-      target = t.signature;
-      typed = t.maps i structure p;
-      atomic = images_atomic (flat_of environment structure.domain) (flat_signature environment face) structure.map ((coherent.theories name face e).maps i structure p);
-    }
+    let q = images_proper (flat_of environment structure.domain) (flat_signature environment face) structure.map ((coherent.theories name face e).maps i structure p) in (
+      record { source = flat_typed environment typed structure.domain; target = t.signature; typed = t.maps i structure p; atomic = proper_atomic_map structure.map q },
+      q,
+    )
 
 pub known_views_carry : KnownViewsCarryTyping
 known_views_carry environment name face context object family coherent typed e h =
-    typing_is_carried (flat_of environment face.domain) (flat_of environment face.codomain) face.map context object family (known_views_translate environment name face coherent typed e) h
+    typing_is_carried (flat_of environment face.domain) (flat_of environment face.codomain) face.map context object family (known_views_translate environment name face coherent typed e).0 h
 
 pub known_structures_carry : KnownStructuresCarryTyping
 known_structures_carry environment name face i structure context object family coherent typed e p h =
     typing_is_carried (flat_of environment structure.domain) (flat_signature environment face) structure.map context object family
-    (known_structures_translate environment name face i structure coherent typed e p) h
+    (known_structures_translate environment name face i structure coherent typed e p).0 h
 
 pub views_carry_typing : FacesAreTyped → ViewsCarryTyping
 views_carry_typing typed library name face context object family e h = known_views_carry (told_by library) name face context object family (library_coherent library) (typed library) e h

@@ -1,12 +1,12 @@
 -- What a module makes is well typed over what is known of others.
-use Rattle.std.proofs.Common.{◌≡◌, ℕ, List, [], ◌∷◌, ◌++◌, slice_get, Option, Some, None, is_some, true, Ok, refl, ap, ◌∙◌, subst}
+use Rattle.std.proofs.Common.{◌≡◌, ℕ, List, [], ◌∷◌, ◌++◌, slice_get, Option, Some, None, is_some, true, Ok, refl, ap, ◌∙◌, subst, append_assoc}
 use Rattle.lf_meaning.specs.Terms.{Name, Path}
-use Rattle.lf_meaning.specs.Signatures.{Class, Value}
+use Rattle.lf_meaning.specs.Signatures.{Class, Value, Signature}
 use Rattle.lf_meaning.specs.Judgements.{IsClass, ValueFits, IsSignature}
 use Rattle.lf_metatheory.proofs.Growing.{empty_signature}
 use Rattle.translation_meaning.specs.HeadMaps.{HeadMap}
 use Rattle.translation_meaning.specs.TypedMaps.{IsTypedMap}
-use Rattle.library_meaning.specs.Faces.{StructureFace, TheoryFace, ViewFace, IsAbsent, Environment, theory_of, flat_signature, flat_of}
+use Rattle.library_meaning.specs.Faces.{StructureFace, TheoryFace, ViewFace, IsAbsent, Environment, theory_of, structure_of, own_parts, flat_signature, flat_of}
 use Rattle.library_meaning.specs.Coherence.{IsCoherentTheory, IsCoherent}
 use Rattle.text_meaning.specs.Trees.{Expr, Written, Assign, Decl, IncludeDecl, StructDecl, ConstDecl}
 use Rattle.expansion_meaning.specs.Values.{expand_class, expand_value}
@@ -16,7 +16,7 @@ use Rattle.expansion_typing.specs.TypingOfExpansion.{IsTypedScope}
 use Rattle.expansion_typing.proofs.Expanding.{standing_class_is_class, standing_value_fits}
 use Rattle.link_meaning.specs.Refusals.{labelled}
 use Rattle.link_meaning.specs.Passes.{link_map}
-use Rattle.link_meaning.specs.Induced.{with_structure}
+use Rattle.link_meaning.specs.Induced.{induced, with_structure}
 use Rattle.link_meaning.proofs.Covered.{good_same}
 use Rattle.link_meaning.proofs.Valued.{label_came}
 use Rattle.verdict_meaning.specs.Dependencies.{first_name}
@@ -24,7 +24,7 @@ use Rattle.verdict_meaning.specs.Modules.{module_test, scope_in, unused_test, de
 use Rattle.link_coherence_laws.proofs.LinksHold.{added_all}
 use Rattle.link_coherence_laws.proofs.InducedHold.{added_is_induced}
 use Rattle.coherence_laws.proofs.TheoriesHold.{inclusion_step}
-use Rattle.coherence_laws.proofs.ModulesHold.{known_by_test, theory_there, Unused, unused_by, link_holds, scope_ok, setting_ok, declare_holds, view_is_between}
+use Rattle.coherence_laws.proofs.ModulesHold.{known_by_test, theory_there, unused_by, link_holds, scope_ok, setting_ok, declare_holds, view_is_between}
 use Rattle.row_typing.specs.TypedFaces.{IsTypedTheory, IsTypedView, IsTypedEnvironment}
 use Rattle.row_typing.specs.TypedLinks.{HereTyped}
 use Rattle.link_typing.proofs.LinkInterface.{LinksAreTyped}
@@ -53,6 +53,22 @@ module _ (links : LinksAreTyped) (environment : Environment) (coherent : IsCoher
         (standing_value_fits (scope_in environment here) expression class v.item scope_typed h
         (value_sound (scope_in environment here) expression class v.item (label_came label (expand_value (scope_in environment here) expression class) v.item v.came)))
 
+    -- a new structure, the link of which has a map
+    pub structure_is_typed : (name : Written) (from : Name) (assigns : List Assign) (along : HeadMap) → is_some (theory_of environment from) ≡ true → structure_of here.structures (first_name name.path) ≡ None
+        → link_map (structure_setting environment here name from) assigns ≡ Ok along
+        → IsTypedTheory environment (with_structure here (structure_setting environment here name from) (first_name name.path) along)
+        × IsTypedMap (flat_of environment from) (flat_signature environment (with_structure here (structure_setting environment here name from) (first_name name.path) along)) along
+    structure_is_typed name from assigns along s unused l =
+        let ok = setting_ok environment coherent here c absent name from s unused in
+        let m = link_holds (structure_setting environment here name from) ok assigns along l in
+        let e = added_is_induced (structure_setting environment here name from) ok (first_name name.path) (flat_signature environment here ++ added_all (structure_setting environment here name from) (flat_of environment from) along) along refl m.0 in
+        let k = links (structure_setting environment here name from) ok (record { environment = typed; here = here_typed; scope = t.signature }) assigns along l in
+        let more : Signature = induced (structure_setting environment here name from) (first_name name.path) along in
+        let map_is : IsTypedMap (flat_of environment from) (flat_signature environment here ++ more) along = subst (λ z. IsTypedMap (flat_of environment from) (flat_signature environment here ++ z) along) e k.map_is in (
+          structure_typed environment coherent typed here absent t name from along (subst (λ z. IsSignature (flat_signature environment here ++ z)) e k.target) map_is k.included,
+          subst (λ z. IsTypedMap (flat_of environment from) z along) (append_assoc (own_parts environment here.includes) here.own more) map_is,
+        )
+
     declare_typed : (decl : Decl) (next : TheoryFace) → declare environment here decl ≡ Ok next → IsTypedTheory environment next
     declare_typed (IncludeDecl included) next h =
         let m = came_by (module_test environment included.path included) _ next h in
@@ -71,18 +87,7 @@ module _ (links : LinksAreTyped) (environment : Environment) (coherent : IsCoher
         let from : Name = first_name domain.path in
         let l = came_by (link_map (structure_setting environment here name from) assigns) _ next m.goes in
         let s : is_some (theory_of environment from) ≡ true = ap is_some (theory_there environment from m.item (known_by_test domain.span name.path (environment from) m.item m.came)) in
-        subst (IsTypedTheory environment) (good_same l.goes) (structure_next name from assigns l.item s (unused_by here name u.item u.came) l.came)
-      where
-        structure_next : (name : Written) (from : Name) (assigns : List Assign) (along : HeadMap) → is_some (theory_of environment from) ≡ true → Unused here (first_name name.path) → link_map (structure_setting environment here name from) assigns ≡ Ok along
-            → IsTypedTheory environment (with_structure here (structure_setting environment here name from) (first_name name.path) along)
-        structure_next name from assigns along s unused l =
-            let ok = setting_ok environment coherent here c absent name from s unused.structure in
-            let m = link_holds (structure_setting environment here name from) ok assigns along l in
-            let e = added_is_induced (structure_setting environment here name from) ok (first_name name.path) (flat_signature environment here ++ added_all (structure_setting environment here name from) (flat_of environment from) along) along refl m.0 in
-            let k = links (structure_setting environment here name from) ok (record { environment = typed; here = here_typed; scope = t.signature }) assigns along l in
-            structure_typed environment coherent typed here absent t name from along
-            (subst (λ z. IsSignature (flat_signature environment here ++ z)) e k.target)
-            (subst (λ z. IsTypedMap (flat_of environment from) (flat_signature environment here ++ z) along) e k.map_is) k.included
+        subst (IsTypedTheory environment) (good_same l.goes) (structure_is_typed name from assigns l.item s (unused_by here name u.item u.came).structure l.came).0
 
   pub declare_all_typed : (decls : List Decl) (name : Name) (here face : TheoryFace) → here.name ≡ name → environment name ≡ IsAbsent → IsCoherentTheory environment here.name here → IsTypedTheory environment here → declare_all environment here decls ≡ Ok face → IsTypedTheory environment face
   unfolding declare_all

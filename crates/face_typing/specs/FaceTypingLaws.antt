@@ -5,14 +5,15 @@ use Rattle.log_meaning.specs.Log.{Library}
 use Rattle.lf_meaning.specs.Terms.{Object, Family, Context}
 use Rattle.lf_meaning.specs.Judgements.{IsTyping, IsSignature}
 use Rattle.translation_meaning.specs.Translation.{translate_object, translate_family}
+use Rattle.translation_meaning.specs.ProperValues.{ValuesAreProper}
 use Rattle.translation_typing.specs.TypedTranslation.{translate_context, IsTypedTranslation}
 use Rattle.library_meaning.specs.Faces.{StructureFace, TheoryFace, ViewFace, IsTheory, IsView, Environment, flat_signature, flat_of}
 use Rattle.library_meaning.specs.Coherence.{IsCoherent}
 use Rattle.walk_meaning.specs.Walks.{is_grounded}
 use Rattle.verdict_meaning.specs.Dependencies.{dependencies}
-use Rattle.verdict_meaning.specs.Rounds.{known_of, verdicts}
+use Rattle.verdict_meaning.specs.Rounds.{known_of, verdicts, told_by}
 use Rattle.verdict_meaning.specs.VerdictLaws.{known_to}
-use Rattle.coherence_laws.specs.CoherenceLaws.{told_by, AreClosed}
+use Rattle.coherence_laws.specs.CoherenceLaws.{AreClosed}
 use Rattle.row_typing.specs.TypedFaces.{IsTypedEnvironment}
 
 -- Read: the faces of all accepted modules of a library are well typed.
@@ -28,18 +29,18 @@ abbrev pub ClosedAreTyped : Type 0
 ClosedAreTyped = (library : Library) (names : List Name) → AreClosed library names → IsTypedEnvironment (known_of names (verdicts library))
 
 -- Read: where all that is known is coherent and well typed, the map of a view is a typed one between well-typed signatures, of
--- atomic families. So it commutes with raising and substitution, keeps typing, and composes.
+-- atomic families, and its values are proper. So it commutes with raising and substitution, keeps typing, and composes.
 abbrev pub KnownViewsTranslate : Type 0
 KnownViewsTranslate =
     (environment : Environment) (name : Name) (face : ViewFace) → IsCoherent environment → IsTypedEnvironment environment → environment name ≡ IsView face
-    → IsTypedTranslation (flat_of environment face.domain) (flat_of environment face.codomain) face.map
+    → IsTypedTranslation (flat_of environment face.domain) (flat_of environment face.codomain) face.map × ValuesAreProper face.map
 
 -- Read: so is that of a structure of a theory.
 abbrev pub KnownStructuresTranslate : Type 0
 KnownStructuresTranslate =
     (environment : Environment) (name : Name) (face : TheoryFace) (i : ℕ) (structure : StructureFace)
     → IsCoherent environment → IsTypedEnvironment environment → environment name ≡ IsTheory face → slice_get face.structures i ≡ Some structure
-    → IsTypedTranslation (flat_of environment structure.domain) (flat_signature environment face) structure.map
+    → IsTypedTranslation (flat_of environment structure.domain) (flat_signature environment face) structure.map × ValuesAreProper structure.map
 
 -- Read: where all that is known is coherent and well typed, a view carries each typing judgement of its domain to one of its
 -- codomain.

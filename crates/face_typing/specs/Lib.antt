@@ -1,1 +1,2 @@
 pub mod FaceTypingLaws
+pub mod JudgedTyping

@@ -2,6 +2,7 @@
 
 ghost use Rattle.row_typing.specs.TypedLinks.{CoherentMapsAreProper};
 ghost use Rattle.face_typing.specs.FaceTypingLaws.{FacesAreTyped, GroundedKnowTyped, ClosedAreTyped, KnownViewsTranslate, KnownStructuresTranslate, KnownViewsCarryTyping, KnownStructuresCarryTyping, TheoriesFlatten, ViewsCarryTyping, StructuresCarryTyping};
+ghost use Rattle.face_typing.specs.JudgedTyping.{DeclaredTheoriesAreTyped, DeclaredStructuresAreTyped, JudgedTheoriesAreTyped, JudgedViewsAreTyped};
 
 /// In each library the faces of accepted modules are well typed; so an accepted theory flattens to a well-typed signature, and
 /// an accepted view, and each structure, carries every typing judgement of its domain to one of its codomain.
@@ -19,7 +20,7 @@ pub fn law_typed_knowledge()
 {}
 
 /// Where all that is known is coherent and well typed, the maps of views and structures are as the laws of typed translation and
-/// of composition ask.
+/// of composition ask, and their values are proper.
 pub fn law_typed_maps()
     ensures proper { CoherentMapsAreProper }
     ensures views { KnownViewsTranslate }
@@ -30,4 +31,17 @@ pub fn law_typed_maps()
 pub fn law_carrying()
     ensures views { KnownViewsCarryTyping }
     ensures structures { KnownStructuresCarryTyping }
+{}
+
+/// Where all that is known of others is coherent and well typed, and nothing is known of a module itself, a theory is well typed
+/// after each of its declarations, and the map of a structure that is being declared is typed.
+pub fn law_typed_declarations()
+    ensures theories { DeclaredTheoriesAreTyped }
+    ensures structures { DeclaredStructuresAreTyped }
+{}
+
+/// So is what a text is accepted as: a theory, or the map of a view.
+pub fn law_typed_verdicts()
+    ensures theories { JudgedTheoriesAreTyped }
+    ensures views { JudgedViewsAreTyped }
 {}

@@ -9,7 +9,7 @@ use Rattle.translation_meaning.specs.Heads.{Head, ObjectHead, FamilyHead, family
 use Rattle.translation_meaning.specs.ProperValues.{IsValueBody}
 use Rattle.library_meaning.specs.Holding.{IsFamilyConstant, ObjectHolds, FamilyHolds, KindHolds, ValueHolds}
 use Rattle.expansion_meaning.specs.Expansion.{domain_of}
-use Rattle.expansion_meaning.specs.Stands.{IsAtomicFamily}
+use Rattle.translation_meaning.specs.AtomicFamilies.{IsAtomicFamily}
 use Rattle.holding_laws.specs.HoldingLaws.{Grows}
 use Rattle.holding_laws.specs.HeadsHold.{PartlyHolds, UnderBinders, OnSpine, HeadHolds}
 use Rattle.holding_laws.proofs.Growing.{object_grows, family_grows, kind_grows}

@@ -11,7 +11,7 @@ use Rattle.translation_meaning.specs.Translation.{object_image, headed_image, tr
 use Rattle.translation_meaning.specs.ProperValues.{IsValueBody}
 use Rattle.library_meaning.specs.Holding.{IsObjectConstant, IsFamilyConstant, ObjectHolds, ArgumentsHold, FamilyHolds, KindHolds, ClassHolds, ValueHolds, AlikeClasses}
 use Rattle.library_meaning.specs.Coherence.{declared_names, mapped_names}
-use Rattle.expansion_meaning.specs.Stands.{IsAtomicFamily}
+use Rattle.translation_meaning.specs.AtomicFamilies.{IsAtomicFamily}
 use Rattle.expansion_meaning.proofs.Binding.{some_same}
 use Rattle.holding_laws.specs.TranslationHolds.{MapsInto, CoherentMapsInto, CompositionIsCoherent}
 use Rattle.holding_laws.proofs.Replaced.{HeadedHolds, domains_map, action_holds, replace_holds}

@@ -9,7 +9,8 @@ use Rattle.library_meaning.specs.Holding.{ObjectHolds, FamilyHolds, KindHolds, C
 use Rattle.library_meaning.specs.Coherence.{DeclarationsHold}
 use Rattle.text_meaning.specs.Trees.{Expr, Exprs}
 use Rattle.expansion_meaning.specs.Locals.{Locals}
-use Rattle.expansion_meaning.specs.Stands.{IsAtomicFamily, StandsObject, StandsHead, StandsArguments, StandsFamily, StandsKind, StandsClass, StandsFamilyValue, StandsValue}
+use Rattle.translation_meaning.specs.AtomicFamilies.{IsAtomicFamily}
+use Rattle.expansion_meaning.specs.Stands.{StandsObject, StandsHead, StandsArguments, StandsFamily, StandsKind, StandsClass, StandsFamilyValue, StandsValue}
 use Rattle.holding_laws.specs.HeadsHold.{HeadHolds}
 
 -- Read: the constants of a scope: those of the theories that are included, in order, and then the own ones.

@@ -5,7 +5,7 @@ use Rattle.lf_meaning.specs.Erasure.{head_constant}
 use Rattle.lf_meaning.specs.Signatures.{Signature}
 use Rattle.translation_meaning.specs.Heads.{Head, ObjectHead, FamilyHead}
 use Rattle.library_meaning.specs.Holding.{IsFamilyConstant, ObjectHolds, ArgumentsHold, FamilyHolds, KindHolds}
-use Rattle.expansion_meaning.specs.Stands.{IsAtomicFamily}
+use Rattle.translation_meaning.specs.AtomicFamilies.{IsAtomicFamily}
 
 -- Read: with so many variables around it, a family that still misses so many arguments holds only these, its binders, and
 -- constants of the signature. Either it is atomic and has a binder for each argument that it misses, or it is a constant on

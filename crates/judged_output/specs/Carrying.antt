@@ -1,7 +1,6 @@
 -- Carrying a judgement along a view (Rabe and Kohlhase 2013, section 4: morphisms carry judgements; which texts are judgements,
 -- and the order of tests, are this profile's).
-use Rattle.std.specs.Prelude.{[], Option, Some, None, codes}
-use Rattle.std.proofs.Common.{Ok, Err}
+use Rattle.std.specs.Prelude.{[], Option, Some, None, Ok, Err, codes}
 use Rattle.lf_meaning.specs.Terms.{Name, Object, Family}
 use Rattle.log_meaning.specs.Names.{Text}
 use Rattle.text_meaning.specs.Trees.{Judgement}

@@ -2,12 +2,11 @@
 use Rattle.std.specs.Prelude.{[], Option, Some, None}
 use Rattle.log_meaning.specs.Names.{Name, Text}
 use Rattle.log_meaning.specs.Log.{Library}
-use Rattle.library_meaning.specs.Faces.{Environment}
 use Rattle.link_meaning.specs.Refusals as refusals
 use Rattle.expansion_meaning.specs.Rules.{word_of}
 use Rattle.verdict_meaning.specs.Dependencies.{dependencies}
 use Rattle.verdict_meaning.specs.Verdicts as verdicts
-use Rattle.verdict_meaning.specs.Rounds.{verdict_of, known_if}
+use Rattle.verdict_meaning.specs.Rounds.{verdict_of, told_by}
 use Rattle.printing_meaning.specs.VerdictLines.{Refusal, Judged, Refused, AcceptedTheory, AcceptedView}
 use Rattle.run_meaning.specs.Judging.{Judging}
 use Rattle.judged_output.specs.Carrying.{carry}
@@ -26,14 +25,10 @@ abbrev pub judged_if : Option verdicts.Verdict → Judged
 judged_if None = Refused (record { at = 0; rule = []; label = [] })
 judged_if (Some verdict) = judged_by verdict
 
--- Read: what is known of each module of a library, by its verdict.
-abbrev pub environment_by_rules : Library → Environment
-environment_by_rules library name = known_if (verdict_of library name)
-
 -- Read: the judging of the rules.
 abbrev pub rules : Judging
 rules = record {
   dependencies = dependencies;
   judged = λ (library : Library) (name : Name). judged_if (verdict_of library name);
-  carried = λ (library : Library) (view : Name) (text : Text). carry (environment_by_rules library) view text;
+  carried = λ (library : Library) (view : Name) (text : Text). carry (told_by library) view text;
 }

@@ -5,7 +5,7 @@ use Rattle.library_meaning.specs.Faces.{Environment, theory_of, includes_of}
 use Rattle.library_meaning.specs.Closure.{sees, with_all, brought, with_inclusion, closure_of}
 use Rattle.library_meaning.specs.Coherence.{IsClosure}
 
--- Read: one more inclusion leaves a closure a closure.
+-- Read: one more inclusion leaves a closure a closure, where what it includes is a closure itself.
 abbrev pub InclusionKeepsClosure : Type 0
 InclusionKeepsClosure =
     (environment : Environment) (closure : List Name) (theory : Name) → IsClosure environment closure → IsClosure environment (includes_of (theory_of environment theory))

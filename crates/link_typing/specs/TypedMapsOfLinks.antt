@@ -1,6 +1,7 @@
--- The maps of links are typed (Rabe and Kohlhase 2013, section 3: morphisms are typed assignments).
-use Rattle.std.specs.Prelude.{◌≡◌, List}
-use Rattle.std.proofs.Common.{Ok}
+-- The maps of links between known theories are typed (Rabe and Kohlhase 2013, section 3: morphisms are typed assignments). Such
+-- a link is no structure, and its codomain is not being built. Of a structure, the theory of which is being built, the laws of
+-- typed faces say it.
+use Rattle.std.specs.Prelude.{◌≡◌, List, Ok}
 use Rattle.translation_meaning.specs.HeadMaps.{HeadMap}
 use Rattle.translation_meaning.specs.TypedMaps.{IsTypedMap}
 use Rattle.library_meaning.specs.Faces.{flat_of}

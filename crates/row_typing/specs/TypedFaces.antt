@@ -17,7 +17,7 @@ copy_of theory structure declaration =
 abbrev pub copies_of : Environment → Name → StructureFace → Signature
 copies_of environment theory structure = filter_map (copy_of theory structure) (own_part environment structure.domain)
 
--- Read: the constant has an image whose value fits the image's class.
+-- Read: the constant has an image whose value fits the image's class over the signature.
 pub record HasFittingImage (to : Signature) (along : HeadMap) (declaration : Declaration) : Type 0 where
   pub image : Image
   pub mapped : image_of along declaration.name ≡ Some image

@@ -23,7 +23,8 @@ pub record HereTyped (environment : Environment) (here : Option TheoryFace) : Ty
   pub structures : (face : TheoryFace) → here ≡ Some face → (i : ℕ) (structure : StructureFace) → slice_get face.structures i ≡ Some structure
       → IsTypedMap (flat_of environment structure.domain) (flat_signature environment face) structure.map
 
--- Read: a row of words means a link with a typed map.
+-- Read: a row of words means a link with a typed map, where all that is known is coherent and well typed, and so is the theory
+-- that is being built.
 abbrev pub RowsAreTyped : Type 0
 RowsAreTyped =
     (environment : Environment) (here : Option TheoryFace) (words : List Path) (link : Link) → IsCoherent environment → IsTypedEnvironment environment

@@ -9,7 +9,8 @@ use Rattle.lf_substitution_laws.proofs.Families.{head_constant_map}
 use Rattle.translation_meaning.specs.Heads.{Head, ObjectHead, FamilyHead, head_takes}
 use Rattle.translation_meaning.specs.HeadMaps.{Image, HeadMap, image_of}
 use Rattle.translation_meaning.specs.Translation.{family_image, family_head_image, translate_object, translate_head, family_of, translate_family}
-use Rattle.sorted_translation.specs.AtomicBodies.{IsAtomic, HasAtomicBody, BodiesAreAtomic}
+use Rattle.translation_meaning.specs.AtomicFamilies.{IsAtomicFamily}
+use Rattle.sorted_translation.specs.AtomicBodies.{HasAtomicBody, BodiesAreAtomic}
 
 -- the constant at the head of a head's family
 abbrev pub base_of : Head → Constant → Constant
@@ -63,11 +64,11 @@ module _ (along : HeadMap) (atomic : BodiesAreAtomic along) where
   erase_translated (Pi a b) = ap₂ Arrow (erase_translated a) (erase_translated b)
   erase_translated (AtFamily p) = family_base (bases along (head_constant p)) (translate_head along p) p (head_base p)
 
-  atomic_of : (base : Constant) (head : Head) (p : AtomicFamily) → HasBase base head → IsAtomic (family_of head p)
+  atomic_of : (base : Constant) (head : Head) (p : AtomicFamily) → HasBase base head → IsAtomicFamily (family_of head p)
   atomic_of base (ObjectHead object classifier) p h = absurd h
   atomic_of base (FamilyHead binders (Pi a b) kind) p h = absurd h
   atomic_of base (FamilyHead binders (AtFamily q) kind) p h = tt
 
-  pub atomic_translated : (p : AtomicFamily) → IsAtomic (translate_family along (AtFamily p))
+  pub atomic_translated : (p : AtomicFamily) → IsAtomicFamily (translate_family along (AtFamily p))
   unfolding translate_family
   atomic_translated p = atomic_of (bases along (head_constant p)) (translate_head along p) p (head_base p)

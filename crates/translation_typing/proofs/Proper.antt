@@ -5,7 +5,8 @@ use Rattle.lf_meaning.specs.Signatures.{Value, SameAs, TermValue, FamilyValue}
 use Rattle.translation_meaning.specs.Translation.{object_value, family_value}
 use Rattle.translation_meaning.specs.ProperValues.{IsProperValue}
 use Rattle.translation_meaning.specs.ProperValues.{IsNoConstant, IsValueBody}
-use Rattle.sorted_translation.specs.AtomicBodies.{IsAtomic, HasAtomicBody}
+use Rattle.translation_meaning.specs.AtomicFamilies.{IsAtomicFamily}
+use Rattle.sorted_translation.specs.AtomicBodies.{HasAtomicBody}
 
 pub proper_object : (o : Object) → IsNoConstant o → object_value o ≡ TermValue o
 proper_object (Lam m) h = refl
@@ -30,7 +31,7 @@ object_value_proper (At (Var i)) = tt
 object_value_proper (At (Con c)) = tt
 object_value_proper (At (App r m)) = tt
 
-pub family_value_proper : (n : ℕ) (family : Family) → IsAtomic family → IsProperValue (family_value n family)
+pub family_value_proper : (n : ℕ) (family : Family) → IsAtomicFamily family → IsProperValue (family_value n family)
 family_value_proper n (Pi a b) h = absurd h
 family_value_proper zero (AtFamily (FamilyCon c)) h = tt
 family_value_proper zero (AtFamily (FamilyApp p m)) h = tt

@@ -56,6 +56,10 @@ verdicts library = rounds library (ungrounded_names library) (suc (length librar
 unfoldable pub verdict_of : Library → Name → Option Verdict
 verdict_of library name = verdict_under (verdicts library) name
 
+-- Read: what the verdicts of a library tell of each name.
+abbrev pub told_by : Library → Environment
+told_by library name = known_if (verdict_of library name)
+
 -- Read: the subject that the board is over: modules, with these dependencies and verdicts.
 abbrev pub modules : Subject Verdict
 modules = record { dependencies = dependencies; answer = verdict_of }

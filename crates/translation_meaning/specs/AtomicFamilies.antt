@@ -1,0 +1,8 @@
+-- Families that are no Π (Harper and Licata 2007, section 2: atomic families).
+use Rattle.std.specs.Prelude.{⊤}
+use Rattle.lf_meaning.specs.Terms.{Family, Pi, AtFamily}
+
+-- Read: the family is no Π.
+abbrev pub IsAtomicFamily : Family → Type 0
+IsAtomicFamily (Pi domain codomain) = ⊥
+IsAtomicFamily (AtFamily p) = ⊤
