@@ -1,5 +1,5 @@
--- Where the faces of a name's reach are known, whatever else is, what is carried is what is carried where that reach alone is
--- known; and of that all is coherent and well typed.
+-- Where the faces of a name's reach are known, whatever else is, the same is carried as where that reach alone is known; and of
+-- that all is coherent and well typed.
 use Rattle.std.proofs.Common.{◌≡◌, Bool, true, false, List, [], is_some, refl, sym, ap, ◌∙◌, subst, true≢false}
 use Rattle.lf_meaning.specs.Terms.{Object, Family}
 use Rattle.lf_meaning.specs.Judgements.{IsTyping}
@@ -14,18 +14,20 @@ use Rattle.library_meaning.specs.Coherence.{IsCoherent}
 use Rattle.link_meaning.proofs.Linked.{known_theory}
 use Rattle.verdict_meaning.specs.Dependencies.{dependencies}
 use Rattle.verdict_meaning.specs.Modules.{scope_in}
-use Rattle.verdict_meaning.specs.Rounds.{verdict_under, known_if, known_of, verdicts}
+use Rattle.verdict_meaning.specs.Rounds.{verdict_under, known_if, known_of, verdicts, told_by}
 use Rattle.verdict_meaning.proofs.Shortness.{reach_within_reach}
 use Rattle.coherence_laws.specs.CoherenceLaws.{AreClosed}
-use Rattle.coherence_laws.proofs.LibrariesHold.{known_in, absent_known, closed_are_coherent}
+use Rattle.coherence_laws.proofs.LibrariesHold.{told_under, known_in, absent_known, closed_are_coherent}
 use Rattle.acceptance_laws.proofs.Alike.{Alike, alike_back, AllNamed, flat_alike, stands_for_alike}
 use Rattle.acceptance_laws.proofs.StandsAlike.{object_alike, family_alike}
 use Rattle.row_typing.specs.TypedFaces.{IsTypedEnvironment}
 use Rattle.link_typing.proofs.LinksTyped.{links_are_typed}
 use Rattle.face_typing.proofs.LibrariesTyped.{closed_are_typed}
+use Rattle.printing_meaning.specs.CarriedLines.{Carries}
+use Rattle.judged_output.specs.Carrying.{carry}
 use Rattle.judged_output.specs.CarryingLaws.{IsTranslated}
 use Rattle.judged_output.proofs.Translated.{carry_is_translation}
-use Rattle.carried_typing.specs.CarriedTyping.{IsCarried, HaveReachOf, FacesCarryTyping}
+use Rattle.carried_typing.specs.CarriedTyping.{IsCarried, HaveReachOf, FacesCarryTyping, FacesCarryAlike}
 use Rattle.carried_typing.proofs.Carried.{translated_from, translated_to}
 
 -- ---- two environments that are alike on a view and its ends
@@ -81,22 +83,13 @@ module _ (library : Library) (name : Name) where
       by true e = refl
       by false e = absurd (true≢false (sym s ∙ ap (λ k. is_some (theory_face k)) (known_in library (reach dependencies library name) x false e)))
 
-  module _ (names : List Name) (have : HaveReachOf library names name) where
-    abbrev of_names : Environment
-    of_names = known_of names (verdicts library)
+  -- ---- another environment in which the same is known of the reach
 
-    known_same : (x : Name) → reached x ≡ true → of_reach x ≡ of_names x
-    known_same x n = known_in library (reach dependencies library name) x true n ∙ sym (by (is_among names x) (is_present library x) refl refl)
-      where
-        by : (b p : Bool) → is_among names x ≡ b → is_present library x ≡ p → of_names x ≡ known_if (verdict_under (verdicts library) x)
-        by true p e q = known_in library names x true e
-        by false true e q = absurd (true≢false (sym (have x n q) ∙ e))
-        by false false e q = known_in library names x false e ∙ sym (absent_known library x q)
-
-    reach_alike : Alike reached of_reach of_names
+  module _ (environment : Environment) (same : (x : Name) → reached x ≡ true → of_reach x ≡ environment x) where
+    reach_alike : Alike reached of_reach environment
     reach_alike =
         record {
-          same = known_same;
+          same = same;
           includes = λ x face other n e m. there_reached other ((reach_coherent.theories x face e).includes other (member_among face.includes other m));
           domains = λ x face structure n e m.
               let p = place_of face.structures structure m in
@@ -104,29 +97,62 @@ module _ (library : Library) (name : Name) where
           ends = λ x face n e. there_reached face.domain ((reach_coherent.views x face e).domain);
         }
 
-    module _ (text : Text) (object : Object) (family : Family) (t : IsTranslated of_names name text object family) where
-      view_there : of_reach name ≡ IsView t.view
-      view_there = known_same name itself_reached ∙ t.view_is
+    module _ (text : Text) (object : Object) (family : Family) where
+      from_reach : IsTranslated of_reach name text object family → IsTranslated environment name text object family
+      from_reach t =
+          translated_alike reached of_reach environment reach_alike name text object family t itself_reached
+          (there_reached t.view.domain ((reach_coherent.views name t.view t.view_is).domain))
 
-      domain_reached : reached t.view.domain ≡ true
-      domain_reached = there_reached t.view.domain ((reach_coherent.views name t.view view_there).domain)
+      module _ (t : IsTranslated environment name text object family) where
+        view_there : of_reach name ≡ IsView t.view
+        view_there = same name itself_reached ∙ t.view_is
 
-      codomain_reached : reached t.view.codomain ≡ true
-      codomain_reached = there_reached t.view.codomain ((reach_coherent.views name t.view view_there).codomain)
+        domain_reached : reached t.view.domain ≡ true
+        domain_reached = there_reached t.view.domain ((reach_coherent.views name t.view view_there).domain)
 
-      abbrev in_reach : IsTranslated of_reach name text object family
-      in_reach = translated_alike reached of_names of_reach (alike_back reached of_reach of_names reach_alike) name text object family t itself_reached domain_reached
+        codomain_reached : reached t.view.codomain ≡ true
+        codomain_reached = there_reached t.view.codomain ((reach_coherent.views name t.view view_there).codomain)
 
-      pub carried_in_reach : IsCarried of_names name text object family
-      carried_in_reach =
-          record {
-            translated = t;
-            is_typing = subst (λ z. IsTyping z [] t.from_object t.from_family) (flat_alike reached of_reach of_names reach_alike t.view.domain domain_reached)
-                (translated_from of_reach reach_coherent reach_typed name text object family in_reach);
-            carried_typing = subst (λ z. IsTyping z [] object family) (flat_alike reached of_reach of_names reach_alike t.view.codomain codomain_reached)
-                (translated_to of_reach reach_coherent reach_typed name text object family in_reach);
-          }
+        abbrev in_reach : IsTranslated of_reach name text object family
+        in_reach = translated_alike reached environment of_reach (alike_back reached of_reach environment reach_alike) name text object family t itself_reached domain_reached
+
+        pub carried_in_reach : IsCarried environment name text object family
+        carried_in_reach =
+            record {
+              translated = t;
+              is_typing = subst (λ z. IsTyping z [] t.from_object t.from_family) (flat_alike reached of_reach environment reach_alike t.view.domain domain_reached)
+                  (translated_from of_reach reach_coherent reach_typed name text object family in_reach);
+              carried_typing = subst (λ z. IsTyping z [] object family) (flat_alike reached of_reach environment reach_alike t.view.codomain codomain_reached)
+                  (translated_to of_reach reach_coherent reach_typed name text object family in_reach);
+            }
+
+  -- ---- such environments
+
+  told_same : (x : Name) → reached x ≡ true → of_reach x ≡ told_by library x
+  told_same x n = known_in library (reach dependencies library name) x true n ∙ sym (told_under library x)
+
+  known_same : (names : List Name) → HaveReachOf library names name → (x : Name) → reached x ≡ true → of_reach x ≡ known_of names (verdicts library) x
+  known_same names have x n = known_in library (reach dependencies library name) x true n ∙ sym (by (is_among names x) (is_present library x) refl refl)
+    where
+      by : (b p : Bool) → is_among names x ≡ b → is_present library x ≡ p → known_of names (verdicts library) x ≡ known_if (verdict_under (verdicts library) x)
+      by true p e q = known_in library names x true e
+      by false true e q = absurd (true≢false (sym (have x n q) ∙ e))
+      by false false e q = known_in library names x false e ∙ sym (absent_known library x q)
+
+  -- what is carried in the one is carried in the other
+  carried_too : (first second : Environment) → ((x : Name) → reached x ≡ true → of_reach x ≡ first x) → ((x : Name) → reached x ≡ true → of_reach x ≡ second x)
+      → (text : Text) (object : Object) (family : Family) → carry first name text ≡ Carries object family → carry second name text ≡ Carries object family
+  carried_too first second f g text object family h =
+      (carry_is_translation second name text object family).1
+      (from_reach second g text object family (in_reach first f text object family ((carry_is_translation first name text object family).0 h)))
 
 pub faces_carry_typing : FacesCarryTyping
 faces_carry_typing library names name text object family have h =
-    carried_in_reach library name names have text object family ((carry_is_translation (known_of names (verdicts library)) name text object family).0 h)
+    carried_in_reach library name (known_of names (verdicts library)) (known_same library name names have) text object family
+    ((carry_is_translation (known_of names (verdicts library)) name text object family).0 h)
+
+pub faces_carry_alike : FacesCarryAlike
+faces_carry_alike library names name text object family have = (
+  carried_too library name (known_of names (verdicts library)) (told_by library) (known_same library name names have) (told_same library name) text object family,
+  carried_too library name (told_by library) (known_of names (verdicts library)) (told_same library name) (known_same library name names have) text object family,
+)

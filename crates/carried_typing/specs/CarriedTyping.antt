@@ -1,5 +1,5 @@
 -- What is carried along an accepted view (Rabe and Kohlhase 2013, section 4: morphisms preserve judgements).
-use Rattle.std.specs.Prelude.{◌≡◌, true, List, []}
+use Rattle.std.specs.Prelude.{◌≡◌, ◌↔◌, true, List, []}
 use Rattle.lf_meaning.specs.Terms.{Object, Family}
 use Rattle.lf_meaning.specs.Judgements.{IsTyping}
 use Rattle.log_meaning.specs.Names.{Name, Text, is_among}
@@ -45,3 +45,9 @@ abbrev pub FacesCarryTyping : Type 0
 FacesCarryTyping =
     (library : Library) (names : List Name) (name : Name) (text : Text) (object : Object) (family : Family) → HaveReachOf library names name
     → carry (known_of names (verdicts library)) name text ≡ Carries object family → IsCarried (known_of names (verdicts library)) name text object family
+
+-- Read: what is carried over such names is what is carried over all that the verdicts tell.
+abbrev pub FacesCarryAlike : Type 0
+FacesCarryAlike =
+    (library : Library) (names : List Name) (name : Name) (text : Text) (object : Object) (family : Family) → HaveReachOf library names name
+    → (carry (known_of names (verdicts library)) name text ≡ Carries object family) ↔ (carry (told_by library) name text ≡ Carries object family)
