@@ -7,11 +7,11 @@ use Rattle.text_meaning.specs.Nesting.{Nesting}
 use Rattle.text_meaning.specs.Reading.{Target, Tree, Spells, nesting, Begins, is_too_deep, any_too_deep, StopsAt, IsLeftOut, IsTooDeepAt, Answer, Read, Syntax, TooDeep, Unsupported, IsAnswer, with_end, IsAnswerTo}
 use Rattle.text_meaning.specs.Parsing.{State, Whole, AtOperand, step, level, run, levels, is_refused, is_left_out, fault, answer_at_end, answer_on, start, parse}
 use Rattle.text_laws.specs.ReadingLaws.{answer_to, read}
-use Rattle.reading_laws.specs.AnswerLaws.{TokensHaveOneAnswer, EachTextHasOneReading}
+use Rattle.reading_laws.specs.AnswerLaws.{TokensHaveOneAnswer, EachTextHasOneReading, TextsSpellOneTree}
 use Rattle.token_laws.proofs.CutFollows.{or_front, or_back}
 use Rattle.token_laws.proofs.OneCut.{one_cut}
 use Rattle.text_laws.proofs.Runs.{levels-append}
-use Rattle.text_laws.proofs.Spelled.{spelled_reads}
+use Rattle.text_laws.proofs.Spelled.{spelled_reads, trees_are_determined}
 use Rattle.text_laws.proofs.Fits.{Fits}
 use Rattle.text_laws.proofs.Sound.{step_fits, run_fits, start_fits, read_spelled}
 use Rattle.text_laws.proofs.Completes.{Alive, step_lives, start_alive, refused_run}
@@ -248,3 +248,16 @@ one_reading target text =
       is_read = (lex text, (one_cut text).is_cut, lexed_answer target (lex text));
       only = λ other h. only_lexed_answer target h.0 other h.2 ∙ ap (answer_to target) ((one_cut text).only h.0 h.1);
     }
+
+-- ---- trees of a text
+
+abbrev input_of : Lexed → List Token
+input_of (Tokens ts end) = with_end ts end
+input_of (NotUtf8 at) = []
+input_of (OpenComment at) = []
+
+pub one_spelled : TextsSpellOneTree
+one_spelled target text t u h g =
+    let cuts = (one_cut text).only in
+    let same : with_end h.0 h.1 ≡ with_end g.0 g.1 = ap input_of (cuts (Tokens h.0 h.1) h.2 ∙ sym (cuts (Tokens g.0 g.1) g.2)) in
+    trees_are_determined target (with_end g.0 g.1) t u (subst (λ ts. Spells target ts t) same h.3) g.3

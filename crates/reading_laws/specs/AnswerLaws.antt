@@ -1,7 +1,8 @@
 -- What holds of the answers of a reader.
 use Rattle.std.specs.Prelude.{◌≡◌, ℕ, List}
 use Rattle.text_meaning.specs.Tokens.{Token}
-use Rattle.text_meaning.specs.Reading.{Target, Answer, IsAnswer, with_end, Reads}
+use Rattle.text_meaning.specs.Cut.{Tokens, IsLexed}
+use Rattle.text_meaning.specs.Reading.{Target, Tree, Spells, Answer, IsAnswer, with_end, Reads}
 use Rattle.text_meaning.specs.Parsing.{parse}
 use Rattle.text_laws.specs.ReadingLaws.{read}
 
@@ -20,3 +21,11 @@ pub record HasOneReading (target : Target) (text : List ℕ) : Type 0 where
 
 abbrev pub EachTextHasOneReading : Type 0
 EachTextHasOneReading = (target : Target) (text : List ℕ) → HasOneReading target text
+
+-- The text spells this tree, however deep.
+abbrev pub TextSpells : Target → List ℕ → Tree → Type 0
+TextSpells target text tree = (ts : List Token) × (end : ℕ) × IsLexed text (Tokens ts end) × Spells target (with_end ts end) tree
+
+-- Two trees of one text are equal.
+abbrev pub TextsSpellOneTree : Type 0
+TextsSpellOneTree = (target : Target) (text : List ℕ) (t u : Tree) → TextSpells target text t → TextSpells target text u → t ≡ u
