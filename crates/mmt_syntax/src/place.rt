@@ -12,7 +12,8 @@ pub struct Place {
 }
 
 /// The place of the byte at an index of a text, or of its end: the line is 1 and one more for each line feed in front
-/// of it, the column is 1 and one more for each byte behind the last of these line feeds.
+/// of it, the column is 1 and one more for each byte behind the last of these line feeds. The text has at most 2^26
+/// bytes, and the index is not past its end.
 pub fn place_of(text: &[u8], at: u32) -> Place
     requires small { length text.now ≤ 2 ^ 26 }
     requires within { at ≤ length text.now }

@@ -19,7 +19,7 @@ use std::alloc::Global;
 
 /// The text of an expression, without parentheses around the whole. Wherever the expression is one that some text
 /// spells, this text spells it up to spans, and no text that spells it has fewer parentheses. Within a judgement it is
-/// read again as that expression where nothing stands deeper than 500.
+/// read again as that expression where nothing stands deeper than 500. It recurses as deep as the expression is nested.
 pub fn print_expr(alloc: Global, expr: &Expr) -> Result<Bytes, Memory>
     ensures text { IfOk result (λ text. text ≡ expr_text (read_expr expr.now)) }
     ensures spells { IfOk result (λ text. IsSpelledExpr (read_expr expr.now) → SpellsBackExpr text (read_expr expr.now)) }

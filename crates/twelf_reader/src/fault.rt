@@ -9,12 +9,14 @@ use std::alloc::{AllocError, AllocFailed};
 /// Where reading stops and why, or want of memory. A place is a number of bytes from the beginning of the text.
 #[derive(Clone, Copy, Debug, PartialEq, Eq)]
 pub enum ReadFault {
-    /// No text that reads goes on with this token, or the text has a fault of the lexer here.
+    /// No text that reads goes on with this token, or the text has a fault of the lexer here. Where the input ends too
+    /// early, the place is its end: that of the text, or the `%.` that ends it.
     Syntax { at: u32 },
     /// An expression stands at nesting 501 here.
     TooDeep { at: u32 },
     /// The same as `Syntax`, where this profile leaves the token out.
     Unsupported { at: u32 },
+    /// Want of memory.
     Memory,
 }
 
