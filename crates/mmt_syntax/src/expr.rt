@@ -13,8 +13,8 @@ pub enum Binder {
     Blank,
 }
 
-/// An expression, from its first token to its last, without parentheses around the whole. Letting one go recurses as deep
-/// as it is nested, with a loop over the arguments of an application.
+/// An expression, from its first token to its last, without parentheses around the whole. Letting one go recurses as
+/// deep as it is nested, with a loop over the arguments of an application.
 #[cycle(expressions)]
 #[derive(Debug, Drop)]
 pub struct Expr {

@@ -1,4 +1,5 @@
-//! Trees that are written out: each call with ample memory. Trees are held in boxes and lists, which are let go by calls.
+//! Trees that are written out: each call with ample memory. Trees are held in boxes and lists, which are let go by
+//! calls.
 
 use super::*;
 use lf_terms::{Bytes, Name, Path, Span};

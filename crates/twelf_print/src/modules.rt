@@ -14,8 +14,9 @@ use lf_terms::{Bytes, Memory};
 use mmt_syntax::{Assign, Assigns, Decl, Decls, Expr, Module, Morph, StructDecl, ViewDecl};
 use std::alloc::Global;
 
-/// The text of a module. Wherever the module is one that some text spells, this text spells it up to spans, no text that
-/// spells it has fewer parentheses, and it is read again as that module where nothing in it stands deeper than 500.
+/// The text of a module. Wherever the module is one that some text spells, this text spells it up to spans, no text
+/// that spells it has fewer parentheses, and it is read again as that module where nothing in it stands deeper than
+/// 500.
 pub fn print_module(alloc: Global, module: &Module) -> Result<Bytes, Memory>
     ensures text { IfOk result (λ text. text ≡ module_text (read_module «module».now)) }
     ensures spells { IfOk result (λ text. IsSpelledModule (read_module «module».now) → SpellsBack text (read_module «module».now)) }

@@ -13,9 +13,9 @@ use mmt_syntax::{Judgement, Module};
 use std::alloc::Global;
 use twelf_lexer::{Cut, LexFault, lex};
 
-/// The one module that a text of at most 2^26 bytes spells, at a nesting of at most 500. It answers the tree exactly where
-/// the text has this reading, and `Syntax`, `TooDeep` or `Unsupported` at a place exactly where the text has this fault
-/// there; but it may answer `Memory` for any text.
+/// The one module that a text of at most 2^26 bytes spells, at a nesting of at most 500. It answers the tree exactly
+/// where the text has this reading, and `Syntax`, `TooDeep` or `Unsupported` at a place exactly where the text has
+/// this fault there; but it may answer `Memory` for any text.
 pub fn read_module(alloc: Global, text: &[u8]) -> Result<Module, ReadFault>
     requires small { length text.now ≤ 2 ^ 26 }
     ensures ok { IfOk result (λ m. Reads ModuleText text.now (Read (ModuleTree (syntax.read_module m)))) }
@@ -32,9 +32,9 @@ pub fn read_module(alloc: Global, text: &[u8]) -> Result<Module, ReadFault>
     reader.whole_module()
 }
 
-/// The one judgement that a text of at most 2^26 bytes spells, `expression : expression`, at a nesting of at most 500. It
-/// answers the tree exactly where the text has this reading, and `Syntax`, `TooDeep` or `Unsupported` at a place exactly
-/// where the text has this fault there; but it may answer `Memory` for any text.
+/// The one judgement that a text of at most 2^26 bytes spells, `expression : expression`, at a nesting of at most
+/// 500. It answers the tree exactly where the text has this reading, and `Syntax`, `TooDeep` or `Unsupported` at a
+/// place exactly where the text has this fault there; but it may answer `Memory` for any text.
 pub fn read_judgement(alloc: Global, text: &[u8]) -> Result<Judgement, ReadFault>
     requires small { length text.now ≤ 2 ^ 26 }
     ensures ok { IfOk result (λ j. Reads JudgementText text.now (Read (JudgementTree (syntax.read_judgement j)))) }
