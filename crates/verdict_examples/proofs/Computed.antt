@@ -28,7 +28,7 @@ use Rattle.verdict_meaning.specs.Modules.{declare_all}
 use Rattle.verdict_meaning.specs.Verdicts.{judge}
 use Rattle.verdict_meaning.specs.Rounds.{verdict_under, others_reached, ungrounded_names, rounds, verdicts, verdict_of}
 use Rattle.verdict_examples.specs.RuleExamples.{ViewIsNoTheory, NameUsedTwice, ObjectIsNoFamily, AtomIsNoFunction, OtherDomain, TargetIsUnknown, TargetIsAssignedTwice, EndsDoNotMeet, ProductIsNoValue, FamilyOfAnotherKind, FamilyUnderLambda, FamilyApplied, SharedStructureDisagrees}
-use Rattle.verdict_examples.specs.Examples.{NaturalNumbers, MisspelledName, EtaShortArgument, EtaLongArgument, MonoidOverLogic, MixedCopies, TwoCopies, AssignedStructure, Ring, BareStructure, AssignedConstantsAreDefined, RingHasOneSet, SharedInclusion, AmbiguousName, QualifiedName, ViewOfDefinition, ClashWithDefinition, MissingAssignment, IllTypedAssignment, FirstCovering, DisagreeingInclusions, EmptyText, PercentWord, OpenComment, WrongName, CycleOfA, CycleOfB, CycleOfC, AWithoutB, BWithoutB, CWithoutB}
+use Rattle.verdict_examples.specs.Examples.{NaturalNumbers, MisspelledName, EtaShortArgument, EtaLongArgument, MonoidOverLogic, MixedCopies, TwoCopies, AssignedStructure, Ring, BareStructure, AssignedConstantsAreDefined, RingHasOneSet, SharedInclusion, AmbiguousName, QualifiedName, ViewOfDefinition, ClashWithDefinition, MissingAssignment, IllTypedAssignment, FirstCovering, DisagreeingInclusions, NineAreAccepted, EmptyText, PercentWord, OpenComment, WrongName, CycleOfA, CycleOfB, CycleOfC, AWithoutB, BWithoutB, CWithoutB}
 
 -- What all worked cases compute with.
 abbrev judging : Unit {0}
@@ -110,6 +110,10 @@ first_covering = refl
 pub disagreeing_inclusions : DisagreeingInclusions
 unfolding judging
 disagreeing_inclusions = refl
+
+pub nine_are_accepted : NineAreAccepted
+unfolding judging
+nine_are_accepted = refl
 
 pub empty_text : EmptyText
 unfolding judging

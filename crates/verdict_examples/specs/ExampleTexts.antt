@@ -36,13 +36,13 @@ abbrev pub text_Nat_plus : Text
 text_Nat_plus = codes "%sig Nat = {\nnat : type.\nz : nat.\ns : nat -> nat.\nplus : nat -> nat -> nat.\n%struct m : Car = { a := nat. op := plus. }.\n}.\n"
 
 abbrev pub text_Set : Text
-text_Set = codes "%sig Set = {\na : type.\n}.\n"
+text_Set = codes "%sig Set = { a : type. }.\n"
 
 abbrev pub text_Mag : Text
-text_Mag = codes "%sig Mag = {\n%struct u : Set.\nop : u.a -> u.a -> u.a.\n}.\n"
+text_Mag = codes "%sig Mag = { %struct u : Set. op : u.a -> u.a -> u.a. }.\n"
 
 abbrev pub text_Ring : Text
-text_Ring = codes "%sig Ring = {\n%struct add : Mag.\n%struct mul : Mag = { %struct u := Ring.add.u. }.\n}.\n"
+text_Ring = codes "%sig Ring = { %struct add : Mag. %struct mul : Mag = { %struct u := Ring.add.u. }. }.\n"
 
 abbrev pub text_Bare : Text
 text_Bare = codes "%sig Bare = {\n%struct m : Magma.\n}.\n"
@@ -123,10 +123,10 @@ abbrev pub text_Empty : Text
 text_Empty = []
 
 abbrev pub text_Mode : Text
-text_Mode = codes "%sig Z = {\n%mode a."
+text_Mode = codes "%sig Z = {\n%mode a.\n"
 
 abbrev pub text_Open : Text
-text_Open = codes "%{ open"
+text_Open = codes "%{ open\n"
 
 abbrev pub text_A_ring : Text
 text_A_ring = codes "%sig A = {\n%include B.\n}.\n"

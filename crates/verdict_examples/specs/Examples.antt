@@ -1,9 +1,10 @@
 -- Worked cases: what is told of a text that is put behind others.
-use Rattle.std.specs.Prelude.{◌≡◌, [], ◌∷◌, drop, Some, None, codes}
+use Rattle.std.specs.Prelude.{◌≡◌, List, [], ◌∷◌, ◌++◌, drop, Some, None, codes}
 use Rattle.lf_meaning.specs.Terms.{Name, Path, Constant, Family, Pi, AtFamily, FamilyCon, Ty}
 use Rattle.lf_meaning.specs.Signatures.{Class, FamilyClass, KindClass, SameAs}
+use Rattle.log_meaning.specs.Log.{Module}
 use Rattle.expansion_meaning.specs.Rules.{Rule}
-use Rattle.verdict_examples.specs.Telling.{TheoryOf, ViewOf, RefusedAt, Absent, under, told_of, told_after_drop, library_with, own_of_verdict}
+use Rattle.verdict_examples.specs.Telling.{TheoryOf, ViewOf, RefusedAt, Absent, under, told_of, told_by_check, told_after_drop, library_with, own_of_verdict}
 use Rattle.verdict_meaning.specs.Rounds.{verdict_of}
 use Rattle.verdict_examples.specs.ExampleTexts.{text_Nat, text_Nat_misspelled, text_E, text_E_long, text_FOL, text_Magma, text_Monoid, text_Car, text_Two_mixed, text_Two, text_Nat_plus, text_Set, text_Mag, text_Ring, text_Bare, text_A, text_B, text_C, text_D, text_B_two, text_C_two, text_D_two, text_D_one, text_Def, text_T, text_V, text_W, text_X, text_X_ill, text_R, text_P, text_Q, text_S, text_T_four, text_VR1, text_VR2, text_VP, text_VQ, text_V_both, text_Empty, text_Mode, text_Open, text_A_ring, text_B_ring, text_C_ring}
 
@@ -19,9 +20,9 @@ MisspelledName = told_of [] (codes "Nat") text_Nat_misspelled ≡ RefusedAt 4 12
 abbrev pub EtaShortArgument : Type 0
 EtaShortArgument = told_of [] (codes "E") text_E ≡ RefusedAt 5 11 Rule.NotCanonical (codes "d" ∷ [])
 
--- The same, long.
+-- The same, long, put in its place.
 abbrev pub EtaLongArgument : Type 0
-EtaLongArgument = told_of [] (codes "E") text_E_long ≡ TheoryOf 4
+EtaLongArgument = told_of (under (codes "E") text_E ∷ []) (codes "E") text_E_long ≡ TheoryOf 4
 
 -- Monoid over first-order logic: the structure shares the logic.
 abbrev pub MonoidOverLogic : Type 0
@@ -45,7 +46,7 @@ Ring = told_of (under (codes "Set") text_Set ∷ under (codes "Mag") text_Mag �
 
 -- A structure in a theory that lacks what its domain includes.
 abbrev pub BareStructure : Type 0
-BareStructure = told_of (under (codes "FOL") text_FOL ∷ under (codes "Magma") text_Magma ∷ []) (codes "Bare") text_Bare ≡ RefusedAt 2 9 Rule.IncludeNotCovered (codes "FOL" ∷ [])
+BareStructure = told_of (under (codes "FOL") text_FOL ∷ under (codes "Magma") text_Magma ∷ under (codes "Monoid") text_Monoid ∷ []) (codes "Bare") text_Bare ≡ RefusedAt 2 9 Rule.IncludeNotCovered (codes "FOL" ∷ [])
 
 -- A diamond of inclusions.
 abbrev pub SharedInclusion : Type 0
@@ -65,23 +66,44 @@ ViewOfDefinition = told_of (under (codes "Def") text_Def ∷ under (codes "T") t
 
 -- A view that does not.
 abbrev pub ClashWithDefinition : Type 0
-ClashWithDefinition = told_of (under (codes "Def") text_Def ∷ under (codes "T") text_T ∷ []) (codes "W") text_W ≡ RefusedAt 4 6 Rule.DefinitionClash (codes "d" ∷ [])
+ClashWithDefinition = told_of (under (codes "Def") text_Def ∷ under (codes "T") text_T ∷ under (codes "V") text_V ∷ []) (codes "W") text_W ≡ RefusedAt 4 6 Rule.DefinitionClash (codes "d" ∷ [])
 
 -- A constant without an image.
 abbrev pub MissingAssignment : Type 0
-MissingAssignment = told_of (under (codes "Def") text_Def ∷ under (codes "T") text_T ∷ []) (codes "X") text_X ≡ RefusedAt 1 7 Rule.MissingAssignment (codes "c" ∷ [])
+MissingAssignment = told_of (under (codes "Def") text_Def ∷ under (codes "T") text_T ∷ under (codes "V") text_V ∷ under (codes "W") text_W ∷ []) (codes "X") text_X ≡ RefusedAt 1 7 Rule.MissingAssignment (codes "c" ∷ [])
 
--- A value of another class.
+-- A value of another class, in a view put in the place of the last one.
 abbrev pub IllTypedAssignment : Type 0
-IllTypedAssignment = told_of (under (codes "Def") text_Def ∷ under (codes "T") text_T ∷ []) (codes "X") text_X_ill ≡ RefusedAt 3 6 Rule.Mismatch (codes "c" ∷ [])
+IllTypedAssignment = told_of (under (codes "Def") text_Def ∷ under (codes "T") text_T ∷ under (codes "V") text_V ∷ under (codes "W") text_W ∷ under (codes "X") text_X ∷ []) (codes "X") text_X_ill ≡ RefusedAt 3 6 Rule.Mismatch (codes "c" ∷ [])
 
--- A view over what it includes.
+-- A view that covers what its domain includes.
 abbrev pub FirstCovering : Type 0
 FirstCovering = told_of (under (codes "R") text_R ∷ under (codes "P") text_P ∷ under (codes "Q") text_Q ∷ under (codes "S") text_S ∷ under (codes "T") text_T_four ∷ under (codes "VR1") text_VR1 ∷ under (codes "VR2") text_VR2 ∷ []) (codes "VP") text_VP ≡ ViewOf 2
 
+-- Read: nine modules, among them two theories that include R, a theory that includes both, and views of the two that cover R by
+-- different views.
+abbrev pub two_coverings : List Module
+two_coverings = under (codes "R") text_R ∷ under (codes "P") text_P ∷ under (codes "Q") text_Q ∷ under (codes "S") text_S ∷ under (codes "T") text_T_four ∷ under (codes "VR1") text_VR1 ∷ under (codes "VR2") text_VR2 ∷ under (codes "VP") text_VP ∷ under (codes "VQ") text_VQ ∷ []
+
 -- Two coverings of R that differ.
 abbrev pub DisagreeingInclusions : Type 0
-DisagreeingInclusions = told_of (under (codes "R") text_R ∷ under (codes "P") text_P ∷ under (codes "Q") text_Q ∷ under (codes "S") text_S ∷ under (codes "T") text_T_four ∷ under (codes "VR1") text_VR1 ∷ under (codes "VR2") text_VR2 ∷ under (codes "VP") text_VP ∷ under (codes "VQ") text_VQ ∷ []) (codes "V") text_V_both ≡ RefusedAt 3 10 Rule.MorphismsDisagree (codes "V" ∷ [])
+DisagreeingInclusions = told_of two_coverings (codes "V") text_V_both ≡ RefusedAt 3 10 Rule.MorphismsDisagree (codes "V" ∷ [])
+
+-- What a check tells of all ten: the first nine are accepted.
+abbrev pub NineAreAccepted : Type 0
+NineAreAccepted =
+    told_by_check (library_with (two_coverings ++ under (codes "V") text_V_both ∷ []))
+    ≡ (codes "P", TheoryOf 2)
+    ∷ (codes "Q", TheoryOf 2)
+    ∷ (codes "R", TheoryOf 1)
+    ∷ (codes "S", TheoryOf 3)
+    ∷ (codes "T", TheoryOf 4)
+    ∷ (codes "V", RefusedAt 3 10 Rule.MorphismsDisagree (codes "V" ∷ []))
+    ∷ (codes "VP", ViewOf 2)
+    ∷ (codes "VQ", ViewOf 2)
+    ∷ (codes "VR1", ViewOf 1)
+    ∷ (codes "VR2", ViewOf 1)
+    ∷ []
 
 -- The empty text.
 abbrev pub EmptyText : Type 0

@@ -1,5 +1,5 @@
 -- How worked cases are stated: texts are put into a library, and the verdict on one of them is told.
-use Rattle.std.specs.Prelude.{ℕ, suc, ◌+◌, ◌==◌, List, [], ◌∷◌, ◌++◌, Option, Some, None, length, filter, fold, take, if◌then◌else◌}
+use Rattle.std.specs.Prelude.{ℕ, suc, ◌+◌, ◌==◌, List, [], ◌∷◌, ◌++◌, Option, Some, None, map, length, filter, fold, take, if◌then◌else◌}
 use Rattle.lf_meaning.specs.Signatures.{Signature}
 use Rattle.log_meaning.specs.Names.{Name, Text}
 use Rattle.log_meaning.specs.Log.{Module, Library, with_module, without_module}
@@ -46,6 +46,10 @@ library_with texts = fold (λ (library : Library) (own : Module). with_module ow
 -- Read: what is told of a text that is put behind these.
 abbrev pub told_of : List Module → Name → Text → Told
 told_of texts name text = told text (verdict_of (library_with (texts ++ under name text ∷ [])) name)
+
+-- Read: what a check tells of a library: its names in byte order, each with what is told of its verdict.
+abbrev pub told_by_check : Library → List (Name × Told)
+told_by_check library = map (λ (own : Module). (own.name, told own.text (verdict_of library own.name))) library
 
 -- Read: what is told of a name, with this text, after the texts were put and another name was dropped.
 abbrev pub told_after_drop : List Module → Name → Name → Text → Told

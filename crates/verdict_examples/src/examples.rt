@@ -1,7 +1,7 @@
 //! Worked cases: each function does nothing, and its contract is proved by computing.
 
 ghost use Rattle.verdict_examples.specs.RuleExamples.{ViewIsNoTheory, NameUsedTwice, ObjectIsNoFamily, AtomIsNoFunction, OtherDomain, TargetIsUnknown, TargetIsAssignedTwice, EndsDoNotMeet, ProductIsNoValue, FamilyOfAnotherKind, FamilyUnderLambda, FamilyApplied, SharedStructureDisagrees};
-ghost use Rattle.verdict_examples.specs.Examples.{NaturalNumbers, MisspelledName, EtaShortArgument, EtaLongArgument, MonoidOverLogic, MixedCopies, TwoCopies, AssignedStructure, Ring, BareStructure, AssignedConstantsAreDefined, RingHasOneSet, SharedInclusion, AmbiguousName, QualifiedName, ViewOfDefinition, ClashWithDefinition, MissingAssignment, IllTypedAssignment, FirstCovering, DisagreeingInclusions, EmptyText, PercentWord, OpenComment, WrongName, CycleOfA, CycleOfB, CycleOfC, AWithoutB, BWithoutB, CWithoutB};
+ghost use Rattle.verdict_examples.specs.Examples.{NaturalNumbers, MisspelledName, EtaShortArgument, EtaLongArgument, MonoidOverLogic, MixedCopies, TwoCopies, AssignedStructure, Ring, BareStructure, AssignedConstantsAreDefined, RingHasOneSet, SharedInclusion, AmbiguousName, QualifiedName, ViewOfDefinition, ClashWithDefinition, MissingAssignment, IllTypedAssignment, FirstCovering, DisagreeingInclusions, NineAreAccepted, EmptyText, PercentWord, OpenComment, WrongName, CycleOfA, CycleOfB, CycleOfC, AWithoutB, BWithoutB, CWithoutB};
 
 /// Small theories.
 pub fn theories()
@@ -42,6 +42,7 @@ pub fn views()
 pub fn coverings()
     ensures first_covering { FirstCovering }
     ensures disagreeing_inclusions { DisagreeingInclusions }
+    ensures nine_are_accepted { NineAreAccepted }
 {}
 
 /// Texts that do not read, and a wrong name.
