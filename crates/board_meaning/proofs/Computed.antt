@@ -11,7 +11,7 @@ use Rattle.board_meaning.specs.Standing.{installed_claims, is_edited, is_unedite
 use Rattle.board_meaning.specs.Ready.{is_closed, dependencies_stand, is_ready, least_ready}
 use Rattle.board_meaning.specs.Machine.{answers_of, job_after, job_of, install_reply, report_reply, answers_reply, event_of, may_call, after_call}
 use Rattle.board_meaning.specs.Legal.{after_calls, may_make_all}
-use Rattle.board_meaning.specs.Examples.{JobHasStamps, InstallIsStale, WayBackIsStale, StaleIsPending, ClaimedAgain, SecondInstallIsInstalled, VerdictIsTold, NothingIsReady, CallsMayBeMade, AbsentNameIsInput, BothStand, OnlyDependantFalls, DependencyComesFirst, RingIsTold, RingIsNotReady, DroppedIsAbsent, ClosedIsNotReady, ClosedIsUsed, ClosedTellsVerdict, OthersMayNotCall}
+use Rattle.board_meaning.specs.Examples.{JobHasStamps, InstallIsStale, WayBackIsStale, StaleIsPending, ClaimedAgain, HistoryOfStaleInstall, SecondInstallIsInstalled, VerdictIsTold, NothingIsReady, CallsMayBeMade, AbsentNameIsInput, BothStand, OnlyDependantFalls, DependencyComesFirst, RingIsTold, RingIsNotReady, DroppedIsAbsent, ClosedIsNotReady, ClosedIsUsed, ClosedTellsVerdict, OthersMayNotCall}
 
 -- What all examples compute with.
 abbrev machine : Unit {0}
@@ -37,6 +37,10 @@ stale_is_pending = refl
 pub claimed_again : ClaimedAgain
 unfolding machine
 claimed_again = refl
+
+pub history_of_stale_install : HistoryOfStaleInstall
+unfolding machine
+history_of_stale_install = refl
 
 pub second_install_is_installed : SecondInstallIsInstalled
 unfolding machine

@@ -4,7 +4,7 @@ use Rattle.log_meaning.specs.Names.{Name, Text}
 use Rattle.log_meaning.specs.Log.{Put, Drop, Library, text_of, is_present}
 use Rattle.walk_meaning.specs.Reach.{reach}
 use Rattle.walk_meaning.specs.Subject.{Subject}
-use Rattle.board_meaning.specs.Events.{History}
+use Rattle.board_meaning.specs.Events.{EditMade, Claim, Install, Stale, History}
 use Rattle.board_meaning.specs.Claims.{Input}
 use Rattle.board_meaning.specs.Standing.{stands}
 use Rattle.board_meaning.specs.Machine.{claim_reply, IsInstalled, IsStale, install_reply, IsVerdict, IsPending, IsAbsent, report_reply, Call, EditCall, ClaimCall, InstallCall, ReleaseCall, CloseCall}
@@ -80,6 +80,19 @@ ClaimedAgain =
 abbrev pub installed_again : List PassCall
 installed_again =
     put A [] ∷ by_front ClaimCall ∷ put A B ∷ put A [] ∷ by_front (InstallCall 1) ∷ by_front ClaimCall ∷ by_front (InstallCall 5) ∷ []
+
+-- What these calls leave: one entry each. The stale install is the entry at place 4, and the claim that it ends is at place 1.
+abbrev pub HistoryOfStaleInstall : Type 0
+HistoryOfStaleInstall =
+    played installed_again
+    ≡ record { pass = 0; version = 1; event = EditMade (Put A []) }
+    ∷ record { pass = 0; version = 1; event = Claim A }
+    ∷ record { pass = 0; version = 2; event = EditMade (Put A B) }
+    ∷ record { pass = 0; version = 3; event = EditMade (Put A []) }
+    ∷ record { pass = 0; version = 3; event = Stale 1 A 3 }
+    ∷ record { pass = 0; version = 3; event = Claim A }
+    ∷ record { pass = 0; version = 3; event = Install 5 }
+    ∷ []
 
 abbrev pub SecondInstallIsInstalled : Type 0
 SecondInstallIsInstalled =

@@ -1,6 +1,6 @@
 //! Worked examples: each function does nothing, and its contract is proved by computing.
 
-ghost use Rattle.board_meaning.specs.Examples.{JobHasStamps, InstallIsStale, WayBackIsStale, StaleIsPending, ClaimedAgain, SecondInstallIsInstalled, VerdictIsTold, NothingIsReady, CallsMayBeMade, AbsentNameIsInput, BothStand, OnlyDependantFalls, DependencyComesFirst, RingIsTold, RingIsNotReady, DroppedIsAbsent, ClosedIsNotReady, ClosedIsUsed, ClosedTellsVerdict, OthersMayNotCall};
+ghost use Rattle.board_meaning.specs.Examples.{JobHasStamps, InstallIsStale, WayBackIsStale, StaleIsPending, ClaimedAgain, HistoryOfStaleInstall, SecondInstallIsInstalled, VerdictIsTold, NothingIsReady, CallsMayBeMade, AbsentNameIsInput, BothStand, OnlyDependantFalls, DependencyComesFirst, RingIsTold, RingIsNotReady, DroppedIsAbsent, ClosedIsNotReady, ClosedIsUsed, ClosedTellsVerdict, OthersMayNotCall};
 
 /// A name is put again, and put back, between a claim and its install.
 pub fn stale_install()
@@ -9,6 +9,7 @@ pub fn stale_install()
     ensures way_back { WayBackIsStale }
     ensures pending { StaleIsPending }
     ensures again { ClaimedAgain }
+    ensures history { HistoryOfStaleInstall }
     ensures installed { SecondInstallIsInstalled }
     ensures told { VerdictIsTold }
     ensures nothing { NothingIsReady }

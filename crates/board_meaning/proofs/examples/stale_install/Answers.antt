@@ -1,4 +1,4 @@
-use Rattle.board_meaning.proofs.Computed.{job_has_stamps, install_is_stale, way_back_is_stale, stale_is_pending, claimed_again, second_install_is_installed, verdict_is_told, nothing_is_ready, calls_may_be_made}
+use Rattle.board_meaning.proofs.Computed.{job_has_stamps, install_is_stale, way_back_is_stale, stale_is_pending, claimed_again, history_of_stale_install, second_install_is_installed, verdict_is_told, nothing_is_ready, calls_may_be_made}
 use Rattle.board_meaning.proofs.examples.stale_install.Goals as goal
 
 pub returns-clause-job : goal.returns-clause-job
@@ -15,6 +15,9 @@ returns-clause-pending c = stale_is_pending
 
 pub returns-clause-again : goal.returns-clause-again
 returns-clause-again c = claimed_again
+
+pub returns-clause-history : goal.returns-clause-history
+returns-clause-history c = history_of_stale_install
 
 pub returns-clause-installed : goal.returns-clause-installed
 returns-clause-installed c = second_install_is_installed
