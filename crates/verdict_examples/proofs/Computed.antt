@@ -31,7 +31,7 @@ use Rattle.verdict_examples.specs.RuleExamples.{ViewIsNoTheory, NameUsedTwice, O
 use Rattle.verdict_examples.specs.Examples.{NaturalNumbers, MisspelledName, EtaShortArgument, EtaLongArgument, MonoidOverLogic, MixedCopies, TwoCopies, AssignedStructure, Ring, BareStructure, AssignedConstantsAreDefined, RingHasOneSet, SharedInclusion, AmbiguousName, QualifiedName, ViewOfDefinition, ClashWithDefinition, MissingAssignment, IllTypedAssignment, FirstCovering, DisagreeingInclusions, NineAreAccepted, EmptyText, PercentWord, OpenComment, WrongName, CycleOfA, CycleOfB, CycleOfC, AWithoutB, BWithoutB, CWithoutB}
 
 -- What all worked cases compute with.
-abbrev judging : Unit {0}
+unfoldable pub judging : Unit {0}
 unfolding encode_utf8 is_utf8 chars utf8_valid_len is_among with_name with_names with_module without_module text_of direct walking reach_within reach image_of translate_object translate_head translate_family translate_kind translate_value compose differ_from structure_of with_all with_inclusion variable_from resolve structures_link row_from row_meaning cut_on lex resume answer_on parse read name_head expand_object expand_head expand_arguments expand_family expand_kind ends_in_type expand_class expand_family_value expand_value is_beginning read_assigns covered_tests rest_behind reached_by map_all assigned_map link_map dependencies declare_all judge verdict_under others_reached ungrounded_names rounds verdicts verdict_of
 judging = tt
 

@@ -2,3 +2,4 @@ pub mod Telling
 pub mod ExampleTexts
 pub mod Examples
 pub mod RuleExamples
+pub mod BoardExamples

@@ -1,5 +1,6 @@
 //! Worked cases: each function does nothing, and its contract is proved by computing.
 
+ghost use Rattle.verdict_examples.specs.BoardExamples.{NatCallsMayBeMade, NatEditsAreMade, NatIsClaimed, MisspelledNatIsStale, NatPutBackIsStale, NatIsPending, NatIsClaimedAgain, NatIsInstalled, NothingButNat, NatIsTold, HistoryOfNat};
 ghost use Rattle.verdict_examples.specs.RuleExamples.{ViewIsNoTheory, NameUsedTwice, ObjectIsNoFamily, AtomIsNoFunction, OtherDomain, TargetIsUnknown, TargetIsAssignedTwice, EndsDoNotMeet, ProductIsNoValue, FamilyOfAnotherKind, FamilyUnderLambda, FamilyApplied, SharedStructureDisagrees};
 ghost use Rattle.verdict_examples.specs.Examples.{NaturalNumbers, MisspelledName, EtaShortArgument, EtaLongArgument, MonoidOverLogic, MixedCopies, TwoCopies, AssignedStructure, Ring, BareStructure, AssignedConstantsAreDefined, RingHasOneSet, SharedInclusion, AmbiguousName, QualifiedName, ViewOfDefinition, ClashWithDefinition, MissingAssignment, IllTypedAssignment, FirstCovering, DisagreeingInclusions, NineAreAccepted, EmptyText, PercentWord, OpenComment, WrongName, CycleOfA, CycleOfB, CycleOfC, AWithoutB, BWithoutB, CWithoutB};
 
@@ -78,4 +79,19 @@ pub fn rules()
     ensures family_under_lambda { FamilyUnderLambda }
     ensures family_applied { FamilyApplied }
     ensures shared_structure_disagrees { SharedStructureDisagrees }
+{}
+
+/// A board over modules: a text is put again, and put back, between a claim and its install.
+pub fn stale_install()
+    ensures may { NatCallsMayBeMade }
+    ensures edits { NatEditsAreMade }
+    ensures job { NatIsClaimed }
+    ensures stale { MisspelledNatIsStale }
+    ensures way_back { NatPutBackIsStale }
+    ensures pending { NatIsPending }
+    ensures again { NatIsClaimedAgain }
+    ensures installed { NatIsInstalled }
+    ensures nothing { NothingButNat }
+    ensures told { NatIsTold }
+    ensures history { HistoryOfNat }
 {}
