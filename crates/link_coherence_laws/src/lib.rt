@@ -1,4 +1,5 @@
-//! Words of morphisms, rows of them, and the maps of links are coherent. There is no code: each function here does nothing, and
+//! A row of words means a coherent map, and the scope of an accepted theory declares each name once, over what stands
+//! before it. The maps of links are coherent by a lemma in `proofs/`. There is no code: each function here does nothing, and
 //! its contract is a law.
 #![tactic(auto)]
 

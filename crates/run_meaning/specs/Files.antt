@@ -66,7 +66,7 @@ name_of piece = first_name piece.name.path
 abbrev pub text_in : File → Piece → Text
 text_in file piece = take (piece.span.to - piece.span.from) (drop piece.span.from file.bytes)
 
--- Read: why a piece is refused whose edit was answered so. Its name is new, so that the first two answers do not come.
+-- Read: why a piece is refused whose edit was answered so. Its name is new, so that `Same` and `Absent` do not come.
 abbrev pub refused_by : Edited → Option FileWord
 refused_by (Made version) = None
 refused_by (Same version) = Some DuplicateName
