@@ -28,7 +28,7 @@ use Rattle.verdict_meaning.specs.Modules.{declare_all}
 use Rattle.verdict_meaning.specs.Verdicts.{judge}
 use Rattle.verdict_meaning.specs.Rounds.{verdict_under, others_reached, ungrounded_names, rounds, verdicts, verdict_of}
 use Rattle.verdict_examples.specs.RuleExamples.{ViewIsNoTheory, NameUsedTwice, ObjectIsNoFamily, AtomIsNoFunction, OtherDomain, TargetIsUnknown, TargetIsAssignedTwice, EndsDoNotMeet, ProductIsNoValue, FamilyOfAnotherKind, FamilyUnderLambda, FamilyApplied, SharedStructureDisagrees}
-use Rattle.verdict_examples.specs.Examples.{NaturalNumbers, MisspelledName, EtaShortArgument, EtaLongArgument, MonoidOverLogic, MixedCopies, TwoCopies, AssignedStructure, Ring, BareStructure, AssignedConstantsAreDefined, RingHasOneSet, SharedInclusion, AmbiguousName, QualifiedName, ViewOfDefinition, ClashWithDefinition, MissingAssignment, IllTypedAssignment, FirstCovering, DisagreeingInclusions, NineAreAccepted, EmptyText, PercentWord, OpenComment, WrongName, CycleOfA, CycleOfB, CycleOfC, AWithoutB, BWithoutB, CWithoutB}
+use Rattle.verdict_examples.specs.Examples.{NaturalNumbers, MisspelledName, EtaShortArgument, EtaLongArgument, MonoidOverLogic, MonoidIsChecked, MixedCopies, TwoCopies, AssignedStructure, Ring, BareStructure, AssignedConstantsAreDefined, RingHasOneSet, SharedInclusion, AmbiguousName, QualifiedName, ViewOfDefinition, ClashWithDefinition, MissingAssignment, IllTypedAssignment, FirstCovering, DisagreeingInclusions, NineAreAccepted, EmptyText, PercentWord, OpenComment, WrongName, CycleOfA, CycleOfB, CycleOfC, AWithoutB, BWithoutB, CWithoutB}
 
 -- What all worked cases compute with.
 unfoldable pub judging : Unit {0}
@@ -54,6 +54,10 @@ eta_long_argument = refl
 pub monoid_over_logic : MonoidOverLogic
 unfolding judging
 monoid_over_logic = refl
+
+pub monoid_is_checked : MonoidIsChecked
+unfolding judging
+monoid_is_checked = refl
 
 pub mixed_copies : MixedCopies
 unfolding judging

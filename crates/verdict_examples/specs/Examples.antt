@@ -28,6 +28,15 @@ EtaLongArgument = told_of (under (codes "E") text_E ∷ []) (codes "E") text_E_l
 abbrev pub MonoidOverLogic : Type 0
 MonoidOverLogic = told_of (under (codes "FOL") text_FOL ∷ under (codes "Magma") text_Magma ∷ []) (codes "Monoid") text_Monoid ≡ TheoryOf 9
 
+-- What a check tells of the three.
+abbrev pub MonoidIsChecked : Type 0
+MonoidIsChecked =
+    told_by_check (library_with (under (codes "FOL") text_FOL ∷ under (codes "Magma") text_Magma ∷ under (codes "Monoid") text_Monoid ∷ []))
+    ≡ (codes "FOL", TheoryOf 5)
+    ∷ (codes "Magma", TheoryOf 6)
+    ∷ (codes "Monoid", TheoryOf 9)
+    ∷ []
+
 -- Two copies of one theory are not mixed.
 abbrev pub MixedCopies : Type 0
 MixedCopies = told_of (under (codes "Car") text_Car ∷ []) (codes "Two") text_Two_mixed ≡ RefusedAt 7 16 Rule.Mismatch (codes "w" ∷ [])

@@ -1,8 +1,11 @@
-use Rattle.verdict_examples.proofs.Computed.{monoid_over_logic, mixed_copies, two_copies, assigned_structure, ring, bare_structure, assigned_constants_are_defined, ring_has_one_set}
+use Rattle.verdict_examples.proofs.Computed.{monoid_over_logic, monoid_is_checked, mixed_copies, two_copies, assigned_structure, ring, bare_structure, assigned_constants_are_defined, ring_has_one_set}
 use Rattle.verdict_examples.proofs.examples.structures.Goals as goal
 
 pub returns-clause-monoid_over_logic : goal.returns-clause-monoid_over_logic
 returns-clause-monoid_over_logic c = monoid_over_logic
+
+pub returns-clause-monoid_is_checked : goal.returns-clause-monoid_is_checked
+returns-clause-monoid_is_checked c = monoid_is_checked
 
 pub returns-clause-mixed_copies : goal.returns-clause-mixed_copies
 returns-clause-mixed_copies c = mixed_copies
