@@ -81,7 +81,8 @@ abbrev pub installed_again : List PassCall
 installed_again =
     put A [] ∷ by_front ClaimCall ∷ put A B ∷ put A [] ∷ by_front (InstallCall 1) ∷ by_front ClaimCall ∷ by_front (InstallCall 5) ∷ []
 
--- What these calls leave: one entry each. The stale install is the entry at place 4, and the claim that it ends is at place 1.
+-- What these calls leave: one entry each. The stale install is the entry at place 4, and the claim that it ends is at
+-- place 1.
 abbrev pub HistoryOfStaleInstall : Type 0
 HistoryOfStaleInstall =
     played installed_again

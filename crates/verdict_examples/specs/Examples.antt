@@ -89,8 +89,8 @@ IllTypedAssignment = told_of (under (codes "Def") text_Def ∷ under (codes "T")
 abbrev pub FirstCovering : Type 0
 FirstCovering = told_of (under (codes "R") text_R ∷ under (codes "P") text_P ∷ under (codes "Q") text_Q ∷ under (codes "S") text_S ∷ under (codes "T") text_T_four ∷ under (codes "VR1") text_VR1 ∷ under (codes "VR2") text_VR2 ∷ []) (codes "VP") text_VP ≡ ViewOf 2
 
--- Read: nine modules, among them two theories that include R, a theory that includes both, and views of the two that cover R by
--- different views.
+-- Read: nine modules, among them two theories that include R, a theory that includes both, and views of the two that
+-- cover R by different views.
 abbrev pub two_coverings : List Module
 two_coverings = under (codes "R") text_R ∷ under (codes "P") text_P ∷ under (codes "Q") text_Q ∷ under (codes "S") text_S ∷ under (codes "T") text_T_four ∷ under (codes "VR1") text_VR1 ∷ under (codes "VR2") text_VR2 ∷ under (codes "VP") text_VP ∷ under (codes "VQ") text_VQ ∷ []
 
