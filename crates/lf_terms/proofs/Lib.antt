@@ -1,3 +1,4 @@
+pub mod KeyedEntries
 pub mod ReadingEquations
 pub mod Raised
 pub mod SpineSameness

@@ -5,14 +5,14 @@ use Rattle.std.proofs.Common.{◌≡◌, ℕ, zero, suc, ◌+◌, Bool, true, fa
 use Rattle.std.specs.Option.{option_map}
 use Rattle.std.specs.Ordering.{on}
 use Rattle.std.specs.List.{AllByRecursion, IsDistinct}
-use Rattle.std.specs.Map.{keys_of, lookup, lookup_key}
+use Rattle.std.specs.Map.{keys_of, lookup, values_of}
 use Rattle.lf_meaning.specs.Signatures.{declaration_of, same_constant}
+use Rattle.lf_terms.proofs.KeyedEntries.{found_by_key}
 use Rattle.lf_terms.specs.Readings.{read_constant, read_declaration, read_signature}
 use Rattle.lf_terms.specs.SameName.{same_qname, same_qname_equiv}
 use Rattle.lf_terms.specs.Tables.{declared, declared_names, HasDistinctNames}
 use Rattle.lf_terms.specs.declared.qname.QName.{QName}
 use Rattle.lf_terms.specs.declared.flat_decl.FlatDecl.{FlatDecl}
-use Rattle.lf_terms.specs.declared.flat_sig.Named.{Named}
 
 module _ {X Y : Type 0} (f : X → Y) where
   all_images : (P : Y → Type 0) (xs : List X) → AllByRecursion (λ x. P (f x)) xs → AllByRecursion P (map f xs)
@@ -37,54 +37,19 @@ declared_read (d ∷ decls) q =
     by false true e rest = absurd (cc)
     by false false e rest = rest
 
--- The declarations of a table's entries.
-abbrev pub decls_of : List (Named × Unit {0}) → List FlatDecl
-decls_of es = map (λ e. e.decl) (keys_of es)
-
-pub found_declared : (q : QName) (es : List (Named × Unit {0})) → option_map (λ e. e.decl) (lookup_key (λ e. same_qname q e.decl.name) es) ≡ declared (decls_of es) q
-found_declared q [] = refl
-found_declared q (e ∷ es) = by (same_qname q e.0.decl.name) (found_declared q es)
-  where
-    by : (b : Bool) → option_map (λ k. k.decl) (lookup_key (λ k. same_qname q k.decl.name) es) ≡ declared (decls_of es) q → option_map (λ k. k.decl) (cond b (Some e.0) (lookup_key (λ k. same_qname q k.decl.name) es)) ≡ cond b (Some e.0.decl) (declared (decls_of es) q)
-    by true rest = refl
-    by false rest = rest
-
-pub contained_declared : (q : QName) (es : List (Named × Unit {0})) → is_some (lookup (λ e. same_qname q e.decl.name) es) ≡ is_some (declared (decls_of es) q)
-contained_declared q [] = refl
-contained_declared q (e ∷ es) = by (same_qname q e.0.decl.name) (contained_declared q es)
-  where
-    by : (b : Bool) → is_some (lookup (λ k. same_qname q k.decl.name) es) ≡ is_some (declared (decls_of es) q) → is_some (cond b (Some e.1) (lookup (λ k. same_qname q k.decl.name) es)) ≡ is_some (cond b (Some e.0.decl) (declared (decls_of es) q))
-    by true rest = refl
-    by false rest = rest
-
-pub decls_pushed : (es : List (Named × Unit {0})) (k : Named) (v : Unit {0}) → decls_of (es ++ (k, v) ∷ []) ≡ decls_of es ++ k.decl ∷ []
-decls_pushed [] k v = refl
-decls_pushed (e ∷ es) k v = ap (λ ds. e.0.decl ∷ ds) (decls_pushed es k v)
-
-pub item_declared : (es : List (Named × Unit {0})) (i : ℕ) → option_map (λ e. e.0.decl) (slice_get es i) ≡ slice_get (decls_of es) i
-item_declared [] i = refl
-item_declared (e ∷ es) zero = refl
-item_declared (e ∷ es) (suc i) = item_declared es i
-
-skipped : (test : FlatDecl → Bool) (es : List (Named × Unit {0})) → prefix_len (λ e. not (test e.decl)) (keys_of es) ≡ prefix_len (λ d. not (test d)) (decls_of es)
-skipped test [] = refl
-skipped test (e ∷ es) = ap (λ n. cond (not (test e.0.decl)) (1 + n) 0) (skipped test es)
-
-counted : (es : List (Named × Unit {0})) → length (keys_of es) ≡ length (decls_of es)
-counted [] = refl
-counted (e ∷ es) = ap suc (counted es)
-
-pub place_declared : (test : FlatDecl → Bool) (es : List (Named × Unit {0})) → position (λ e. test e.decl) (keys_of es) ≡ position test (decls_of es)
-place_declared test es = rw (skipped test es, counted es) refl
+-- A name is among the keys of declarations, kept under their names, exactly where it is declared.
+pub contained_declared : (q : QName) (es : List (QName × FlatDecl)) → keys_of es ≡ map (λ d. d.name) (values_of es) → is_some (lookup (same_qname q) es) ≡ is_some (declared (values_of es) q)
+contained_declared q es keyed = ap is_some (found_by_key (λ (d : FlatDecl). d.name) (same_qname q) es keyed)
 
 -- What is not found is nothing.
 pub found_nothing : {X : Type 0} (found : Option X) → is_some found ≡ false → found ≡ None
 found_nothing None h = refl
 found_nothing (Some x) h = absurd (cc)
 
-names_twice : (es : List Named) → map (λ e. read_constant e.decl.name) es ≡ declared_names (map (λ e. e.decl) es)
-names_twice [] = refl
-names_twice (e ∷ es) = ap (λ names. read_constant e.decl.name ∷ names) (names_twice es)
+names_read : (decls : List FlatDecl) → map read_constant (map (λ d. d.name) decls) ≡ declared_names decls
+names_read [] = refl
+names_read (d ∷ decls) = ap (λ names. read_constant d.name ∷ names) (names_read decls)
 
-pub distinct_declared : (es : List (Named × Unit {0})) → IsDistinct (on (λ e. e.decl.name) same_qname) (keys_of es) → HasDistinctNames (decls_of es)
-distinct_declared es h = rw (← names_twice (keys_of es)) (distinct_images (λ (e : Named). read_constant e.decl.name) same_constant (keys_of es) h)
+-- Declarations whose names differ as keys have distinct names.
+pub distinct_declared : (decls : List FlatDecl) → IsDistinct same_qname (map (λ d. d.name) decls) → HasDistinctNames decls
+distinct_declared decls h = rw (← names_read decls) (distinct_images read_constant same_constant (map (λ d. d.name) decls) h)

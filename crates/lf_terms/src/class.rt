@@ -21,7 +21,8 @@ pub enum Value {
 }
 
 impl Class {
-    /// An equal classifier, copied as its kind or family is.
+    /// An equal classifier, copied as its kind or family is. It recurses as deep as the classifier is nested, arguments
+    /// included; letting a classifier go does so too.
     pub fn copy(&self, alloc: Global) -> Result<Class, Memory>
         ensures { IfOk result (λ class. read_class class ≡ read_class self.now) }
     {
@@ -33,7 +34,8 @@ impl Class {
 }
 
 impl Value {
-    /// An equal value, copied as its object or family is.
+    /// An equal value, copied as its object or family is. It recurses as deep as the value is nested, arguments
+    /// included; letting a value go does so too.
     pub fn copy(&self, alloc: Global) -> Result<Value, Memory>
         ensures { IfOk result (λ value. read_value value ≡ read_value self.now) }
     {

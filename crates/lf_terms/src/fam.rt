@@ -13,8 +13,8 @@ pub enum Fam {
 }
 
 impl Fam {
-    /// An equal family. It recurses into the domains and bodies of a Π, with a loop over the arguments of a head;
-    /// letting a family go does so too.
+    /// An equal family. It recurses as deep as the family is nested, its arguments included, with a loop over the
+    /// arguments of a head; letting a family go does so too.
     pub fn copy(&self, alloc: Global) -> Result<Fam, Memory>
         ensures { IfOk result (λ family. read_family family ≡ read_family self.now) }
     {

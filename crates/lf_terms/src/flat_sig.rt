@@ -1,73 +1,26 @@
 //! Flat signatures: declarations in order, with a table of their names.
 ghost use Rattle.std.specs.Prelude.{◌≡◌, ◌↔◌, ◌≤◌, ◌∷◌, ◌++◌, [], length, slice_get, IfErr, IsErrOf, IsSome, OnErr, OnOk, IsNone};
 ghost use Rattle.std.specs.Option.{option_copied, option_map};
-ghost use Rattle.std.specs.Ordering.{on};
-ghost use Rattle.std.proofs.Common.{ap};
-ghost use Rattle.std.specs.Cmp.{partial_equiv_from_equiv};
-ghost use Rattle.std.proofs.lemmas.Cmp.{on_equiv};
 ghost use Rattle.lf_meaning.specs.Signatures.{declaration_of};
-ghost use Rattle.lf_terms.specs.SameName.{same_qname, same_qname_equiv, same_qname_sound};
 ghost use Rattle.lf_terms.specs.Readings.{read_constant, read_declaration, read_signature};
 ghost use Rattle.lf_terms.specs.Tables.{declared, handed_back, place_of, HasDistinctNames};
 ghost use Rattle.lf_terms.specs.declared.flat_sig.PushFault.TheVariants.{Twice};
 
 use crate::{FlatDecl, QName};
-use indexmap::{Equivalent, IndexMap};
+use indexmap::IndexMap;
 use std::alloc::Global;
-use std::hash::{Hash, Hasher};
 use std::marker::Model;
-
-/// A declaration, compared and hashed by its name.
-#[derive(Debug, Drop)]
-struct Named {
-    decl: FlatDecl,
-}
-
-impl PartialEq for Named {
-    ghost eq = { on (λ e. e.decl.name) same_qname };
-
-    ghost laws = { partial_equiv_from_equiv (on_equiv (λ e. e.decl.name) same_qname_equiv) };
-
-    fn eq(&self, other: &Self) -> bool {
-        self.decl.name == other.decl.name
-    }
-}
-
-impl Eq for Named {
-    ghost laws = { on_equiv (λ e. e.decl.name) same_qname_equiv };
-}
-
-impl Hash for Named {
-    ghost hash_input = { λ e. ⟦<QName as Hash>⟧.hash_input e.decl.name };
-
-    ghost respects_eq = { λ x y h. ap ⟦<QName as Hash>⟧.hash_input (same_qname_sound x.decl.name y.decl.name h) };
-
-    fn hash<H: Hasher>(&self, state: &mut H) {
-        self.decl.name.hash(state);
-    }
-}
-
-impl Equivalent<Named> for &QName {
-    ghost equivalent = { λ q e. same_qname q.now e.decl.name };
-
-    ghost respects_hash = { λ q e h. ap ⟦<QName as Hash>⟧.hash_input (same_qname_sound q.now e.decl.name h) };
-
-    ghost respects_eq = { λ q x y. same_qname_equiv.congr q.now x.decl.name y.decl.name };
-
-    fn equivalent(&self, key: &Named) -> bool {
-        **self == key.decl.name
-    }
-}
 
 /// Declarations of different names, seen as the list of them, in the order in which they came.
 #[derive(Debug, Drop)]
 pub struct FlatSig {
-    decls: IndexMap<Named, ()>,
+    /// Each declaration under a copy of its name, over the same bytes.
+    decls: IndexMap<QName, FlatDecl>,
 }
 
 impl Model for FlatSig {
-    ghost use Rattle.std.specs.Prelude.{List, map};
-    ghost use Rattle.std.specs.Map.{keys_of};
+    ghost use Rattle.std.specs.Prelude.{◌≡◌, List, map};
+    ghost use Rattle.std.specs.Map.{keys_of, values_of};
     ghost use Rattle.std.specs.Coded.{codes};
     ghost use Rattle.lf_terms.specs.declared.flat_decl.FlatDecl.{FlatDecl};
     ghost use Rattle.lf_terms.specs.contracts.flat_decl.FlatDecl as e;
@@ -76,7 +29,9 @@ impl Model for FlatSig {
 
     ghost coded = { Prim.hlevel (codes, e.the_row.coded) };
 
-    ghost view = { λ s. map (λ e. e.decl) (keys_of s.decls.entries) };
+    ghost view = { λ s. values_of s.decls.entries };
+
+    ghost invariant = { λ s. keys_of s.decls.entries ≡ map (λ d. d.name) (values_of s.decls.entries) };
 }
 
 /// Why a declaration was not added. It comes back with the reason.
@@ -84,6 +39,7 @@ impl Model for FlatSig {
 pub enum PushFault {
     /// Its name is declared already.
     Twice(FlatDecl),
+    /// Want of memory.
     Memory(FlatDecl),
 }
 
@@ -108,24 +64,33 @@ impl FlatSig {
         if self.decls.contains_key(&decl.name) {
             return Err(PushFault::Twice(decl));
         }
-        match self.decls.insert(Named { decl }, ()) {
-            Ok(_) => Ok(()),
-            Err(failed) => Err(PushFault::Memory(failed.value.0.decl)),
+        let alloc = *self.decls.allocator();
+        match decl.name.copy(alloc) {
+            Ok(name) => match self.decls.insert(name, decl) {
+                Ok(previous) => {
+                    drop(previous);
+                    Ok(())
+                }
+                Err(failed) => {
+                    let (name, decl) = failed.value;
+                    drop(name);
+                    Err(PushFault::Memory(decl))
+                }
+            },
+            Err(_) => Err(PushFault::Memory(decl)),
         }
     }
 
-    /// The declaration of a name.
+    /// The declaration of a name. None exactly where the name is not there.
     pub fn get(&self, name: &QName) -> Option<&FlatDecl>
         ensures declaration { option_copied result ≡ declared self.now name.now }
         ensures meaning { option_map (λ d. read_declaration d.now) result ≡ declaration_of (read_signature self.now) (read_constant name.now) }
     {
-        match self.decls.get_key_value(name) {
-            Some((named, _)) => Some(&named.decl),
-            None => None,
-        }
+        self.decls.get(name)
     }
 
-    /// The index of the declaration of a name, counted from 0. It takes constant time.
+    /// The index of the declaration of a name, counted from 0. None exactly where the name is not there. It takes
+    /// expected constant time, by a hash table.
     pub fn place(&self, name: &QName) -> Option<usize>
         ensures { result ≡ place_of self.now name.now }
     {
@@ -138,7 +103,7 @@ impl FlatSig {
         ensures none { IsNone result ↔ (length self.now ≤ i) }
     {
         match self.decls.get_index(i) {
-            Some((named, _)) => Some(&named.decl),
+            Some((_, decl)) => Some(decl),
             None => None,
         }
     }

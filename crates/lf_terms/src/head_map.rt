@@ -35,6 +35,7 @@ impl Model for HeadMap {
 pub enum MapFault {
     /// The constant has an image already.
     Twice(QName, Image),
+    /// Want of memory.
     Memory(QName, Image),
 }
 
@@ -68,7 +69,7 @@ impl HeadMap {
         }
     }
 
-    /// The image of a constant.
+    /// The image of a constant. None exactly where the name is not there.
     pub fn get(&self, name: &QName) -> Option<&Image>
         ensures { option_copied result ≡ image_of self.now name.now }
     {

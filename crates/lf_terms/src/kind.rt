@@ -13,7 +13,8 @@ pub enum Kind {
 }
 
 impl Kind {
-    /// An equal kind. It recurses into the domains and bodies of a Π; letting a kind go does so too.
+    /// An equal kind. It recurses as deep as the kind is nested, the arguments in its families included; letting a
+    /// kind go does so too.
     pub fn copy(&self, alloc: Global) -> Result<Kind, Memory>
         ensures { IfOk result (λ kind. read_kind kind ≡ read_kind self.now) }
     {

@@ -22,6 +22,7 @@ use std::sync::ArcStr;
 pub enum NameFault {
     /// The text is no identifier, or it is a reserved word.
     NotAName,
+    /// Want of memory.
     Memory,
 }
 

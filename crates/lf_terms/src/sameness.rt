@@ -48,7 +48,8 @@ fn same_spine(a: &Spine, b: &Spine) -> bool
     true
 }
 
-/// Whether two families are equal. It recurses into the domains and bodies of a Π.
+/// Whether two families are equal. It recurses as deep as the families are nested, their arguments included, with a
+/// loop over the arguments of a head.
 pub fn same_fam(a: &Fam, b: &Fam) -> bool
     ensures { result ≡ same_family (read_family a.now) (read_family b.now) }
 {
@@ -61,7 +62,7 @@ pub fn same_fam(a: &Fam, b: &Fam) -> bool
     }
 }
 
-/// Whether two kinds are equal. It recurses into the domains and bodies of a Π.
+/// Whether two kinds are equal. It recurses as deep as the kinds are nested, the arguments in their families included.
 pub fn same_kind(a: &Kind, b: &Kind) -> bool
     ensures { result ≡ meaning.same_kind (read_kind a.now) (read_kind b.now) }
 {
@@ -72,7 +73,7 @@ pub fn same_kind(a: &Kind, b: &Kind) -> bool
     }
 }
 
-/// Whether two classifiers are equal.
+/// Whether two classifiers are equal. It recurses as deep as the classifiers are nested, arguments included.
 pub fn same_class(a: &Class, b: &Class) -> bool
     ensures { result ≡ meaning.same_class (read_class a.now) (read_class b.now) }
 {
@@ -83,7 +84,7 @@ pub fn same_class(a: &Class, b: &Class) -> bool
     }
 }
 
-/// Whether two values are equal.
+/// Whether two values are equal. It recurses as deep as the values are nested, arguments included.
 pub fn same_value(a: &Value, b: &Value) -> bool
     ensures { result ≡ meaning.same_value (read_value a.now) (read_value b.now) }
 {

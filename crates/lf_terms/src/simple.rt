@@ -2,7 +2,7 @@
 
 use crate::QName;
 
-/// A base, named by a family constant, or an arrow.
+/// A base, named by a family constant, or an arrow. Letting a simple type go recurses into its arrows.
 #[derive(Debug, Drop)]
 pub enum Simple {
     Base(QName),

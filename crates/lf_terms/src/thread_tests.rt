@@ -47,3 +47,11 @@ fn shared_signatures_cross(signature: &Arc<FlatSig>) {
 fn shared_values_cross<X: Drop + Send + Sync>(shared: &Arc<X>) {
     crosses(shared);
 }
+
+struct Held {
+    signature: FlatSig,
+}
+
+fn held_signatures_cross(held: &Held) {
+    crosses(held);
+}

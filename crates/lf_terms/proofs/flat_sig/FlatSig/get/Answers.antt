@@ -1,31 +1,24 @@
-use Rattle.std.proofs.Common.{◌≡◌, Option, Some, None, ap, ◌∙◌}
-use Rattle.std.specs.Option.{option_map}
+use Rattle.std.proofs.Common.{◌≡◌, Bor, Option, Some, None, refl, ap, ◌∙◌}
+use Rattle.std.specs.Option.{option_copied, option_map}
 use Rattle.lf_terms.specs.Readings.{read_declaration}
+use Rattle.lf_terms.specs.SameName.{same_qname}
 use Rattle.lf_terms.specs.Tables.{declared}
 use Rattle.lf_terms.specs.declared.flat_decl.FlatDecl.{FlatDecl}
-use Rattle.lf_terms.specs.declared.flat_sig.Named.{Named}
-use Rattle.lf_terms.proofs.Lookup.{declared_read, found_declared}
+use Rattle.lf_terms.proofs.KeyedEntries.{found_by_key}
+use Rattle.lf_terms.proofs.Lookup.{declared_read}
 use Rattle.lf_terms.proofs.flat_sig.FlatSig.get.Goals as goal
-use Rattle.lf_terms.proofs.flat_sig.FlatSig.get.Goals.{In-Some, In-None}
+use Rattle.lf_terms.proofs.flat_sig.FlatSig.get.Goals.{After-get}
 
-found : (c : In-Some) → Some c.in-Some.named.now.decl ≡ declared c.args.self.now c.args.name.now
+found : (c : After-get) → option_copied c.get.result ≡ declared c.args.self.now c.args.name.now
 found c =
-    let at = ap (option_map (λ (e : Named). e.decl)) c.in-Some.ensures.key in
-    rw (← c.self.view_is) (at ∙ found_declared c.args.name.now c.self.inside.decls.entries)
+    rw (← c.self.view_is) (c.get.ensures.value ∙ found_by_key (λ (d : FlatDecl). d.name) (same_qname c.args.name.now) c.self.inside.decls.entries c.self.invariant)
 
-absent : (c : In-None) → ◌≡◌ {A = Option FlatDecl} None (declared c.args.self.now c.args.name.now)
-absent c =
-    let at = ap (option_map (λ (e : Named). e.decl)) c.in-None.ensures.key in
-    rw (← c.self.view_is) (at ∙ found_declared c.args.name.now c.self.inside.decls.entries)
+copied_read : (found : Option (Bor FlatDecl)) → option_map (λ d. read_declaration d.now) found ≡ option_map read_declaration (option_copied found)
+copied_read None = refl
+copied_read (Some d) = refl
 
-pub returns-in-Some-clause-declaration : goal.returns-in-Some-clause-declaration
-returns-in-Some-clause-declaration c = found c
+pub returns-clause-declaration : goal.returns-clause-declaration
+returns-clause-declaration c = found c
 
-pub returns-in-Some-clause-meaning : goal.returns-in-Some-clause-meaning
-returns-in-Some-clause-meaning c = ap (option_map read_declaration) (found c) ∙ declared_read c.args.self.now c.args.name.now
-
-pub returns-in-None-clause-declaration : goal.returns-in-None-clause-declaration
-returns-in-None-clause-declaration c = absent c
-
-pub returns-in-None-clause-meaning : goal.returns-in-None-clause-meaning
-returns-in-None-clause-meaning c = ap (option_map read_declaration) (absent c) ∙ declared_read c.args.self.now c.args.name.now
+pub returns-clause-meaning : goal.returns-clause-meaning
+returns-clause-meaning c = copied_read c.get.result ∙ ap (option_map read_declaration) (found c) ∙ declared_read c.args.self.now c.args.name.now
