@@ -38,9 +38,9 @@ module _ {K X : Type 0} (key : X → K) where
   pub keyed_pushed : (es : List (K × X)) (x : X) → keys_of es ≡ map key (values_of es) → keys_of (es ++ (key x, x) ∷ []) ≡ map key (values_of (es ++ (key x, x) ∷ []))
   keyed_pushed [] x h = refl
   keyed_pushed (e ∷ es) x h =
-    let first : e.0 ≡ key e.1 = cc in
-    let rest : keys_of es ≡ map key (values_of es) = cc in
-    ap (λ k. k ∷ keys_of (es ++ (key x, x) ∷ [])) first ∙ ap (λ ks. key e.1 ∷ ks) (keyed_pushed es x rest)
+      let first : e.0 ≡ key e.1 = cc in
+      let rest : keys_of es ≡ map key (values_of es) = cc in
+      ap (λ k. k ∷ keys_of (es ++ (key x, x) ∷ [])) first ∙ ap (λ ks. key e.1 ∷ ks) (keyed_pushed es x rest)
 
   -- A value whose key is not there comes last.
   pub keyed_added : {S : Type 0} (same : K → K → Bool) (table : IndexMap K X S) (k : K) (x : X) → k ≡ key x → lookup (same (key x)) table.entries ≡ None → insert_entry same table.entries k x ≡ table.entries ++ (key x, x) ∷ []

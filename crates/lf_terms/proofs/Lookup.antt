@@ -1,7 +1,5 @@
 -- Look-up by name in the tables.
-use Rattle.std.specs.Prelude.{slice_get, position, not, length}
-use Rattle.std.specs.List.{prefix_len}
-use Rattle.std.proofs.Common.{◌≡◌, ℕ, zero, suc, ◌+◌, Bool, true, false, cond, List, [], ◌∷◌, ◌++◌, map, Option, Some, None, is_some, refl, ap}
+use Rattle.std.proofs.Common.{◌≡◌, Bool, true, false, cond, List, [], ◌∷◌, map, Option, Some, None, is_some, refl, ap}
 use Rattle.std.specs.Option.{option_map}
 use Rattle.std.specs.Ordering.{on}
 use Rattle.std.specs.List.{AllByRecursion, IsDistinct}
