@@ -1,28 +1,25 @@
 -- A module of a library is accepted exactly where it is grounded, written with its name, and passes its tests.
 use Rattle.std.proofs.Common.{◌≡◌, true, false, not, length, Option, Some, None, is_some, Ok, refl, sym, ap, ◌∙◌, true≢false}
 use Rattle.std.proofs.lemmas.Bool.{and_from}
-use Rattle.lf_meaning.specs.Terms.{Path}
-use Rattle.lf_meaning.specs.Signatures.{same_name as same_bytes}
-use Rattle.lf_meaning.proofs.Equality.{same_name_itself}
-use Rattle.log_meaning.specs.Names.{Name, is_among}
+use Rattle.name_meaning.specs.Names.{Path, same_name as same_bytes, Name, is_among}
+use Rattle.lf_term_laws.proofs.Equality.{same_name_itself}
 use Rattle.log_meaning.specs.Log.{Library, is_present}
 use Rattle.walk_meaning.specs.Walks.{is_ungrounded, is_grounded}
-use Rattle.text_meaning.specs.Trees.{Written, Module}
+use Rattle.text_meaning.specs.Trees.{Written, Module, first_name}
 use Rattle.text_meaning.specs.Reading.{ModuleText, ModuleTree, Read}
-use Rattle.text_laws.specs.ReadingLaws.{read}
+use Rattle.text_meaning.specs.TextAnswers.{read}
 use Rattle.library_meaning.specs.Faces.{TheoryFace, Environment, theory_of}
 use Rattle.expansion_meaning.specs.Rules.{Rule}
-use Rattle.expansion_meaning.proofs.Binding.{goes_by, some_same}
+use Rattle.expansion_laws.proofs.Binding.{goes_by, some_same}
 use Rattle.link_meaning.specs.Refusals.{demand}
-use Rattle.link_meaning.proofs.Linked.{known_theory}
-use Rattle.link_meaning.proofs.Valued.{demand_by}
-use Rattle.verdict_meaning.specs.Dependencies.{first_name, dependencies}
+use Rattle.link_laws.proofs.Linked.{known_theory}
+use Rattle.link_laws.proofs.Valued.{demand_by}
+use Rattle.text_meaning.specs.Dependencies.{dependencies}
 use Rattle.verdict_meaning.specs.Modules.{known_theory as theory_known, module_test}
 use Rattle.verdict_meaning.specs.Verdicts.{Interface, Accepted, verdict_by, written_name, checked, judge_tree, judge_answer, judge}
-use Rattle.verdict_meaning.specs.Rounds.{ungrounded_names, verdict_of}
-use Rattle.verdict_meaning.specs.VerdictLaws.{known_to}
-use Rattle.verdict_meaning.proofs.Shortness.{short_grounded}
-use Rattle.verdict_meaning.proofs.Verdicts.{not_ungrounded, verdict_is_judged}
+use Rattle.verdict_meaning.specs.Rounds.{ungrounded_names, verdict_of, known_to}
+use Rattle.verdict_laws.proofs.Shortness.{short_grounded}
+use Rattle.verdict_laws.proofs.Verdicts.{not_ungrounded, verdict_is_judged}
 use Rattle.acceptance_laws.specs.ViewLaws.{IsModule}
 use Rattle.coherence_laws.proofs.LibrariesHold.{accepted_short}
 use Rattle.coherence_laws.proofs.AcceptedTrees.{from_library}

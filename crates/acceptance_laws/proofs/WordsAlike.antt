@@ -1,14 +1,13 @@
 -- Words and rows of them mean the same over environments that agree on what they name.
 use Rattle.std.proofs.Common.{◌≡◌, ℕ, suc, Bool, true, false, cond, ◌||◌, List, [], ◌∷◌, Option, Some, None, inl, inr, refl, sym, ap, ◌∙◌, subst}
 use Rattle.std.specs.Prelude.{⊤}
-use Rattle.lf_meaning.specs.Terms.{Name, Path}
-use Rattle.lf_meaning.specs.Signatures.{same_name}
-use Rattle.log_meaning.proofs.Members.{Member}
+use Rattle.name_meaning.specs.Names.{Name, Path, same_name}
+use Rattle.log_laws.proofs.Members.{Member}
 use Rattle.library_meaning.specs.Faces.{StructureFace, TheoryFace, Known, IsAbsent, IsRefused, IsTheory, IsView, Environment, theory_of, structure_of, includes_of}
 use Rattle.library_meaning.specs.Closure.{sees}
 use Rattle.library_meaning.specs.Words.{Link, structure_link, followed_by, behind_structure, structures_of, link_by, is_empty, structures_link, Meaning, Means, Faulty, or_unknown, simple_word, longer_word, is_here, word_meaning, meets, RowMeaning, RowMeans, RowFaulty, EndsApart, next_by, row_from, first_by, row_meaning}
 use Rattle.text_meaning.specs.Trees.{Written}
-use Rattle.expansion_meaning.proofs.Binding.{some_same}
+use Rattle.expansion_laws.proofs.Binding.{some_same}
 use Rattle.link_meaning.specs.Assignments.{paths_of}
 use Rattle.acceptance_laws.proofs.Alike.{Alike, DomainsNamed, theory_alike, structures_named}
 use Rattle.coherence_laws.proofs.TheoriesHold.{structure_found}

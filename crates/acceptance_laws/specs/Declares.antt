@@ -1,17 +1,16 @@
 -- What declarations make of a theory, one after another, with no order of tests (Rabe and Kohlhase 2013, section 3: theories,
 -- inclusions and structures; the rest is this profile).
 use Rattle.std.specs.Prelude.{◌≡◌, ◌≢◌, ℕ, List, [], ◌∷◌, slice_get, Option, Some, None, IsSome}
-use Rattle.lf_meaning.specs.Terms.{Name}
+use Rattle.name_meaning.specs.Names.{Name}
 use Rattle.lf_meaning.specs.Signatures.{Class, Value, Declaration}
-use Rattle.translation_meaning.specs.HeadMaps.{HeadMap}
+use Rattle.lf_meaning.specs.HeadMaps.{HeadMap}
 use Rattle.library_meaning.specs.Faces.{StructureFace, TheoryFace, Environment, theory_of}
 use Rattle.library_meaning.specs.Closure.{with_inclusion}
 use Rattle.library_meaning.specs.Resolution.{Scope}
-use Rattle.text_meaning.specs.Trees.{Expr, Written, Assign, Decl, IncludeDecl, StructDecl, ConstDecl}
+use Rattle.text_meaning.specs.Trees.{Expr, Written, Assign, Decl, IncludeDecl, StructDecl, ConstDecl, first_name}
 use Rattle.expansion_meaning.specs.Stands.{StandsClass, StandsValue}
 use Rattle.link_meaning.specs.Induced.{with_structure}
-use Rattle.link_meaning.specs.LinkLaws.{IsMapOfLink}
-use Rattle.verdict_meaning.specs.Dependencies.{first_name}
+use Rattle.link_meaning.specs.LinkMaps.{IsMapOfLink}
 use Rattle.verdict_meaning.specs.Modules.{scope_in, structure_setting, with_constant}
 
 -- Read: no own constant of the theory so far has just this name for its path, and no structure has the name.

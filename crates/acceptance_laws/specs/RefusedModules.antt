@@ -1,12 +1,11 @@
 -- What makes a module refused (this profile).
 use Rattle.std.specs.Prelude.{◌≡◌, ◌↔◌, ℕ, true, Some}
-use Rattle.log_meaning.specs.Names.{Name}
+use Rattle.name_meaning.specs.Names.{Name}
 use Rattle.log_meaning.specs.Log.{Library, is_present}
 use Rattle.library_meaning.specs.Faces.{TheoryFace, ViewFace, Environment}
 use Rattle.link_meaning.specs.Refusals.{Refusal}
 use Rattle.verdict_meaning.specs.Verdicts.{Refused}
-use Rattle.verdict_meaning.specs.Rounds.{verdict_of, told_by}
-use Rattle.verdict_meaning.specs.VerdictLaws.{known_to}
+use Rattle.verdict_meaning.specs.Rounds.{verdict_of, told_by, known_to}
 use Rattle.acceptance_laws.specs.ViewLaws.{IsAcceptedView}
 use Rattle.acceptance_laws.specs.TheoryLaws.{IsAcceptedTheory}
 

@@ -1,14 +1,13 @@
 -- What makes a theory accepted, with no order of tests (Rabe and Kohlhase 2013, section 3: theories; the rest is this profile).
 use Rattle.std.specs.Prelude.{◌≡◌, ◌↔◌, ℕ, List, length, Some, Ok}
-use Rattle.log_meaning.specs.Names.{Name}
+use Rattle.name_meaning.specs.Names.{Name}
 use Rattle.log_meaning.specs.Log.{Library}
 use Rattle.text_meaning.specs.Trees.{Written, Decl, SigModule}
 use Rattle.library_meaning.specs.Faces.{TheoryFace, Environment, flat_signature}
 use Rattle.library_meaning.specs.Coherence.{IsCoherent}
 use Rattle.verdict_meaning.specs.Modules.{empty_theory, declare_all}
 use Rattle.verdict_meaning.specs.Verdicts.{Theory, Accepted}
-use Rattle.verdict_meaning.specs.Rounds.{verdict_of, told_by}
-use Rattle.verdict_meaning.specs.VerdictLaws.{known_to}
+use Rattle.verdict_meaning.specs.Rounds.{verdict_of, told_by, known_to}
 use Rattle.acceptance_laws.specs.ViewLaws.{IsModule}
 use Rattle.acceptance_laws.specs.Declares.{DeclaresAll}
 

@@ -1,19 +1,18 @@
 -- What makes a view accepted, with no order of tests (Rabe and Kohlhase 2013, section 3: views; the rest is this profile).
 use Rattle.std.specs.Prelude.{◌≡◌, ◌↔◌, true, List, Some, IsSome}
-use Rattle.log_meaning.specs.Names.{Name, Text}
+use Rattle.name_meaning.specs.Names.{Name, Text}
 use Rattle.log_meaning.specs.Log.{Library, text_of}
 use Rattle.walk_meaning.specs.Walks.{is_grounded}
-use Rattle.text_meaning.specs.Trees.{Written, Assign, Module, ViewModule}
+use Rattle.text_meaning.specs.Trees.{Written, Assign, Module, ViewModule, first_name}
 use Rattle.text_meaning.specs.Reading.{ModuleText, ModuleTree, Read}
-use Rattle.text_laws.specs.ReadingLaws.{read}
-use Rattle.translation_meaning.specs.HeadMaps.{HeadMap}
+use Rattle.text_meaning.specs.TextAnswers.{read}
+use Rattle.lf_meaning.specs.HeadMaps.{HeadMap}
 use Rattle.library_meaning.specs.Faces.{TheoryFace, ViewFace, Environment, theory_of}
-use Rattle.link_meaning.specs.LinkLaws.{IsMapOfLink}
-use Rattle.verdict_meaning.specs.Dependencies.{first_name, dependencies}
+use Rattle.link_meaning.specs.LinkMaps.{IsMapOfLink}
+use Rattle.text_meaning.specs.Dependencies.{dependencies}
 use Rattle.verdict_meaning.specs.Modules.{view_setting}
 use Rattle.verdict_meaning.specs.Verdicts.{View, Accepted, written_name}
-use Rattle.verdict_meaning.specs.Rounds.{verdict_of, told_by}
-use Rattle.verdict_meaning.specs.VerdictLaws.{known_to}
+use Rattle.verdict_meaning.specs.Rounds.{verdict_of, told_by, known_to}
 
 -- Read: the name is grounded, and its text is read as this module, which is written with the name.
 pub record IsModule (library : Library) (name : Name) (tree : Module) : Type 0 where

@@ -2,12 +2,12 @@
 use Rattle.std.proofs.Common.{◌≡◌, ℕ, zero, suc, Bool, true, false, not, [], length, is_some, ◌||◌, ◌&&◌, ⊎_elim, refl, sym, ap, ◌∙◌, true≢false}
 use Rattle.std.specs.List.{list_any, list_all}
 use Rattle.std.proofs.lemmas.Bool.{cases_Bool, or_parts, and_parts}
-use Rattle.log_meaning.specs.Names.{Name}
+use Rattle.name_meaning.specs.Names.{Name}
 use Rattle.log_meaning.specs.Log.{names_of, is_present}
 use Rattle.walk_meaning.specs.Walks.{Dependencies, direct, walking, is_ungrounded, is_grounded}
-use Rattle.log_meaning.proofs.Members.{Member, all_not, find_some}
-use Rattle.log_meaning.proofs.Order.{member_among}
-use Rattle.walk_meaning.proofs.Walking.{present_in, walking_step, in_ungrounded, grounded_dependency}
+use Rattle.log_laws.proofs.Members.{Member, all_not, find_some}
+use Rattle.log_laws.proofs.Order.{member_among}
+use Rattle.walk_laws.proofs.Walking.{present_in, walking_step, in_ungrounded, grounded_dependency}
 use Rattle.board_meaning.specs.Events.{History, library_after}
 use Rattle.board_meaning.specs.Claims.{open_claims, has_current_claim, is_claim_of, is_unchanged, inputs_of}
 use Rattle.board_meaning.specs.Standing.{stands}

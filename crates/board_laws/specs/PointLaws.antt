@@ -1,6 +1,6 @@
 -- Laws of the points of calls (this profile).
 use Rattle.std.specs.Prelude.{◌≡◌, ℕ, true, [], ◌++◌, take, Some}
-use Rattle.log_meaning.specs.Names.{Name}
+use Rattle.name_meaning.specs.Names.{Name}
 use Rattle.walk_meaning.specs.Walks.{Dependencies}
 use Rattle.walk_meaning.specs.Subject.{Subject}
 use Rattle.board_meaning.specs.Events.{History}

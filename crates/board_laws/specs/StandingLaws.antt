@@ -1,7 +1,7 @@
 -- Laws of standing verdicts, of ready names and of installs (this profile).
 use Rattle.std.specs.Prelude.{◌≡◌, ◌≢◌, ℕ, ◌<◌, true, false, [], ◌∷◌, ◌++◌, ◌&&◌, ◌||◌, not, take, slice_get, Some, None, is_some, Decides}
 use Rattle.std.specs.List.{list_all}
-use Rattle.log_meaning.specs.Names.{Name, comes_before, is_among}
+use Rattle.name_meaning.specs.Names.{Name, comes_before, is_among}
 use Rattle.log_meaning.specs.Log.{Edit, edited_name, is_present}
 use Rattle.walk_meaning.specs.Walks.{Dependencies, is_grounded}
 use Rattle.walk_meaning.specs.Reach.{reach}

@@ -1,6 +1,6 @@
 -- The history of a board: its entries, and the log and library that they determine (this profile).
 use Rattle.std.specs.Prelude.{ℕ, suc, List, filter_map, Option, Some, None}
-use Rattle.log_meaning.specs.Names.{Name}
+use Rattle.name_meaning.specs.Names.{Name}
 use Rattle.log_meaning.specs.Log.{Edit, Log, Library, library_of, version_of, stamp_of}
 
 -- Read: an edit was made; a name was claimed; or the claim at this place of the history ended: its verdict was

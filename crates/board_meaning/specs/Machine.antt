@@ -1,6 +1,6 @@
 -- The board as a machine: the reply and the entry of each call, from the history alone (this profile).
 use Rattle.std.specs.Prelude.{ℕ, Bool, true, false, List, ◌++◌, ◌&&◌, ◌||◌, not, map, take, length, filter, nat_eq, slice_get, Option, Some, None, option_map, option_and_then, option_to_list, if◌then◌else◌}
-use Rattle.log_meaning.specs.Names.{Name, Text, same_name}
+use Rattle.name_meaning.specs.Names.{Name, Text, same_name}
 use Rattle.log_meaning.specs.Log.{Edit, Library, text_of, is_present}
 use Rattle.log_meaning.specs.Append.{Edited, Made, Same, Absent, Full, TooLong, TooMany, append_answer}
 use Rattle.walk_meaning.specs.Walks.{Dependencies, is_grounded, is_ungrounded}

@@ -1,7 +1,7 @@
 -- What a pass has seen of a board that several threads share, and the point at which a call of it happens (this profile).
 use Rattle.std.specs.Prelude.{◌≡◌, ℕ, Bool, true, List, [], ◌++◌, not, filter, nat_eq, nat_lt, Option, option_to_list}
 use Rattle.std.specs.List.{list_all}
-use Rattle.log_meaning.specs.Names.{Name}
+use Rattle.name_meaning.specs.Names.{Name}
 use Rattle.log_meaning.specs.Append.{Edited}
 use Rattle.walk_meaning.specs.Walks.{Dependencies}
 use Rattle.walk_meaning.specs.Subject.{Subject}

@@ -1,7 +1,7 @@
 -- Which names are ready to be claimed (this profile).
 use Rattle.std.specs.Prelude.{Bool, true, false, ◌&&◌, ◌||◌, not, find, Option}
 use Rattle.std.specs.List.{list_any, list_all}
-use Rattle.log_meaning.specs.Names.{Name}
+use Rattle.name_meaning.specs.Names.{Name}
 use Rattle.log_meaning.specs.Log.{names_of, is_present}
 use Rattle.walk_meaning.specs.Walks.{Dependencies, direct, is_grounded}
 use Rattle.board_meaning.specs.Events.{Event, EditMade, Claim, Install, Stale, Release, Close, Entry, History, library_after}

@@ -1,7 +1,7 @@
 -- Which verdicts stand. No verdict is in the history: a standing one is the subject's answer (this profile).
 use Rattle.std.specs.Prelude.{◌≡◌, ℕ, suc, Bool, true, false, List, ◌&&◌, not, drop, slice_get, filter_map, length, Option, Some, None}
 use Rattle.std.specs.List.{list_any}
-use Rattle.log_meaning.specs.Names.{Name, same_name, is_among}
+use Rattle.name_meaning.specs.Names.{Name, same_name, is_among}
 use Rattle.log_meaning.specs.Log.{Edit, edited_name}
 use Rattle.walk_meaning.specs.Walks.{Dependencies}
 use Rattle.board_meaning.specs.Events.{Event, EditMade, Claim, Install, Stale, Release, Close, Entry, History, edit_in}

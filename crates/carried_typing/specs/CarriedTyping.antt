@@ -2,17 +2,17 @@
 use Rattle.std.specs.Prelude.{◌≡◌, ◌↔◌, true, List, []}
 use Rattle.lf_meaning.specs.Terms.{Object, Family}
 use Rattle.lf_meaning.specs.Judgements.{IsTyping}
-use Rattle.log_meaning.specs.Names.{Name, Text, is_among}
+use Rattle.name_meaning.specs.Names.{Name, Text, is_among}
 use Rattle.log_meaning.specs.Log.{Library, is_present}
 use Rattle.walk_meaning.specs.Reach.{reach}
 use Rattle.library_meaning.specs.Faces.{Environment, flat_of}
 use Rattle.library_meaning.specs.Coherence.{IsCoherent}
-use Rattle.verdict_meaning.specs.Dependencies.{dependencies}
+use Rattle.text_meaning.specs.Dependencies.{dependencies}
 use Rattle.verdict_meaning.specs.Rounds.{known_of, verdicts, told_by}
 use Rattle.row_typing.specs.TypedFaces.{IsTypedEnvironment}
 use Rattle.printing_meaning.specs.CarriedLines.{Carries}
-use Rattle.judged_output.specs.Carrying.{carry}
-use Rattle.judged_output.specs.CarryingLaws.{IsTranslated}
+use Rattle.judged_meaning.specs.Carrying.{carry}
+use Rattle.judged_laws.specs.CarryingLaws.{IsTranslated}
 
 -- Read: the object and the family are the translation, along the view of the name, of what the text stands for over the view's
 -- whole domain. That is a typing judgement of the domain, and the translation is one of the codomain.

@@ -1,24 +1,21 @@
 -- What is accepted comes from a text that reads as a tree, which has passed its tests.
 use Rattle.std.proofs.Common.{◌≡◌, ℕ, Bool, true, false, List, length, Some, Ok, Err, refl, sym, ap, ◌∙◌}
-use Rattle.lf_meaning.specs.Signatures.{same_name as same_bytes}
-use Rattle.lf_meaning.proofs.Equality.{same_name_sound}
-use Rattle.log_meaning.specs.Names.{Name, Text, is_among}
+use Rattle.name_meaning.specs.Names.{same_name as same_bytes, Name, Text, is_among}
+use Rattle.lf_term_laws.proofs.Equality.{same_name_sound}
 use Rattle.log_meaning.specs.Log.{Library, text_of}
-use Rattle.text_meaning.specs.Trees.{Written, Decl, Module, SigModule, ViewModule}
+use Rattle.text_meaning.specs.Trees.{Written, Decl, Module, SigModule, ViewModule, first_name}
 use Rattle.text_meaning.specs.Reading.{ModuleText, ModuleTree, JudgementTree, Answer, Read, Syntax, TooDeep, Unsupported}
-use Rattle.text_laws.specs.ReadingLaws.{read}
+use Rattle.text_meaning.specs.TextAnswers.{read}
 use Rattle.library_meaning.specs.Faces.{TheoryFace, ViewFace, IsTheory, Environment, flat_signature}
 use Rattle.expansion_meaning.specs.Rules.{Rule}
-use Rattle.expansion_meaning.proofs.Binding.{came_by, some_same}
+use Rattle.expansion_laws.proofs.Binding.{came_by, some_same}
 use Rattle.link_meaning.specs.Refusals.{Outcome, demand}
-use Rattle.link_meaning.proofs.Covered.{good_same}
-use Rattle.link_meaning.proofs.Valued.{demand_holds}
-use Rattle.verdict_meaning.specs.Dependencies.{first_name}
+use Rattle.link_laws.proofs.Covered.{good_same}
+use Rattle.link_laws.proofs.Valued.{demand_holds}
 use Rattle.verdict_meaning.specs.Modules.{empty_theory, declare_all, checked_view}
 use Rattle.verdict_meaning.specs.Verdicts.{Interface, Theory, View, Verdict, Accepted, Refused, verdict_by, known_by, written_name, checked, judge_tree, judge_answer, judge}
-use Rattle.verdict_meaning.specs.Rounds.{ungrounded_names, verdict_of}
-use Rattle.verdict_meaning.specs.VerdictLaws.{known_to}
-use Rattle.verdict_meaning.proofs.Verdicts.{verdict_is_judged}
+use Rattle.verdict_meaning.specs.Rounds.{ungrounded_names, verdict_of, known_to}
+use Rattle.verdict_laws.proofs.Verdicts.{verdict_is_judged}
 use Rattle.coherence_laws.proofs.LibrariesHold.{cycle_refuses, verdict_text}
 
 -- ---- a module that passes its tests

@@ -2,34 +2,32 @@
 use Rattle.std.proofs.Common.{◌≡◌, ℕ, zero, suc, Bool, true, false, cond, not, List, [], ◌∷◌, filter, length, Option, Some, None, is_some, Ok, Err, ◌⊎◌, inl, inr, ⊎_elim, refl, sym, ap, ◌∙◌, subst, true≢false}
 use Rattle.std.specs.Prelude.{⊤}
 use Rattle.std.proofs.lemmas.Bool.{cases_Bool}
-use Rattle.lf_meaning.specs.Signatures.{same_name as same_bytes}
-use Rattle.lf_meaning.proofs.Equality.{same_name_sound}
-use Rattle.log_meaning.specs.Names.{Name, Text, same_name, is_among}
+use Rattle.name_meaning.specs.Names.{same_name as same_bytes, Name, Text, same_name, is_among}
+use Rattle.lf_term_laws.proofs.Equality.{same_name_sound}
 use Rattle.log_meaning.specs.Log.{Library, text_of, is_present}
-use Rattle.log_meaning.proofs.Members.{Member, filter_in}
-use Rattle.log_meaning.proofs.Order.{member_among, same_sound, same_itself}
+use Rattle.log_laws.proofs.Members.{Member, filter_in}
+use Rattle.log_laws.proofs.Order.{member_among, same_sound, same_itself}
 use Rattle.walk_meaning.specs.Walks.{of_text, direct, walking, is_ungrounded, is_grounded}
 use Rattle.walk_meaning.specs.Reach.{reach}
-use Rattle.walk_meaning.proofs.Walking.{present_in}
-use Rattle.walk_meaning.proofs.Reaching.{reach_least}
-use Rattle.text_meaning.specs.Trees.{Module, SigModule, ViewModule}
+use Rattle.walk_laws.proofs.Walking.{present_in}
+use Rattle.walk_laws.proofs.Reaching.{reach_least}
+use Rattle.text_meaning.specs.Trees.{Module, SigModule, ViewModule, first_name}
 use Rattle.text_meaning.specs.Reading.{ModuleText, ModuleTree, JudgementTree, Answer, Read, Syntax, TooDeep, Unsupported}
-use Rattle.text_laws.specs.ReadingLaws.{read}
+use Rattle.text_meaning.specs.TextAnswers.{read}
 use Rattle.library_meaning.specs.Faces.{TheoryFace, ViewFace, Known, IsAbsent, IsTheory, IsView, Environment}
 use Rattle.library_meaning.specs.Coherence.{IsCoherentTheory, IsCoherentView, IsCoherent}
 use Rattle.expansion_meaning.specs.Rules.{Rule}
-use Rattle.expansion_meaning.proofs.Binding.{came_by, some_same}
+use Rattle.expansion_laws.proofs.Binding.{came_by, some_same}
 use Rattle.link_meaning.specs.Refusals.{Refusal, Outcome, demand}
-use Rattle.link_meaning.proofs.Covered.{good_same}
-use Rattle.link_meaning.proofs.Valued.{demand_holds}
-use Rattle.verdict_meaning.specs.Dependencies.{Dependency, first_name, dependencies}
+use Rattle.link_laws.proofs.Covered.{good_same}
+use Rattle.link_laws.proofs.Valued.{demand_holds}
+use Rattle.text_meaning.specs.Dependencies.{Dependency, dependencies}
 use Rattle.verdict_meaning.specs.Modules.{empty_theory, declare_all, checked_view}
 use Rattle.verdict_meaning.specs.Verdicts.{Interface, Theory, View, Verdict, Accepted, Refused, verdict_by, known_by, written_name, checked, cycle_at, judge_tree, judge_answer, judge}
-use Rattle.verdict_meaning.specs.Rounds.{verdict_under, known_if, known_of, others_reached, ungrounded_names, verdicts, verdict_of, told_by}
-use Rattle.verdict_meaning.specs.VerdictLaws.{known_to}
-use Rattle.verdict_meaning.proofs.Shortness.{Short, short_reached, reach_within_reach}
-use Rattle.verdict_meaning.proofs.Rounds.{in_others}
-use Rattle.verdict_meaning.proofs.Verdicts.{not_ungrounded, verdict_exactly, verdict_is_judged, ungrounded_is_cycle}
+use Rattle.verdict_meaning.specs.Rounds.{verdict_under, known_if, known_of, others_reached, ungrounded_names, verdicts, verdict_of, told_by, known_to}
+use Rattle.verdict_laws.proofs.Shortness.{Short, short_reached, reach_within_reach}
+use Rattle.verdict_laws.proofs.Rounds.{in_others}
+use Rattle.verdict_laws.proofs.Verdicts.{not_ungrounded, verdict_exactly, verdict_is_judged, ungrounded_is_cycle}
 use Rattle.coherence_laws.specs.CoherenceLaws.{AreClosed, FacesAreCoherent, GroundedKnowCoherent, ClosedAreCoherent}
 use Rattle.coherence_laws.proofs.ModulesHold.{declare_all_holds, empty_holds, view_holds}
 use Rattle.coherence_laws.proofs.Transfer.{Extends, theory_transfers, view_transfers}

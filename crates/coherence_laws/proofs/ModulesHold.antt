@@ -2,32 +2,31 @@
 use Rattle.std.proofs.Common.{◌≡◌, ◌<◌, Bool, true, false, cond, List, [], ◌∷◌, ◌++◌, length, Option, Some, None, is_some, Ok, not, ◌||◌, ⊎_elim, refl, sym, ap, ◌∙◌, subst, true≢false, append-nil, arith}
 use Rattle.std.specs.Prelude.{⊤}
 use Rattle.std.proofs.lemmas.Bool.{or_cases}
-use Rattle.lf_meaning.specs.Terms.{Name, Path}
-use Rattle.lf_meaning.specs.Signatures.{Class, Value, Declaration, same_name}
-use Rattle.log_meaning.proofs.Members.{Member, in_append, append_left, in_flat_map}
-use Rattle.log_meaning.proofs.Order.{among_member, member_among}
-use Rattle.translation_meaning.specs.HeadMaps.{HeadMap}
+use Rattle.name_meaning.specs.Names.{Name, Path, same_name}
+use Rattle.lf_meaning.specs.Signatures.{Class, Value, Declaration}
+use Rattle.log_laws.proofs.Members.{Member, in_append, append_left, in_flat_map}
+use Rattle.log_laws.proofs.Order.{among_member, member_among}
+use Rattle.lf_meaning.specs.HeadMaps.{HeadMap}
 use Rattle.library_meaning.specs.Faces.{TheoryFace, ViewFace, Known, IsAbsent, IsRefused, IsTheory, IsView, theory_face, Environment, theory_of, structure_of, includes_of, own_of, own_part, own_parts, flat_signature, flat_of}
 use Rattle.library_meaning.specs.Closure.{sees}
 use Rattle.library_meaning.specs.Resolution.{own_at}
 use Rattle.library_meaning.specs.Holding.{ClassHolds, OptionalValueHolds}
 use Rattle.library_meaning.specs.Coherence.{IsCoherentMap, IsCoherentTheory, IsCoherentView, IsCoherent}
 use Rattle.text_meaning.specs.Tokens.{Span}
-use Rattle.text_meaning.specs.Trees.{Expr, Written, Assign, Decl, IncludeDecl, StructDecl, ConstDecl}
+use Rattle.text_meaning.specs.Trees.{Expr, Written, Assign, Decl, IncludeDecl, StructDecl, ConstDecl, first_name}
 use Rattle.expansion_meaning.specs.Rules.{Rule}
 use Rattle.expansion_meaning.specs.Values.{expand_class, expand_value}
-use Rattle.expansion_meaning.proofs.Binding.{came_by, some_same}
-use Rattle.expansion_meaning.proofs.ValuesStand.{class_sound, value_sound}
+use Rattle.expansion_laws.proofs.Binding.{came_by, some_same}
+use Rattle.expansion_laws.proofs.ValuesStand.{class_sound, value_sound}
 use Rattle.link_meaning.specs.Refusals.{labelled, each}
 use Rattle.link_meaning.specs.Assignments.{Setting, read_assigns}
 use Rattle.link_meaning.specs.Coverings.{covered_tests}
 use Rattle.link_meaning.specs.Passes.{map_all, shared_test, assigned_map, link_map}
 use Rattle.link_meaning.specs.Induced.{with_structure}
-use Rattle.link_meaning.proofs.Covered.{good_same}
-use Rattle.link_meaning.proofs.Valued.{demand_holds, label_came}
-use Rattle.link_meaning.proofs.Reading.{assigns_sound}
-use Rattle.link_meaning.proofs.Linked.{own_named}
-use Rattle.verdict_meaning.specs.Dependencies.{first_name}
+use Rattle.link_laws.proofs.Covered.{good_same}
+use Rattle.link_laws.proofs.Valued.{demand_holds, label_came}
+use Rattle.link_laws.proofs.Reading.{assigns_sound}
+use Rattle.link_laws.proofs.Linked.{own_named}
 use Rattle.verdict_meaning.specs.Modules.{known_theory as theory_known, module_test, scope_in, is_used, unused_test, declared_value, structure_setting, declare, declare_all, empty_theory, view_setting, checked_view}
 use Rattle.holding_laws.specs.HoldingLaws.{Grows}
 use Rattle.holding_laws.specs.ExpansionHolds.{scope_signature, ScopeHolds}

@@ -2,24 +2,25 @@
 use Rattle.std.proofs.Common.{◌≡◌, ◌≢◌, ℕ, ◌<◌, Bool, true, false, cond, List, [], ◌∷◌, ◌++◌, length, slice_get, Option, Some, None, is_some, ◌⊎◌, inl, inr, ⊎_elim, refl, sym, ap, ◌∙◌, subst, true≢false, append_assoc, arith}
 use lib.Pointwise.{pointwise}
 use Rattle.std.proofs.lemmas.Bool.{and_from}
-use Rattle.lf_meaning.specs.Terms.{Name, Path, Constant}
-use Rattle.lf_meaning.specs.Signatures.{Class, Value, Declaration, Signature, same_name, declaration_of}
-use Rattle.lf_meaning.proofs.Equality.{same_name_sound, same_name_itself}
-use Rattle.log_meaning.proofs.Members.{Member, in_append, append_left, append_right, in_flat_map, flat_map_in, find_none}
-use Rattle.log_meaning.proofs.Order.{among_member, member_among}
-use Rattle.log_meaning.proofs.Places.{get_more, place_within, get_front, get_last}
-use Rattle.translation_meaning.specs.HeadMaps.{HeadMap}
+use Rattle.name_meaning.specs.Names.{Name, Path, same_name}
+use Rattle.lf_meaning.specs.Terms.{Constant}
+use Rattle.lf_meaning.specs.Signatures.{Class, Value, Declaration, Signature, declaration_of}
+use Rattle.lf_term_laws.proofs.Equality.{same_name_sound, same_name_itself}
+use Rattle.log_laws.proofs.Members.{Member, in_append, append_left, append_right, in_flat_map, flat_map_in, find_none}
+use Rattle.log_laws.proofs.Order.{among_member, member_among}
+use Rattle.log_laws.proofs.Places.{get_more, place_within, get_front, get_last}
+use Rattle.lf_meaning.specs.HeadMaps.{HeadMap}
 use Rattle.library_meaning.specs.Faces.{StructureFace, TheoryFace, Known, IsAbsent, theory_face, Environment, theory_of, structure_of, includes_of, own_part, own_parts, flat_signature, flat_of}
 use Rattle.library_meaning.specs.Closure.{sees, with_inclusion}
 use Rattle.library_meaning.specs.Resolution.{has_path, own_at}
 use Rattle.library_meaning.specs.Holding.{ClassHolds, OptionalValueHolds}
 use Rattle.library_meaning.specs.Coherence.{AreTheories, IsClosure, DeclarationsHold, IsCoherentMap, IsCoherentTheory, IsCoherent, IsInduced}
-use Rattle.library_meaning.proofs.ClosureMembers.{inclusion_member, inclusion_old}
-use Rattle.library_meaning.proofs.ClosureKept.{inclusion_keeps}
-use Rattle.expansion_meaning.proofs.Binding.{some_same}
+use Rattle.library_laws.proofs.ClosureMembers.{inclusion_member, inclusion_old}
+use Rattle.library_laws.proofs.ClosureKept.{inclusion_keeps}
+use Rattle.expansion_laws.proofs.Binding.{some_same}
 use Rattle.link_meaning.specs.Assignments.{Setting}
 use Rattle.link_meaning.specs.Induced.{induced, with_structure}
-use Rattle.link_meaning.proofs.Linked.{own_named}
+use Rattle.link_laws.proofs.Linked.{own_named}
 use Rattle.holding_laws.specs.HoldingLaws.{Grows}
 use Rattle.holding_laws.proofs.Declared.{place_of, front_grows}
 use Rattle.link_coherence_laws.proofs.Onces.{place_member, Once, once_append, once_names, names_once, once_right, member_grows, member_declared, HoldAfter, hold_append, hold_more, after_declarations, declarations_after, own_is_once, closure_once, closure_holds}

@@ -1,13 +1,12 @@
 -- Laws of coherence (this profile).
 use Rattle.std.specs.Prelude.{◌≡◌, ℕ, true, List, length, Some}
-use Rattle.log_meaning.specs.Names.{Name, is_among}
+use Rattle.name_meaning.specs.Names.{Name, is_among}
 use Rattle.log_meaning.specs.Log.{Library, is_present}
 use Rattle.library_meaning.specs.Faces.{TheoryFace, flat_signature}
 use Rattle.library_meaning.specs.Coherence.{IsCoherent}
-use Rattle.verdict_meaning.specs.Dependencies.{dependencies}
+use Rattle.text_meaning.specs.Dependencies.{dependencies}
 use Rattle.verdict_meaning.specs.Verdicts.{Theory, Accepted}
-use Rattle.verdict_meaning.specs.Rounds.{known_of, others_reached, verdicts, verdict_of, told_by}
-use Rattle.verdict_meaning.specs.VerdictLaws.{known_to}
+use Rattle.verdict_meaning.specs.Rounds.{known_of, others_reached, verdicts, verdict_of, told_by, known_to}
 use Rattle.walk_meaning.specs.Walks.{is_grounded}
 use Rattle.walk_meaning.specs.Reach.{reach}
 

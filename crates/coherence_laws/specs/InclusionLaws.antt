@@ -1,7 +1,7 @@
 -- Laws of the inclusion closure over a library (this profile). They speak of accepted theories: no other module shows a
 -- closure, and a theory that includes what is absent, refused or a view is not accepted.
 use Rattle.std.specs.Prelude.{◌≡◌, ◌↔◌, true, IsSome}
-use Rattle.log_meaning.specs.Names.{Name}
+use Rattle.name_meaning.specs.Names.{Name}
 use Rattle.log_meaning.specs.Log.{Library}
 use Rattle.library_meaning.specs.Faces.{TheoryFace, IsTheory, theory_of}
 use Rattle.library_meaning.specs.Closure.{sees, closure_of}

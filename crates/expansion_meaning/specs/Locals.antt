@@ -1,7 +1,8 @@
 -- The variables that stand around an expression (Harper and Licata 2007, section 2: contexts; that a binder may have no name
 -- is this profile).
 use Rattle.std.specs.Prelude.{ℕ, suc, List, ◌∷◌, Option, map, slice_get, option_map}
-use Rattle.lf_meaning.specs.Terms.{Name, Family, Context}
+use Rattle.name_meaning.specs.Names.{Name}
+use Rattle.lf_meaning.specs.Terms.{Family, Context}
 use Rattle.lf_meaning.specs.Raising.{raise_family}
 use Rattle.library_meaning.specs.Resolution.{Variables}
 

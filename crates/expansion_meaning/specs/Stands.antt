@@ -1,7 +1,8 @@
 -- What a written expression stands for, as relations: one case for each form of expression, and one argument for each case
 -- (this profile; heads take arguments as in Harper and Licata 2007, section 2).
 use Rattle.std.specs.Prelude.{◌≡◌, ℕ, Some, None, true, false, [], ⊤}
-use Rattle.lf_meaning.specs.Terms.{Path, Object, Lam, At, Var, Family, Pi, Kind, Ty, PiKind, domain_count}
+use Rattle.name_meaning.specs.Names.{Path}
+use Rattle.lf_meaning.specs.Terms.{Object, Lam, At, Var, Family, Pi, Kind, Ty, PiKind, domain_count}
 use Rattle.lf_meaning.specs.Signatures.{Class, FamilyClass, KindClass, Value, Declaration}
 use Rattle.translation_meaning.specs.AtomicFamilies.{IsAtomicFamily}
 use Rattle.translation_meaning.specs.Heads.{Head, ObjectHead, FamilyHead, head_takes}

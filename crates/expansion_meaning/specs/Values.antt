@@ -1,7 +1,8 @@
 -- Classes and values: what stands behind the colon of a declaration, and behind its `=` or that of an assignment (this
 -- profile).
 use Rattle.std.specs.Prelude.{Bool, true, false, [], Ok}
-use Rattle.lf_meaning.specs.Terms.{Path, Family, Kind, Ty, PiKind, domain_count}
+use Rattle.name_meaning.specs.Names.{Path}
+use Rattle.lf_meaning.specs.Terms.{Family, Kind, Ty, PiKind, domain_count}
 use Rattle.lf_meaning.specs.Signatures.{Class, FamilyClass, KindClass, Value, Declaration}
 use Rattle.lf_meaning.specs.Equality.{same_family, same_class}
 use Rattle.translation_meaning.specs.Heads.{Head}

@@ -2,31 +2,29 @@
 use Rattle.std.proofs.Common.{List, ◌≡◌, ℕ, zero, suc, Bool, true, false, ◌++◌, length, Option, Some, None, Ok, Err, refl, sym, ap, ◌∙◌, subst}
 use Rattle.std.specs.Prelude.{⊤}
 use Rattle.lf_meaning.specs.Judgements.{IsSignature}
-use Rattle.lf_meaning.proofs.Equality.{same_name_sound}
-use Rattle.lf_meaning.specs.Signatures.{same_name as same_bytes}
-use Rattle.lf_metatheory.proofs.Growing.{empty_signature}
-use Rattle.log_meaning.specs.Names.{Name, Text, is_among}
+use Rattle.lf_term_laws.proofs.Equality.{same_name_sound}
+use Rattle.name_meaning.specs.Names.{same_name as same_bytes, Name, Text, is_among}
+use Rattle.lf_typing.proofs.Growing.{empty_signature}
 use Rattle.log_meaning.specs.Log.{Library, text_of}
 use Rattle.translation_typing.proofs.Laws.{typing_is_carried}
 use Rattle.library_meaning.specs.Faces.{TheoryFace, ViewFace, IsAbsent, IsTheory, IsView, Environment, theory_of, includes_of, own_of, own_parts, flat_signature, flat_of}
 use Rattle.library_meaning.specs.Coherence.{IsCoherent}
-use Rattle.text_meaning.specs.Trees.{Module, SigModule, ViewModule}
+use Rattle.text_meaning.specs.Trees.{Module, SigModule, ViewModule, first_name}
 use Rattle.text_meaning.specs.Reading.{ModuleText, ModuleTree, JudgementTree, Answer, Read, Syntax, TooDeep, Unsupported}
-use Rattle.text_laws.specs.ReadingLaws.{read}
+use Rattle.text_meaning.specs.TextAnswers.{read}
 use Rattle.expansion_meaning.specs.Rules.{Rule}
-use Rattle.expansion_meaning.proofs.Binding.{came_by, some_same}
+use Rattle.expansion_laws.proofs.Binding.{came_by, some_same}
 use Rattle.link_meaning.specs.Refusals.{Outcome, demand}
-use Rattle.link_meaning.proofs.Covered.{good_same}
-use Rattle.link_meaning.proofs.Valued.{demand_holds}
-use Rattle.link_meaning.proofs.Linked.{known_theory}
-use Rattle.verdict_meaning.specs.Dependencies.{first_name, dependencies}
+use Rattle.link_laws.proofs.Covered.{good_same}
+use Rattle.link_laws.proofs.Valued.{demand_holds}
+use Rattle.link_laws.proofs.Linked.{known_theory}
+use Rattle.text_meaning.specs.Dependencies.{dependencies}
 use Rattle.verdict_meaning.specs.Modules.{empty_theory, declare_all, checked_view}
 use Rattle.verdict_meaning.specs.Verdicts.{Interface, Theory, View, Verdict, Accepted, Refused, verdict_by, known_by, written_name, checked, judge_tree, judge_answer, judge}
-use Rattle.verdict_meaning.specs.Rounds.{others_reached, ungrounded_names, verdict_of, known_of, verdicts, told_by}
-use Rattle.verdict_meaning.specs.VerdictLaws.{known_to}
-use Rattle.verdict_meaning.proofs.Shortness.{Short, short_reached}
-use Rattle.verdict_meaning.proofs.Rounds.{in_others}
-use Rattle.verdict_meaning.proofs.Verdicts.{verdict_is_judged}
+use Rattle.verdict_meaning.specs.Rounds.{others_reached, ungrounded_names, verdict_of, known_of, verdicts, told_by, known_to}
+use Rattle.verdict_laws.proofs.Shortness.{Short, short_reached}
+use Rattle.verdict_laws.proofs.Rounds.{in_others}
+use Rattle.verdict_laws.proofs.Verdicts.{verdict_is_judged}
 use Rattle.coherence_laws.specs.CoherenceLaws.{AreClosed}
 use Rattle.coherence_laws.proofs.ModulesHold.{empty_holds, declare_all_holds}
 use Rattle.coherence_laws.proofs.LibrariesHold.{cycle_refuses, absent_reach, others_not, extends_to, itself_absent, told, theory_shown, view_shown, Sound, verdict_text, verdict_reached, sound, tells_more, accepted_theory, accepted_view, library_coherent, listed, closed_extends, grounded_short}

@@ -1,6 +1,6 @@
 -- Accepted theories flatten to well-typed signatures; accepted views and structures carry typing (this profile).
 use Rattle.std.specs.Prelude.{◌≡◌, ℕ, true, List, slice_get, Some}
-use Rattle.log_meaning.specs.Names.{Name}
+use Rattle.name_meaning.specs.Names.{Name}
 use Rattle.log_meaning.specs.Log.{Library}
 use Rattle.lf_meaning.specs.Terms.{Object, Family, Context}
 use Rattle.lf_meaning.specs.Judgements.{IsTyping, IsSignature}
@@ -10,9 +10,8 @@ use Rattle.translation_typing.specs.TypedTranslation.{translate_context, IsTyped
 use Rattle.library_meaning.specs.Faces.{StructureFace, TheoryFace, ViewFace, IsTheory, IsView, Environment, flat_signature, flat_of}
 use Rattle.library_meaning.specs.Coherence.{IsCoherent}
 use Rattle.walk_meaning.specs.Walks.{is_grounded}
-use Rattle.verdict_meaning.specs.Dependencies.{dependencies}
-use Rattle.verdict_meaning.specs.Rounds.{known_of, verdicts, told_by}
-use Rattle.verdict_meaning.specs.VerdictLaws.{known_to}
+use Rattle.text_meaning.specs.Dependencies.{dependencies}
+use Rattle.verdict_meaning.specs.Rounds.{known_of, verdicts, told_by, known_to}
 use Rattle.coherence_laws.specs.CoherenceLaws.{AreClosed}
 use Rattle.row_typing.specs.TypedFaces.{IsTypedEnvironment}
 

@@ -1,15 +1,14 @@
 -- What a module makes is well typed, where all that is known of others is (Rabe and Kohlhase 2013, section 3; this profile).
 -- Nothing is known of the module itself.
 use Rattle.std.specs.Prelude.{◌≡◌, ℕ, Bool, List, None, Ok, IsSome}
-use Rattle.log_meaning.specs.Names.{Name, Text}
-use Rattle.translation_meaning.specs.HeadMaps.{HeadMap}
+use Rattle.name_meaning.specs.Names.{Name, Text}
+use Rattle.lf_meaning.specs.HeadMaps.{HeadMap}
 use Rattle.translation_meaning.specs.TypedMaps.{IsTypedMap}
 use Rattle.library_meaning.specs.Faces.{TheoryFace, ViewFace, IsAbsent, Environment, theory_of, structure_of, flat_signature, flat_of}
 use Rattle.library_meaning.specs.Coherence.{IsCoherent}
-use Rattle.text_meaning.specs.Trees.{Written, Assign, Decl}
+use Rattle.text_meaning.specs.Trees.{Written, Assign, Decl, first_name}
 use Rattle.link_meaning.specs.Passes.{link_map}
 use Rattle.link_meaning.specs.Induced.{with_structure}
-use Rattle.verdict_meaning.specs.Dependencies.{first_name}
 use Rattle.verdict_meaning.specs.Modules.{structure_setting, declare_all, empty_theory}
 use Rattle.verdict_meaning.specs.Verdicts.{Theory, View, Accepted, judge}
 use Rattle.row_typing.specs.TypedFaces.{IsTypedTheory, IsTypedView, IsTypedEnvironment}

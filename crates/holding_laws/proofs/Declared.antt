@@ -2,12 +2,12 @@
 use Rattle.std.proofs.Common.{◌≡◌, ℕ, zero, suc, Bool, true, false, cond, List, [], ◌∷◌, ◌++◌, take, drop, slice_get, Option, Some, None, refl, sym, ap, ◌∙◌, subst, inl, inr}
 use Rattle.lf_meaning.specs.Terms.{Constant}
 use Rattle.lf_meaning.specs.Signatures.{Class, Declaration, Signature, same_constant, declaration_of, undefined_class, declared_class, class_of}
-use Rattle.lf_meaning.proofs.Equality.{same_constant_sound, same_constant_itself}
-use Rattle.log_meaning.proofs.Members.{Member}
-use Rattle.log_meaning.proofs.Places.{take_drop}
+use Rattle.lf_term_laws.proofs.Equality.{same_constant_sound, same_constant_itself}
+use Rattle.log_laws.proofs.Members.{Member}
+use Rattle.log_laws.proofs.Places.{take_drop}
 use Rattle.library_meaning.specs.Holding.{ClassHolds, OptionalValueHolds}
 use Rattle.library_meaning.specs.Coherence.{DeclarationsHold}
-use Rattle.expansion_meaning.proofs.Binding.{some_same}
+use Rattle.expansion_laws.proofs.Binding.{some_same}
 use Rattle.holding_laws.specs.HoldingLaws.{Grows}
 use Rattle.holding_laws.specs.ExpansionHolds.{NamesOnce}
 use Rattle.holding_laws.proofs.Growing.{class_grows, optional_grows}

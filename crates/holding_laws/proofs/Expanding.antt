@@ -1,10 +1,11 @@
 -- What stands holds only constants of the scope.
 use Rattle.std.proofs.Common.{◌≡◌, ℕ, zero, suc, ◌+◌, ◌<◌, List, [], ◌∷◌, length, slice_get, Option, Some, None, option_map, refl, sym, ap, subst, arith, inl, inr}
-use Rattle.lf_meaning.specs.Terms.{Path, Object, Family, Pi, Kind, Ty, PiKind, domain_count}
+use Rattle.name_meaning.specs.Names.{Path}
+use Rattle.lf_meaning.specs.Terms.{Object, Family, Pi, Kind, Ty, PiKind, domain_count}
 use Rattle.lf_meaning.specs.Raising.{raise_family}
 use Rattle.lf_meaning.specs.Signatures.{Class, FamilyClass, KindClass, Value, SameAs, TermValue, FamilyValue, Declaration, Signature, undefined_class, class_of}
-use Rattle.log_meaning.proofs.Members.{Member, append_left, append_right, flat_map_in, find_found}
-use Rattle.log_meaning.proofs.Order.{among_member}
+use Rattle.log_laws.proofs.Members.{Member, append_left, append_right, flat_map_in, find_found}
+use Rattle.log_laws.proofs.Order.{among_member}
 use Rattle.translation_meaning.specs.Heads.{Head, ObjectHead, FamilyHead}
 use Rattle.library_meaning.specs.Faces.{own_part, own_parts}
 use Rattle.library_meaning.specs.Resolution.{Scope, Variables, has_path, Resolved, Variable, Declared, Unknown, Ambiguous}
@@ -16,7 +17,7 @@ use Rattle.expansion_meaning.specs.Locals.{Local, Locals, with_local, variables_
 use Rattle.expansion_meaning.specs.NameHeads.{class_head}
 use Rattle.translation_meaning.specs.AtomicFamilies.{IsAtomicFamily}
 use Rattle.expansion_meaning.specs.Stands.{BeginsAs, NameStands, StandsObject, StandsHead, StandsArguments, StandsFamily, StandsKind, StandsClass, StandsFamilyValue, NameGives, BuildsValue, StandsValue}
-use Rattle.expansion_meaning.proofs.Binding.{some_same}
+use Rattle.expansion_laws.proofs.Binding.{some_same}
 use Rattle.holding_laws.specs.ExpansionHolds.{scope_signature, ScopeHolds, LocalsHold, StandingObjectHolds, StandingHeadHolds, TakenArgumentsHold, StandingFamilyValueHolds, StandingFamilyHolds, StandingKindHolds, StandingClassHolds, StandingValueHolds}
 use Rattle.holding_laws.proofs.Declared.{place_of, class_in, class_at, value_at}
 use Rattle.holding_laws.proofs.Replaced.{raise_family_holds}

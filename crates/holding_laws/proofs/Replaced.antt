@@ -7,7 +7,7 @@ use Rattle.lf_meaning.specs.Raising.{raised, raise, raise_atomic, map_family, ma
 use Rattle.lf_meaning.specs.Replacement.{Action, Stay, Step, Headed, Kept, Replaced, object_of, value_takes, takes, Replacement, replace, replace_head}
 use Rattle.lf_meaning.specs.Substitution.{substituted, substitution, action, substitute, app}
 use Rattle.lf_meaning.specs.Signatures.{Signature}
-use Rattle.lf_meaning.proofs.Substituted.{substituted_below, substituted_at, substituted_above}
+use Rattle.lf_term_laws.proofs.Substituted.{substituted_below, substituted_at, substituted_above}
 use Rattle.lf_substitution_laws.proofs.Indices.{Position, below, at, above, position, raised_below, raised_above}
 use Rattle.lf_substitution_laws.proofs.Families.{head_constant_map}
 use Rattle.library_meaning.specs.Holding.{IsObjectConstant, IsFamilyConstant, ObjectHolds, AtomicHolds, ArgumentsHold, FamilyHolds, KindHolds}

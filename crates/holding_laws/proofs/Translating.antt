@@ -4,15 +4,15 @@ use Rattle.lf_meaning.specs.Terms.{Constant, Object, Lam, At, Var, Con, App, Fam
 use Rattle.lf_meaning.specs.Erasure.{head_constant, erase}
 use Rattle.lf_meaning.specs.Signatures.{Class, FamilyClass, KindClass, Value, SameAs, TermValue, FamilyValue, Declaration, Signature, same_constant, declaration_of, undefined_class, declared_class, class_of}
 use Rattle.lf_meaning.specs.Substitution.{substitute, substitute_kind}
-use Rattle.lf_substitution_laws.specs.Uniform.{of_constants}
+use Rattle.lf_meaning.specs.Replacement.{of_constants}
 use Rattle.translation_meaning.specs.Heads.{Head, ObjectHead, FamilyHead, family_head_takes, head_takes}
-use Rattle.translation_meaning.specs.HeadMaps.{Mapping, HeadMap, image_of}
+use Rattle.lf_meaning.specs.HeadMaps.{Mapping, HeadMap, image_of}
 use Rattle.translation_meaning.specs.Translation.{object_image, headed_image, translate_object, family_image, family_head_image, translate_head, family_of, translate_family, translate_kind, translate_class, object_value, family_value, same_image, translate_value, translate_image, compose}
 use Rattle.translation_meaning.specs.ProperValues.{IsValueBody}
 use Rattle.library_meaning.specs.Holding.{IsObjectConstant, IsFamilyConstant, ObjectHolds, ArgumentsHold, FamilyHolds, KindHolds, ClassHolds, ValueHolds, AlikeClasses}
 use Rattle.library_meaning.specs.Coherence.{declared_names, mapped_names}
 use Rattle.translation_meaning.specs.AtomicFamilies.{IsAtomicFamily}
-use Rattle.expansion_meaning.proofs.Binding.{some_same}
+use Rattle.expansion_laws.proofs.Binding.{some_same}
 use Rattle.holding_laws.specs.TranslationHolds.{MapsInto, CoherentMapsInto, CompositionIsCoherent}
 use Rattle.holding_laws.proofs.Replaced.{HeadedHolds, domains_map, action_holds, replace_holds}
 use Rattle.holding_laws.specs.HeadsHold.{PartlyHolds, HeadHolds}

@@ -2,7 +2,7 @@
 use Rattle.std.specs.Prelude.{◌≡◌, ℕ, Some}
 use Rattle.lf_meaning.specs.Terms.{Constant, Object, Family, Kind}
 use Rattle.lf_meaning.specs.Signatures.{Class, Value, Signature, class_of}
-use Rattle.translation_meaning.specs.HeadMaps.{Image, HeadMap, image_of}
+use Rattle.lf_meaning.specs.HeadMaps.{Image, HeadMap, image_of}
 use Rattle.translation_meaning.specs.Translation.{translate_object, translate_family, translate_kind, translate_class, translate_value, compose}
 use Rattle.library_meaning.specs.Holding.{ObjectHolds, FamilyHolds, KindHolds, ClassHolds, ValueHolds, AlikeClasses}
 use Rattle.library_meaning.specs.Coherence.{IsCoherentMap}

@@ -7,8 +7,8 @@ use Rattle.lf_meaning.specs.Replacement.{Headed, Kept, Replaced, object_of, valu
 use Rattle.lf_meaning.specs.Substitution.{substituted, substitution, action, substitute}
 use Rattle.lf_meaning.specs.Sorts.{Sorts, HasSort, SynthesisesSort}
 use Rattle.lf_substitution_laws.proofs.Indices.{Position, below, at, above, position}
-use Rattle.lf_meaning.proofs.Substituted.{substituted_below, substituted_at, substituted_above}
-use Rattle.lf_meaning.proofs.Lookups.{get_below, get_at, get_above}
+use Rattle.lf_term_laws.proofs.Substituted.{substituted_below, substituted_at, substituted_above}
+use Rattle.lf_term_laws.proofs.Lookups.{get_below, get_at, get_above}
 use Rattle.lf_substitution_laws.proofs.Indices.{get_raised}
 use Rattle.lf_substitution_laws.proofs.Domains.{AllDomains, by_domains, IsRetyping, itself, itself_retypes}
 

@@ -1,6 +1,6 @@
 -- What a written path stands for, as a relation: the four cases, each where none before it applies (this profile).
 use Rattle.std.specs.Prelude.{◌≡◌, ◌≢◌, ℕ, ◌<◌, true, [], ◌∷◌, Some, slice_get}
-use Rattle.lf_meaning.specs.Terms.{Name, Path}
+use Rattle.name_meaning.specs.Names.{Name, Path}
 use Rattle.lf_meaning.specs.Signatures.{Declaration}
 use Rattle.library_meaning.specs.Faces.{own_part}
 use Rattle.library_meaning.specs.Closure.{sees}

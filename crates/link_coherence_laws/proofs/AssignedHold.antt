@@ -2,17 +2,17 @@
 use Rattle.std.proofs.Common.{◌≡◌, ◌<◌, Bool, true, false, cond, List, [], ◌∷◌, ◌++◌, length, Option, Some, None, inl, inr, refl, sym, ap, ◌∙◌, subst, arith}
 use Rattle.std.specs.Prelude.{⊤}
 use Rattle.std.proofs.lemmas.Bool.{and_parts}
-use Rattle.lf_meaning.specs.Terms.{Name, Path}
-use Rattle.lf_meaning.specs.Signatures.{Class, Value, SameAs, Declaration, Signature, same_name}
-use Rattle.lf_meaning.proofs.Equality.{same_name_sound}
-use Rattle.log_meaning.proofs.Members.{Member, append_right}
+use Rattle.name_meaning.specs.Names.{Name, Path, same_name}
+use Rattle.lf_meaning.specs.Signatures.{Class, Value, SameAs, Declaration, Signature}
+use Rattle.lf_term_laws.proofs.Equality.{same_name_sound}
+use Rattle.log_laws.proofs.Members.{Member, append_right}
 use Rattle.translation_meaning.specs.Differ.{value_in}
 use Rattle.library_meaning.specs.Faces.{theory_of, includes_of, own_part, own_parts}
 use Rattle.library_meaning.specs.Holding.{ClassHolds, ValueHolds, OptionalValueHolds, AlikeClasses}
 use Rattle.library_meaning.specs.Words.{Link}
 use Rattle.text_meaning.specs.Tokens.{Span}
 use Rattle.text_meaning.specs.Trees.{Expr, Assign, IncludeAssign, StructAssign, ConstAssign}
-use Rattle.expansion_meaning.proofs.Binding.{some_same}
+use Rattle.expansion_laws.proofs.Binding.{some_same}
 use Rattle.link_meaning.specs.Assignments.{Setting, is_or_includes, codomain_sees, structure_at, paths_of, Assigned, Covering, Sharing, Giving, with_target}
 use Rattle.link_meaning.specs.AssignmentsRead.{AssignReads, AssignsRead}
 use Rattle.link_meaning.specs.Passes.{rest_behind, Reached, ByNone, ByValue, ByStructure, by_rest, by_equal, equal_paths, reached_by, induced_constant}

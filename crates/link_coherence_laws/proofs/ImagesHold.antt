@@ -2,12 +2,13 @@
 use Rattle.std.proofs.Common.{◌≡◌, ℕ, ◌<◌, Bool, true, false, cond, List, [], ◌∷◌, ◌++◌, length, slice_get, Option, Some, None, is_some, option_map, ◌&&◌, ◌||◌, ◌⊎◌, inl, inr, ⊎_elim, refl, sym, ap, ◌∙◌, subst, true≢false, arith}
 use Rattle.std.proofs.lemmas.Bool.{or_cases, and_parts}
 use Rattle.std.proofs.lemmas.Option.{none-some}
-use Rattle.lf_meaning.specs.Terms.{Name, Path, Constant}
-use Rattle.lf_meaning.specs.Signatures.{Class, FamilyClass, KindClass, Value, Declaration, Signature, same_name, same_constant, declaration_of, undefined_class, class_of}
-use Rattle.lf_meaning.proofs.Equality.{same_name_sound}
-use Rattle.log_meaning.proofs.Members.{Member, any_found, in_append, append_left, append_right, in_flat_map}
-use Rattle.log_meaning.proofs.Order.{among_member, member_among}
-use Rattle.translation_meaning.specs.HeadMaps.{Image, HeadMap, image_of}
+use Rattle.name_meaning.specs.Names.{Name, Path, same_name}
+use Rattle.lf_meaning.specs.Terms.{Constant}
+use Rattle.lf_meaning.specs.Signatures.{Class, FamilyClass, KindClass, Value, Declaration, Signature, same_constant, declaration_of, undefined_class, class_of}
+use Rattle.lf_term_laws.proofs.Equality.{same_name_sound}
+use Rattle.log_laws.proofs.Members.{Member, any_found, in_append, append_left, append_right, in_flat_map}
+use Rattle.log_laws.proofs.Order.{among_member, member_among}
+use Rattle.lf_meaning.specs.HeadMaps.{Image, HeadMap, image_of}
 use Rattle.translation_meaning.specs.Differ.{value_in}
 use Rattle.library_meaning.specs.Faces.{StructureFace, TheoryFace, Environment, theory_of, structure_of, includes_of, own_of, own_part, own_parts, flat_of}
 use Rattle.library_meaning.specs.Closure.{sees}
@@ -16,11 +17,11 @@ use Rattle.library_meaning.specs.Holding.{ValueHolds, OptionalValueHolds, AlikeC
 use Rattle.library_meaning.specs.Coherence.{DeclarationsHold, IsCoherentMap, IsCoherent, IsInduced}
 use Rattle.library_meaning.specs.Words.{Link, structure_link, behind_structure, structures_of, link_by, is_empty, structures_link, own_value, identity_mapping, identity_map}
 use Rattle.text_meaning.specs.Tokens.{Span}
-use Rattle.expansion_meaning.proofs.Binding.{some_same}
+use Rattle.expansion_laws.proofs.Binding.{some_same}
 use Rattle.link_meaning.specs.Assignments.{Setting, is_or_includes, codomain_sees, included_theories, Assigned, Covering}
 use Rattle.link_meaning.specs.Coverings.{identity_covers, is_identity_covering, is_none_of, covers_of}
 use Rattle.link_meaning.specs.Equations.{IsCovering, ByIdentity, ByAssignment}
-use Rattle.link_meaning.proofs.Linked.{declarations_hold, own_named, includes_other}
+use Rattle.link_laws.proofs.Linked.{declarations_hold, own_named, includes_other}
 use Rattle.holding_laws.specs.HoldingLaws.{Grows}
 use Rattle.holding_laws.specs.ExpansionHolds.{scope_signature}
 use Rattle.holding_laws.proofs.Growing.{value_grows}

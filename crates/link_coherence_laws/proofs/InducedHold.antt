@@ -2,21 +2,21 @@
 use Rattle.std.proofs.Common.{◌≡◌, ℕ, suc, Bool, true, false, List, [], ◌∷◌, ◌++◌, filter_map, slice_get, Option, Some, None, option_map, inl, inr, refl, sym, ap, ap₂, ◌∙◌, subst}
 use Rattle.std.specs.Prelude.{⊤}
 use Rattle.std.specs.List.{cons_option}
-use Rattle.lf_meaning.specs.Terms.{Name}
-use Rattle.lf_meaning.specs.Signatures.{Declaration, Signature, same_name}
-use Rattle.lf_meaning.proofs.Equality.{same_name_itself}
-use Rattle.log_meaning.proofs.Members.{Member, in_flat_map, append_right}
-use Rattle.log_meaning.proofs.Order.{member_among}
-use Rattle.translation_meaning.specs.HeadMaps.{Image, Mapping, HeadMap, image_of}
+use Rattle.name_meaning.specs.Names.{Name, same_name}
+use Rattle.lf_meaning.specs.Signatures.{Declaration, Signature}
+use Rattle.lf_term_laws.proofs.Equality.{same_name_itself}
+use Rattle.log_laws.proofs.Members.{Member, in_flat_map, append_right}
+use Rattle.log_laws.proofs.Order.{member_among}
+use Rattle.lf_meaning.specs.HeadMaps.{Image, Mapping, HeadMap, image_of}
 use Rattle.library_meaning.specs.Faces.{own_part, own_parts, flat_of}
 use Rattle.library_meaning.specs.Holding.{AlikeClasses}
 use Rattle.library_meaning.specs.Coherence.{declared_names, mapped_names, IsCoherentMap}
-use Rattle.expansion_meaning.proofs.Binding.{some_same}
+use Rattle.expansion_laws.proofs.Binding.{some_same}
 use Rattle.link_meaning.specs.Assignments.{Setting, included_theories}
 use Rattle.link_meaning.specs.Passes.{induced_constant, is_own}
 use Rattle.link_meaning.specs.Induced.{induced_with, induced_from, induced}
-use Rattle.link_meaning.proofs.Covered.{in_filter_map}
-use Rattle.link_meaning.proofs.Linked.{own_named, own_by, includes_other}
+use Rattle.link_laws.proofs.Covered.{in_filter_map}
+use Rattle.link_laws.proofs.Linked.{own_named, own_by, includes_other}
 use Rattle.holding_laws.proofs.Translating.{placed_in}
 use Rattle.link_coherence_laws.proofs.Onces.{place_member, Once, once_names, member_declared}
 use Rattle.link_coherence_laws.proofs.WordsHold.{flat_once}

@@ -1,12 +1,13 @@
 -- The map of a link is coherent, and so are the constants that a structure induces.
 use Rattle.std.proofs.Common.{◌≡◌, ℕ, suc, ◌<◌, Bool, true, false, cond, List, [], ◌∷◌, ◌++◌, length, take, slice_get, Option, Some, None, option_map, Ok, ◌⊎◌, inl, inr, ⊎_elim, refl, sym, ap, ap₂, ◌∙◌, subst, true≢false, append_assoc, append-nil, arith}
-use Rattle.lf_meaning.specs.Terms.{Name, Path, Constant}
+use Rattle.name_meaning.specs.Names.{Name, Path}
+use Rattle.lf_meaning.specs.Terms.{Constant}
 use Rattle.lf_meaning.specs.Signatures.{Class, FamilyClass, KindClass, Value, SameAs, TermValue, FamilyValue, Declaration, Signature, same_constant, undefined_class, declared_class, class_of}
-use Rattle.lf_meaning.proofs.Equality.{same_name_sound, same_constant_itself}
-use Rattle.log_meaning.proofs.Members.{Member, in_append, append_left, append_right, in_flat_map}
-use Rattle.log_meaning.proofs.Order.{member_among}
-use Rattle.log_meaning.proofs.Places.{place_within, take_front, take_length, get_more}
-use Rattle.translation_meaning.specs.HeadMaps.{Mapping, HeadMap}
+use Rattle.lf_term_laws.proofs.Equality.{same_name_sound, same_constant_itself}
+use Rattle.log_laws.proofs.Members.{Member, in_append, append_left, append_right, in_flat_map}
+use Rattle.log_laws.proofs.Order.{member_among}
+use Rattle.log_laws.proofs.Places.{place_within, take_front, take_length, get_more}
+use Rattle.lf_meaning.specs.HeadMaps.{Mapping, HeadMap}
 use Rattle.translation_meaning.specs.Translation.{translate_class, translate_value}
 use Rattle.translation_meaning.specs.Differ.{value_in}
 use Rattle.library_meaning.specs.Words.{Link}
@@ -15,16 +16,16 @@ use Rattle.library_meaning.specs.Holding.{SameLevel, ClassHolds, ValueHolds, Opt
 use Rattle.library_meaning.specs.Coherence.{DeclarationsHold, declared_names, mapped_names, IsCoherentMap}
 use Rattle.text_meaning.specs.Tokens.{Span}
 use Rattle.expansion_meaning.specs.Rules.{Rule}
-use Rattle.expansion_meaning.proofs.Binding.{some_same}
+use Rattle.expansion_laws.proofs.Binding.{some_same}
 use Rattle.link_meaning.specs.Assignments.{Setting, included_theories, Assigned, Covering}
 use Rattle.link_meaning.specs.Coverings.{first_covering, value_by, covered_value}
 use Rattle.link_meaning.specs.Passes.{reached_by, induced_constant, is_own, image_by, mapping_to, map_all}
 use Rattle.link_meaning.specs.Induced.{defined_by, induced_with}
-use Rattle.link_meaning.specs.LinkLaws.{IsSettled}
-use Rattle.link_meaning.proofs.Covered.{there_refused, first_is_covering}
-use Rattle.link_meaning.proofs.Valued.{own_sound}
-use Rattle.link_meaning.proofs.Following.{Follows, walk_follows}
-use Rattle.link_meaning.proofs.Linked.{own_named, declarations_hold, includes_other, included_in}
+use Rattle.link_meaning.specs.LinkMaps.{IsSettled}
+use Rattle.link_laws.proofs.Covered.{there_refused, first_is_covering}
+use Rattle.link_laws.proofs.Valued.{own_sound}
+use Rattle.link_laws.proofs.Following.{Follows, walk_follows}
+use Rattle.link_laws.proofs.Linked.{own_named, declarations_hold, includes_other, included_in}
 use Rattle.holding_laws.specs.HoldingLaws.{Grows}
 use Rattle.holding_laws.specs.TranslationHolds.{MapsInto}
 use Rattle.holding_laws.specs.ExpansionHolds.{scope_signature}

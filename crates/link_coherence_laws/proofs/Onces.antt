@@ -1,18 +1,19 @@
 -- Signatures in which each name stands once, and whose declarations hold what stands before them.
 use Rattle.std.proofs.Common.{◌≡◌, ◌≢◌, ℕ, zero, suc, Bool, true, false, cond, List, [], ◌∷◌, ◌++◌, length, take, slice_get, Option, Some, None, inl, inr, ⊎_elim, refl, sym, ap, ◌∙◌, subst, append_assoc, append-nil, arith}
 use Rattle.std.specs.Prelude.{⊤}
-use Rattle.lf_meaning.specs.Terms.{Name, Constant}
+use Rattle.name_meaning.specs.Names.{Name}
+use Rattle.lf_meaning.specs.Terms.{Constant}
 use Rattle.lf_meaning.specs.Signatures.{Class, Declaration, Signature, same_constant, declaration_of, declared_class}
-use Rattle.lf_meaning.proofs.Equality.{same_constant_sound}
-use Rattle.log_meaning.proofs.Members.{Member, in_append, append_left, append_right, in_flat_map, flat_map_in}
-use Rattle.log_meaning.proofs.Order.{among_member, member_among}
-use Rattle.log_meaning.proofs.Places.{take_front, take_length}
+use Rattle.lf_term_laws.proofs.Equality.{same_constant_sound}
+use Rattle.log_laws.proofs.Members.{Member, in_append, append_left, append_right, in_flat_map, flat_map_in}
+use Rattle.log_laws.proofs.Order.{among_member, member_among}
+use Rattle.log_laws.proofs.Places.{take_front, take_length}
 use Rattle.library_meaning.specs.Faces.{TheoryFace, Environment, theory_of, includes_of, own_of, own_part, own_parts}
 use Rattle.library_meaning.specs.Closure.{sees}
 use Rattle.library_meaning.specs.Holding.{ClassHolds, OptionalValueHolds}
 use Rattle.library_meaning.specs.Coherence.{IsClosure, DeclarationsHold, IsCoherent}
-use Rattle.expansion_meaning.proofs.Binding.{some_same}
-use Rattle.link_meaning.proofs.Linked.{known_theory, own_named}
+use Rattle.expansion_laws.proofs.Binding.{some_same}
+use Rattle.link_laws.proofs.Linked.{known_theory, own_named}
 use Rattle.holding_laws.specs.HoldingLaws.{Grows}
 use Rattle.holding_laws.specs.ExpansionHolds.{NamesOnce}
 use Rattle.holding_laws.proofs.Growing.{class_grows, optional_grows}

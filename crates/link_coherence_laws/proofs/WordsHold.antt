@@ -1,19 +1,19 @@
 -- Words of morphisms, and rows of them, have maps of each kind that composition keeps; so they have coherent ones.
 use Rattle.std.proofs.Common.{◌≡◌, ℕ, zero, suc, ◌<◌, Bool, true, false, cond, List, [], ◌∷◌, ◌++◌, length, take, slice_get, Option, Some, None, is_some, ◌⊎◌, inl, inr, ⊎_elim, refl, sym, ap, ◌∙◌, subst, true≢false}
 use Rattle.std.proofs.lemmas.Bool.{or_cases}
-use Rattle.lf_meaning.specs.Terms.{Name, Path}
-use Rattle.lf_meaning.specs.Signatures.{Declaration, Signature, same_name}
-use Rattle.lf_meaning.proofs.Equality.{same_name_sound}
-use Rattle.log_meaning.proofs.Members.{Member, in_append, append_left, in_flat_map, flat_map_in}
-use Rattle.log_meaning.proofs.Order.{among_member, member_among}
-use Rattle.translation_meaning.specs.HeadMaps.{HeadMap}
+use Rattle.name_meaning.specs.Names.{Name, Path, same_name}
+use Rattle.lf_meaning.specs.Signatures.{Declaration, Signature}
+use Rattle.lf_term_laws.proofs.Equality.{same_name_sound}
+use Rattle.log_laws.proofs.Members.{Member, in_append, append_left, in_flat_map, flat_map_in}
+use Rattle.log_laws.proofs.Order.{among_member, member_among}
+use Rattle.lf_meaning.specs.HeadMaps.{HeadMap}
 use Rattle.translation_meaning.specs.Translation.{compose}
 use Rattle.library_meaning.specs.Faces.{StructureFace, TheoryFace, ViewFace, Known, IsAbsent, IsRefused, IsTheory, IsView, theory_face, Environment, theory_of, structure_of, includes_of, own_of, own_part, own_parts, flat_signature, flat_of}
 use Rattle.library_meaning.specs.Closure.{sees}
 use Rattle.library_meaning.specs.Coherence.{AreTheories, IsClosure, IsCoherentMap, IsCoherentTheory, IsCoherent}
 use Rattle.library_meaning.specs.Words.{Link, structure_link, followed_by, behind_structure, structures_of, link_by, is_empty, structures_link, Meaning, Means, Faulty, or_unknown, simple_word, longer_word, EndsApart, is_here, word_meaning, meets, RowMeaning, RowMeans, RowFaulty, next_by, row_from, first_by, row_meaning}
-use Rattle.expansion_meaning.proofs.Binding.{some_same}
-use Rattle.link_meaning.proofs.Linked.{known_theory, own_named, includes_other}
+use Rattle.expansion_laws.proofs.Binding.{some_same}
+use Rattle.link_laws.proofs.Linked.{known_theory, own_named, includes_other}
 use Rattle.holding_laws.specs.HoldingLaws.{Grows}
 use Rattle.holding_laws.proofs.Growing.{class_grows, value_grows}
 use Rattle.holding_laws.proofs.Translating.{composition_is_coherent}

@@ -1,7 +1,7 @@
 -- What a link leads into, and when its map is coherent there (this profile).
 use Rattle.std.specs.Prelude.{◌≡◌, ℕ, true, List, slice_get, Option, Some, None, is_some, if◌then◌else◌}
-use Rattle.lf_meaning.specs.Terms.{Name, Path}
-use Rattle.lf_meaning.specs.Signatures.{Signature, same_name}
+use Rattle.name_meaning.specs.Names.{Name, Path, same_name}
+use Rattle.lf_meaning.specs.Signatures.{Signature}
 use Rattle.library_meaning.specs.Faces.{StructureFace, TheoryFace, IsAbsent, Environment, theory_of, flat_signature, flat_of}
 use Rattle.library_meaning.specs.Coherence.{IsCoherentMap, IsCoherent}
 use Rattle.library_meaning.specs.Words.{Link, RowMeans, row_meaning}

@@ -1,6 +1,6 @@
 -- The scope of an accepted theory (this profile).
 use Rattle.std.specs.Prelude.{IsSome}
-use Rattle.lf_meaning.specs.Terms.{Name}
+use Rattle.name_meaning.specs.Names.{Name}
 use Rattle.library_meaning.specs.Faces.{Environment, theory_of, includes_of, own_part}
 use Rattle.library_meaning.specs.Coherence.{IsCoherent}
 use Rattle.library_meaning.specs.Resolution.{Scope}

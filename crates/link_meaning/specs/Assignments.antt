@@ -1,8 +1,8 @@
 -- The first pass over a link: its assignments in the order of the text, each with what it gives (this profile).
+use Rattle.text_meaning.specs.Labels.{label_in}
 use Rattle.std.specs.Prelude.{ℕ, Bool, true, false, List, [], ◌∷◌, ◌&&◌, ◌||◌, not, map, slice_get, is_some, Option, Some, None, Ok}
 use Rattle.std.specs.List.{list_any}
-use Rattle.lf_meaning.specs.Terms.{Name, Path}
-use Rattle.lf_meaning.specs.Signatures.{same_name}
+use Rattle.name_meaning.specs.Names.{Name, Path, same_name}
 use Rattle.library_meaning.specs.Faces.{TheoryFace, Environment, theory_of, includes_of, own_part}
 use Rattle.library_meaning.specs.Closure.{sees}
 use Rattle.library_meaning.specs.Resolution.{Scope, own_at}
@@ -45,14 +45,9 @@ pub data Assigned : Type 0 where
   Sharing : (target : Path) → (structure : Link) → (first : Span) → (by : Link) → Assigned
   Giving : (target : Path) → (value : Expr) → Assigned
 
--- Read: the label of an assignment to a path: the path, behind the name of the structure if the link is one.
-abbrev pub label_in : Option Name → Path → Path
-label_in None path = path
-label_in (Some structure) path = structure ∷ path
-
 -- Read: the label of an assignment of this link.
-abbrev pub label_of : Setting → Path → Path
-label_of setting path = label_in setting.structure path
+abbrev pub label_along : Setting → Path → Path
+label_along setting path = label_in setting.structure path
 
 -- Read: the first path is a beginning of the second, or equal to it.
 unfoldable pub is_beginning : Path → Path → Bool
@@ -113,18 +108,18 @@ is_free earlier target = not (list_any (overlap target) earlier)
 -- Read: what one assignment gives, behind these targets.
 abbrev pub read_assign : Setting → List Path → Assign → Outcome Assigned
 read_assign setting earlier (ConstAssign target value) = do
-  _ ← demand (is_some (own_at (own_part setting.environment setting.domain) target.path)) target.span Rule.UnknownTarget (label_of setting target.path)
-  _ ← demand (is_free earlier target.path) target.span Rule.DoubleAssignment (label_of setting target.path)
+  _ ← demand (is_some (own_at (own_part setting.environment setting.domain) target.path)) target.span Rule.UnknownTarget (label_along setting target.path)
+  _ ← demand (is_free earlier target.path) target.span Rule.DoubleAssignment (label_along setting target.path)
   Ok (Giving target.path value)
 read_assign setting earlier (IncludeAssign words) = do
   by ← link_of setting setting.label words
   _ ← demand (covering_ends setting by) (word_place words 0) Rule.MorphismEnds setting.label
   Ok (Covering (word_place words 0) by)
 read_assign setting earlier (StructAssign target words) = do
-  structure ← or_refused (structure_at setting target.path) target.span Rule.UnknownTarget (label_of setting target.path)
-  _ ← demand (is_free earlier target.path) target.span Rule.DoubleAssignment (label_of setting target.path)
-  by ← link_of setting (label_of setting target.path) words
-  _ ← demand (sharing_ends setting structure by) (word_place words 0) Rule.MorphismEnds (label_of setting target.path)
+  structure ← or_refused (structure_at setting target.path) target.span Rule.UnknownTarget (label_along setting target.path)
+  _ ← demand (is_free earlier target.path) target.span Rule.DoubleAssignment (label_along setting target.path)
+  by ← link_of setting (label_along setting target.path) words
+  _ ← demand (sharing_ends setting structure by) (word_place words 0) Rule.MorphismEnds (label_along setting target.path)
   Ok (Sharing target.path structure (word_place words 0) by)
 
 -- Read: the targets with that of one more assignment, if it has one.

@@ -1,6 +1,6 @@
 -- What assignments give, as a relation (this profile).
 use Rattle.std.specs.Prelude.{◌≡◌, true, List, [], ◌∷◌, Some, IsSome, ⊤}
-use Rattle.lf_meaning.specs.Terms.{Path}
+use Rattle.name_meaning.specs.Names.{Path}
 use Rattle.library_meaning.specs.Faces.{own_part}
 use Rattle.library_meaning.specs.Resolution.{own_at}
 use Rattle.library_meaning.specs.Words.{Link, RowMeans, row_meaning}

@@ -2,9 +2,10 @@
 -- shares what its domain includes, and does not copy it).
 use Rattle.std.specs.Prelude.{Bool, true, false, List, [], ◌∷◌, ◌&&◌, ◌||◌, is_some, filter_map, find, Option, Some, None, Ok, ⊤}
 use Rattle.std.specs.List.{list_any}
-use Rattle.lf_meaning.specs.Terms.{Name, Constant}
+use Rattle.name_meaning.specs.Names.{Name}
+use Rattle.lf_meaning.specs.Terms.{Constant}
 use Rattle.lf_meaning.specs.Signatures.{Value, Declaration}
-use Rattle.translation_meaning.specs.HeadMaps.{HeadMap}
+use Rattle.lf_meaning.specs.HeadMaps.{HeadMap}
 use Rattle.translation_meaning.specs.Differ.{value_in, differ}
 use Rattle.library_meaning.specs.Faces.{Environment, theory_of, includes_of, own_part}
 use Rattle.library_meaning.specs.Closure.{sees}

@@ -1,9 +1,9 @@
 -- The map of a link, by equations on it (Rabe and Kohlhase 2013, section 3: a morphism translates by itself; which values it
 -- has is this profile).
 use Rattle.std.specs.Prelude.{◌≡◌, ℕ, true, false, List, slice_get, Option, Some, None, option_map, Bool, ⊤}
-use Rattle.lf_meaning.specs.Terms.{Name, Path}
+use Rattle.name_meaning.specs.Names.{Name, Path}
 use Rattle.lf_meaning.specs.Signatures.{Class, Value, SameAs, Declaration}
-use Rattle.translation_meaning.specs.HeadMaps.{Mapping, HeadMap}
+use Rattle.lf_meaning.specs.HeadMaps.{Mapping, HeadMap}
 use Rattle.translation_meaning.specs.Translation.{translate_class, translate_value}
 use Rattle.translation_meaning.specs.Differ.{value_in}
 use Rattle.library_meaning.specs.Faces.{theory_of, includes_of, own_parts, flat_of}

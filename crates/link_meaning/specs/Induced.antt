@@ -1,8 +1,9 @@
 -- What a structure adds to the theory that declares it (Rabe and Kohlhase 2013, section 3: flattening of structures).
 use Rattle.std.specs.Prelude.{[], ◌∷◌, ◌++◌, Option, Some, None, filter_map, option_map, if◌then◌else◌}
-use Rattle.lf_meaning.specs.Terms.{Name, Constant}
+use Rattle.name_meaning.specs.Names.{Name}
+use Rattle.lf_meaning.specs.Terms.{Constant}
 use Rattle.lf_meaning.specs.Signatures.{Value, SameAs, TermValue, FamilyValue, Declaration, Signature, same_constant}
-use Rattle.translation_meaning.specs.HeadMaps.{Image, HeadMap, image_of}
+use Rattle.lf_meaning.specs.HeadMaps.{Image, HeadMap, image_of}
 use Rattle.library_meaning.specs.Faces.{TheoryFace, own_part}
 use Rattle.link_meaning.specs.Assignments.{Setting}
 use Rattle.link_meaning.specs.Passes.{induced_constant}

@@ -2,10 +2,11 @@
 -- the order of tests is this profile).
 use Rattle.std.specs.Prelude.{Bool, true, false, List, [], ◌∷◌, ◌++◌, Option, Some, None, option_map, Ok, ⊤}
 use Rattle.std.specs.List.{list_all}
-use Rattle.lf_meaning.specs.Terms.{Name, Path, Constant}
-use Rattle.lf_meaning.specs.Signatures.{Class, Value, SameAs, Declaration, Signature, same_name}
+use Rattle.name_meaning.specs.Names.{Name, Path, same_name}
+use Rattle.lf_meaning.specs.Terms.{Constant}
+use Rattle.lf_meaning.specs.Signatures.{Class, Value, SameAs, Declaration, Signature}
 use Rattle.lf_meaning.specs.Equality.{same_value}
-use Rattle.translation_meaning.specs.HeadMaps.{Mapping, HeadMap}
+use Rattle.lf_meaning.specs.HeadMaps.{Mapping, HeadMap}
 use Rattle.translation_meaning.specs.Translation.{translate_class, translate_value}
 use Rattle.translation_meaning.specs.Differ.{value_in, agree}
 use Rattle.library_meaning.specs.Faces.{theory_of, includes_of, own_parts, flat_of}
@@ -17,7 +18,7 @@ use Rattle.expansion_meaning.specs.Answers.{◌>>=◌}
 use Rattle.expansion_meaning.specs.Expansion.{span_of}
 use Rattle.expansion_meaning.specs.Values.{expand_value}
 use Rattle.link_meaning.specs.Refusals.{Outcome, refused, labelled, demand, or_refused, each}
-use Rattle.link_meaning.specs.Assignments.{Setting, Assigned, Covering, Sharing, Giving, label_of, is_beginning, read_assigns}
+use Rattle.link_meaning.specs.Assignments.{Setting, Assigned, Covering, Sharing, Giving, label_along, is_beginning, read_assigns}
 use Rattle.link_meaning.specs.Coverings.{covered_tests, covered_value}
 
 -- Read: the rest of a path behind its beginning, where there is one and it is not empty.
@@ -88,12 +89,12 @@ constant_in structure rest = record { theory = structure.domain; path = rest }
 abbrev pub own_image : Setting → Reached → Class → Option Value → Declaration → Outcome Value
 own_image setting ByNone class definition declaration = unassigned_value setting definition declaration
 own_image setting (ByValue target expression) class definition declaration = do
-  value ← labelled (label_of setting target) (expand_value setting.scope expression class)
-  _ ← demand (is_definition definition value) (span_of expression) Rule.DefinitionClash (label_of setting target)
+  value ← labelled (label_along setting target) (expand_value setting.scope expression class)
+  _ ← demand (is_definition definition value) (span_of expression) Rule.DefinitionClash (label_along setting target)
   Ok value
 own_image setting (ByStructure target rest structure first by) class definition declaration = do
-  value ← or_refused (value_in by.map (constant_in structure rest)) first Rule.MorphismsDisagree (label_of setting target)
-  _ ← demand (is_definition definition value) first Rule.MorphismsDisagree (label_of setting target)
+  value ← or_refused (value_in by.map (constant_in structure rest)) first Rule.MorphismsDisagree (label_along setting target)
+  _ ← demand (is_definition definition value) first Rule.MorphismsDisagree (label_along setting target)
   Ok value
 
 -- Read: the constant is the domain's own.
@@ -131,7 +132,7 @@ shares along structure by declaration =
 abbrev pub shared_test : Setting → HeadMap → Assigned → Outcome ⊤
 shared_test setting along (Covering first by) = Ok tt
 shared_test setting along (Sharing target structure first by) =
-    demand (list_all (shares along structure by) (own_parts setting.environment (includes_of (theory_of setting.environment structure.domain)))) first Rule.MorphismsDisagree (label_of setting target)
+    demand (list_all (shares along structure by) (own_parts setting.environment (includes_of (theory_of setting.environment structure.domain)))) first Rule.MorphismsDisagree (label_along setting target)
 shared_test setting along (Giving target value) = Ok tt
 
 -- Read: the map of the link that these assignments give.

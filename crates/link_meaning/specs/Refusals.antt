@@ -1,6 +1,6 @@
 -- Refusals: a rule that is broken at a place, with the name of what is concerned (this profile).
 use Rattle.std.specs.Prelude.{Bool, true, false, Option, Some, None, Result, Ok, Err, List, [], ◌∷◌, ⊤}
-use Rattle.lf_meaning.specs.Terms.{Path}
+use Rattle.name_meaning.specs.Names.{Path}
 use Rattle.text_meaning.specs.Tokens.{Span}
 use Rattle.expansion_meaning.specs.Rules.{Rule}
 use Rattle.expansion_meaning.specs.Answers.{Answer, ◌>>=◌}

@@ -3,10 +3,9 @@ use Rattle.std.proofs.Common.{◌≡◌, ◌<◌, Bool, true, false, List, [], �
 use Rattle.std.specs.Prelude.{⊤}
 use Rattle.std.specs.List.{list_any}
 use Rattle.std.proofs.lemmas.Bool.{and_parts}
-use Rattle.lf_meaning.specs.Terms.{Name, Path}
-use Rattle.lf_meaning.specs.Signatures.{same_name}
-use Rattle.lf_meaning.proofs.Equality.{same_name_sound, same_name_itself}
-use Rattle.log_meaning.proofs.Members.{Member, any_not}
+use Rattle.name_meaning.specs.Names.{Name, Path, same_name}
+use Rattle.lf_term_laws.proofs.Equality.{same_name_sound, same_name_itself}
+use Rattle.log_laws.proofs.Members.{Member, any_not}
 use Rattle.library_meaning.specs.Faces.{flat_of}
 use Rattle.library_meaning.specs.Closure.{sees}
 use Rattle.library_meaning.specs.Words.{Link}

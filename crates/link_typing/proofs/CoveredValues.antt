@@ -1,15 +1,16 @@
 -- The values that coverings give to included constants fit their translated classes.
 use Rattle.std.proofs.Common.{◌≡◌, ℕ, zero, suc, Bool, true, false, List, [], ◌∷◌, ◌++◌, take, slice_get, Option, Some, None, is_some, option_map, ◌&&◌, ◌||◌, inl, inr, ⊎_elim, refl, sym, ap, ap₂, ◌∙◌, subst, subst₂}
 use Rattle.std.proofs.lemmas.Bool.{or_cases, and_parts}
-use Rattle.lf_meaning.specs.Terms.{Name, Constant}
-use Rattle.lf_meaning.specs.Signatures.{Class, Value, Declaration, Signature, same_name, undefined_class, declaration_of, class_of}
+use Rattle.name_meaning.specs.Names.{Name, same_name}
+use Rattle.lf_meaning.specs.Terms.{Constant}
+use Rattle.lf_meaning.specs.Signatures.{Class, Value, Declaration, Signature, undefined_class, declaration_of, class_of}
 use Rattle.lf_meaning.specs.Judgements.{Fits, ValueFits, IsDeclaration, IsSignature}
-use Rattle.lf_meaning.proofs.Equality.{same_name_sound, same_name_itself}
-use Rattle.lf_metatheory.proofs.Declared.{declared_as}
-use Rattle.lf_metatheory.proofs.Growing.{signature_shrinks}
-use Rattle.log_meaning.proofs.Members.{Member, in_append, append_left, append_right, in_flat_map, any_found, any_of}
-use Rattle.log_meaning.proofs.Order.{among_member, member_among}
-use Rattle.translation_meaning.specs.HeadMaps.{Image, HeadMap, image_of}
+use Rattle.lf_term_laws.proofs.Equality.{same_name_sound, same_name_itself}
+use Rattle.lf_typing.proofs.Declared.{declared_as}
+use Rattle.lf_typing.proofs.Growing.{signature_shrinks}
+use Rattle.log_laws.proofs.Members.{Member, in_append, append_left, append_right, in_flat_map, any_found, any_of}
+use Rattle.log_laws.proofs.Order.{among_member, member_among}
+use Rattle.lf_meaning.specs.HeadMaps.{Image, HeadMap, image_of}
 use Rattle.translation_meaning.specs.Translation.{translate_class, translate_value}
 use Rattle.translation_meaning.specs.Differ.{value_in}
 use Rattle.translation_meaning.specs.ProperValues.{IsProperValue, ValuesAreProper}
@@ -25,7 +26,7 @@ use Rattle.link_meaning.specs.Assignments.{Setting, is_or_includes, included_the
 use Rattle.link_meaning.specs.Coverings.{identity_covers, is_identity_covering, identity_on}
 use Rattle.link_meaning.specs.Passes.{is_own}
 use Rattle.link_meaning.specs.Equations.{IsCovering, ByIdentity, ByAssignment, CoveringsGive, HasValue, HasValueBy, MeetsEquations}
-use Rattle.link_meaning.proofs.Linked.{own_named, own_by, includes_other, included_in, declarations_hold}
+use Rattle.link_laws.proofs.Linked.{own_named, own_by, includes_other, included_in, declarations_hold}
 use Rattle.holding_laws.specs.HoldingLaws.{Grows}
 use Rattle.holding_laws.specs.ExpansionHolds.{scope_signature}
 use Rattle.holding_laws.proofs.Declared.{place_of}

@@ -1,20 +1,21 @@
 -- The map of a link is typed, and what a structure induces is well typed.
 use Rattle.std.proofs.Common.{◌≡◌, suc, ◌+◌, Bool, true, false, cond, List, [], ◌∷◌, ◌++◌, length, length-append, take, drop, slice_get, Option, Some, None, option_map, Ok, inl, ⊎_elim, refl, sym, ap, ap₂, ◌∙◌, subst, subst₂, append_assoc, append-nil, arith}
-use Rattle.lf_meaning.specs.Terms.{Name, Constant}
-use Rattle.lf_meaning.specs.Signatures.{Class, Value, SameAs, TermValue, FamilyValue, Declaration, Signature, same_name, same_constant}
+use Rattle.name_meaning.specs.Names.{Name, same_name}
+use Rattle.lf_meaning.specs.Terms.{Constant}
+use Rattle.lf_meaning.specs.Signatures.{Class, Value, SameAs, TermValue, FamilyValue, Declaration, Signature, same_constant}
 use Rattle.lf_meaning.specs.Judgements.{IsClass, Fits, ValueFits, IsDeclaration, IsSignature}
-use Rattle.lf_meaning.proofs.Equality.{same_name_itself}
-use Rattle.lf_metatheory.proofs.Growing.{signature_grows}
-use Rattle.log_meaning.proofs.Members.{Member, in_append, append_left, append_right}
-use Rattle.log_meaning.proofs.Places.{split_at}
-use Rattle.translation_meaning.specs.HeadMaps.{Image, Mapping, HeadMap, image_of}
+use Rattle.lf_term_laws.proofs.Equality.{same_name_itself}
+use Rattle.lf_typing.proofs.Growing.{signature_grows}
+use Rattle.log_laws.proofs.Members.{Member, in_append, append_left, append_right}
+use Rattle.log_laws.proofs.Places.{split_at}
+use Rattle.lf_meaning.specs.HeadMaps.{Image, Mapping, HeadMap, image_of}
 use Rattle.translation_meaning.specs.Translation.{translate_class, translate_value}
 use Rattle.translation_meaning.specs.TypedMaps.{KeepsValue, IsTypedAt}
 use Rattle.translation_typing.specs.TypedTranslation.{IsTypedTranslation}
 use Rattle.translation_typing.proofs.Laws.{class_carried, value_carried}
 use Rattle.library_meaning.specs.Faces.{own_part, own_parts, flat_of}
 use Rattle.library_meaning.specs.Coherence.{declared_names, mapped_names, IsCoherentMap}
-use Rattle.expansion_meaning.proofs.Binding.{came_by}
+use Rattle.expansion_laws.proofs.Binding.{came_by}
 use Rattle.expansion_typing.proofs.Expanding.{DeclaredTyped, value_fits}
 use Rattle.link_meaning.specs.Refusals.{each}
 use Rattle.link_meaning.specs.Assignments.{Setting, included_theories, Assigned, read_assigns}
@@ -22,9 +23,9 @@ use Rattle.link_meaning.specs.Coverings.{covered_tests}
 use Rattle.link_meaning.specs.Passes.{Reached, ByNone, ByValue, ByStructure, reached_by, induced_constant, is_own, map_all, shared_test, assigned_map, link_map}
 use Rattle.link_meaning.specs.Equations.{IsCopied, IsUnassigned, OwnHasValue, HasValueBy, MeetsEquations}
 use Rattle.link_meaning.specs.Induced.{defined_by, induced_with}
-use Rattle.link_meaning.proofs.Covered.{good_same}
-use Rattle.link_meaning.proofs.Reading.{assigns_sound}
-use Rattle.link_meaning.proofs.Linked.{own_named, passes_sound}
+use Rattle.link_laws.proofs.Covered.{good_same}
+use Rattle.link_laws.proofs.Reading.{assigns_sound}
+use Rattle.link_laws.proofs.Linked.{own_named, passes_sound}
 use Rattle.holding_laws.specs.HoldingLaws.{Grows}
 use Rattle.holding_laws.specs.ExpansionHolds.{scope_signature}
 use Rattle.holding_laws.proofs.Declared.{place_of, front_grows, take_grows, class_in}

@@ -1,17 +1,18 @@
 -- The values that sharing links give to the constants of a structure fit their translated classes.
 use Rattle.std.proofs.Common.{◌≡◌, ◌<◌, true, List, [], ◌∷◌, ◌++◌, length, Option, Some, None, option_map, inl, ⊎_elim, refl, sym, ap, ap₂, ◌∙◌, subst, subst₂, append_assoc, append-nil}
-use Rattle.lf_meaning.specs.Terms.{Name, Path, Constant}
+use Rattle.name_meaning.specs.Names.{Name, Path}
+use Rattle.lf_meaning.specs.Terms.{Constant}
 use Rattle.lf_meaning.specs.Signatures.{Class, Value, Declaration, Signature, class_of}
 use Rattle.lf_meaning.specs.Judgements.{Fits, IsDeclaration, IsSignature}
-use Rattle.lf_meaning.proofs.Equality.{same_name_itself}
-use Rattle.lf_metatheory.proofs.Growing.{signature_shrinks}
-use Rattle.log_meaning.proofs.Members.{Member, in_append, append_left, append_right}
-use Rattle.translation_meaning.specs.HeadMaps.{Image, HeadMap, image_of}
+use Rattle.lf_term_laws.proofs.Equality.{same_name_itself}
+use Rattle.lf_typing.proofs.Growing.{signature_shrinks}
+use Rattle.log_laws.proofs.Members.{Member, in_append, append_left, append_right}
+use Rattle.lf_meaning.specs.HeadMaps.{Image, HeadMap, image_of}
 use Rattle.translation_meaning.specs.Translation.{translate_class, translate_value, translate_image, compose}
 use Rattle.translation_meaning.specs.Differ.{value_in}
 use Rattle.translation_meaning.specs.ProperValues.{ValuesAreProper}
 use Rattle.translation_meaning.specs.TypedMaps.{KeepsValue, IsTypedAt}
-use Rattle.translation_meaning.proofs.Spines.{composed}
+use Rattle.translation_laws.proofs.Spines.{composed}
 use Rattle.translation_typing.specs.Composition.{AreComposable}
 use Rattle.translation_typing.proofs.DeclaredTyped.{declared_typed}
 use Rattle.translation_typing.proofs.Composing.{class_composed}
@@ -24,8 +25,8 @@ use Rattle.link_meaning.specs.Assignments.{Setting, Assigned, Sharing}
 use Rattle.link_meaning.specs.Passes.{ByStructure, reached_by, is_own}
 use Rattle.link_meaning.specs.Equations.{IsDefinition, OwnHasValue, HasValueBy, MeetsEquations}
 use Rattle.link_meaning.specs.Induced.{induced_with}
-use Rattle.link_meaning.proofs.Covered.{filter_map_in}
-use Rattle.link_meaning.proofs.Linked.{own_named}
+use Rattle.link_laws.proofs.Covered.{filter_map_in}
+use Rattle.link_laws.proofs.Linked.{own_named}
 use Rattle.holding_laws.specs.HoldingLaws.{Grows}
 use Rattle.holding_laws.specs.ExpansionHolds.{scope_signature}
 use Rattle.holding_laws.proofs.Declared.{place_of}

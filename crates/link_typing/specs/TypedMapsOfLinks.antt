@@ -2,7 +2,7 @@
 -- a link is no structure, and its codomain is not being built. Of a structure, the theory of which is being built, the laws of
 -- typed faces say it.
 use Rattle.std.specs.Prelude.{◌≡◌, List, Ok}
-use Rattle.translation_meaning.specs.HeadMaps.{HeadMap}
+use Rattle.lf_meaning.specs.HeadMaps.{HeadMap}
 use Rattle.translation_meaning.specs.TypedMaps.{IsTypedMap}
 use Rattle.library_meaning.specs.Faces.{flat_of}
 use Rattle.library_meaning.specs.Coherence.{IsCoherent}

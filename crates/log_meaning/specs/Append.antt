@@ -1,7 +1,7 @@
 -- Which edits a log takes, and what it answers (this profile).
 use Rattle.std.specs.Prelude.{ℕ, suc, Bool, false, List, [], ◌∷◌, ◌++◌, ◌+◌, ◌^◌, ◌&&◌, ◌||◌, not, length, sum_by, fold, nat_lt, nat_le, Option, Some, None, if◌then◌else◌}
 use Rattle.std.specs.Str.{bytes_eq}
-use Rattle.log_meaning.specs.Names.{Text}
+use Rattle.name_meaning.specs.Names.{Text}
 use Rattle.log_meaning.specs.Log.{Edit, Put, Drop, Log, library_of, text_of, is_present, version_of}
 
 -- Read: the greatest length of a text.

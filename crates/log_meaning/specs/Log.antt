@@ -1,6 +1,6 @@
 -- The log of the edits made, and the library that it leaves (this profile).
 use Rattle.std.specs.Prelude.{ℕ, zero, suc, Bool, List, [], ◌∷◌, max, map, length, not, filter, fold, slice_get, Option, Some, None, is_some, if◌then◌else◌, ◌≡◌, true}
-use Rattle.log_meaning.specs.Names.{Name, Text, same_name, comes_before, is_ascending}
+use Rattle.name_meaning.specs.Names.{Name, Text, same_name, comes_before, is_ascending}
 
 -- Read: a text is put under a name, or a name is dropped.
 pub data Edit : Type 0 where

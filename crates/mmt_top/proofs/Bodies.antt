@@ -5,9 +5,9 @@ use Rattle.std.specs.Option.{option_map, option_and_then}
 use Rattle.std.proofs.lemmas.List.{append-nil, take-append-drop, take_more, drop-drop, length-drop}
 use Rattle.std.proofs.Math.ListN.{drop_of_length-le}
 use Rattle.std.proofs.Math.Seq.{drop-cons}
-use Rattle.output_meaning.specs.Pieces as meant
-use Rattle.output_meaning.specs.FirstForm.{NoDot, Declaration, declaration_of, is_close}
-use Rattle.output_meaning.proofs.FormLemmas.{NoDot-append, body_in, body_in-none, body_in-last, body_in-more}
+use Rattle.first_path_meaning.specs.Pieces as meant
+use Rattle.first_path_meaning.specs.FirstForm.{NoDot, Declaration, declaration_of, is_close}
+use Rattle.first_path_laws.proofs.FormLemmas.{NoDot-append, body_in, body_in-none, body_in-last, body_in-more}
 use Rattle.mmt_top.specs.Pieces.{piece_of, pieces_in}
 use Rattle.mmt_top.specs.Forms.{IsDotAt}
 use Rattle.mmt_top.specs.declared.pieces.Piece.{Piece}

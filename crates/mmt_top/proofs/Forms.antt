@@ -3,9 +3,9 @@ use Rattle.std.proofs.Common.{◌≡◌, ℕ, ◌+◌, ◌-◌, ◌<◌, ◌≤�
 use Rattle.std.proofs.lemmas.List.{length-drop, take_all}
 use Rattle.std.proofs.Math.Seq.{drop-cons}
 use Rattle.std.proofs.Math.ListN.{drop_of_length-le}
-use Rattle.output_meaning.specs.Pieces as meant
+use Rattle.first_path_meaning.specs.Pieces as meant
 use Rattle.mmt_top.specs.Pieces.{piece_of, pieces_in}
-use Rattle.output_meaning.specs.FirstForm as meant_form
+use Rattle.first_path_meaning.specs.FirstForm as meant_form
 use Rattle.std.specs.Prelude.{Option, Some, None, if◌then◌else◌, codes}
 use Rattle.std.specs.Option.{option_map}
 use Rattle.mmt_top.specs.declared.pieces.Piece.{Piece}

@@ -3,10 +3,10 @@ use Rattle.std.proofs.Common.{◌≡◌, ℕ, suc, ◌+◌, ◌<◌, ◌≤◌, 
 use Rattle.std.specs.Prelude.{Option, Some, None, is_none, is_some, if◌then◌else◌}
 use Rattle.std.specs.Option.{option_map}
 use Rattle.std.specs.Str.{bytes_eq}
-use Rattle.output_meaning.specs.Pieces as pieces
-use Rattle.output_meaning.specs.FirstForm as form
-use Rattle.output_meaning.specs.Declared as meant
-use Rattle.output_meaning.specs.Verdicts as verdicts
+use Rattle.first_path_meaning.specs.Pieces as pieces
+use Rattle.first_path_meaning.specs.FirstForm as form
+use Rattle.first_path_meaning.specs.Declared as meant
+use Rattle.first_path_meaning.specs.Verdicts as verdicts
 use Rattle.std.specs.BTreeMap.{BTreeMap, IsEmpty}
 use Rattle.std.specs.Borrow.{Bor}
 use Rattle.mmt_top.specs.Verdicts.{level_in, levels_at, row_fault_by, verdict_of_fault}

@@ -5,8 +5,8 @@ use Rattle.std.proofs.lemmas.List.{take-append-drop, drop-drop, length-take, len
 use Rattle.std.proofs.Math.Seq.{drop-cons}
 use Rattle.std.proofs.Math.ListN.{drop_of_length-le}
 use Rattle.name_meaning.specs.Characters.{is_white_space, is_special, is_identifier_byte}
-use Rattle.output_meaning.specs.Pieces as meant
-use Rattle.output_meaning.proofs.PieceLemmas.{AllIdentifier, AllIdentifier-from_list_all, EndsRun, pieces_from-white, pieces_from-special, pieces_from-run}
+use Rattle.first_path_meaning.specs.Pieces as meant
+use Rattle.first_path_laws.proofs.PieceLemmas.{AllIdentifier, AllIdentifier-from_list_all, EndsRun, pieces_from-white, pieces_from-special, pieces_from-run}
 use Rattle.mmt_top.specs.Pieces.{BeginsWith}
 
 pub step_white : (text : List ℕ) (at : ℕ) → at < length text → is_white_space (get_or text at 0) ≡ true

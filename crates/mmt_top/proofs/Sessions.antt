@@ -3,7 +3,7 @@ use Rattle.std.proofs.Common.{◌≡◌, ℕ, Bool, true, false, List, [], ◌�
 use Rattle.std.specs.Prelude.{Option, Some, None, IfSome, IsSome}
 use Rattle.mmt_outside.specs.Bytes.{Taken, appended, flushed, TookPrefix, preceded}
 use Rattle.mmt_outside.proofs.Bytes.{appended-nil, appended-appended, TookPrefix-after}
-use Rattle.output_meaning.specs.Script as meant
+use Rattle.first_path_meaning.specs.Script as meant
 use Rattle.script_reader.specs.Reading.{Reading}
 use Rattle.mmt_top.specs.declared.status.Status.{Status}
 use Rattle.mmt_top.specs.declared.status.Status.TheVariants.{Done, Refused, Usage, ReadFault, WriteFault, Memory, ScriptFault}

@@ -1,8 +1,8 @@
 -- The declarations that the code holds, as the definitions say them.
 use Rattle.std.specs.Prelude.{◌≡◌, ◌<◌, ℕ, true, List, length, take, map, Option, Some, None, slice_index_or, codes}
-use Rattle.output_meaning.specs.FirstForm as meant
-use Rattle.output_meaning.specs.FirstForm.{NoDot}
-use Rattle.output_meaning.specs.Pieces.{is_text}
+use Rattle.first_path_meaning.specs.FirstForm as meant
+use Rattle.first_path_meaning.specs.FirstForm.{NoDot}
+use Rattle.first_path_meaning.specs.Pieces.{is_text}
 use Rattle.mmt_top.specs.declared.form.Row.{Row}
 use Rattle.mmt_top.specs.declared.form.Row.TheVariants.{Kind, Names}
 use Rattle.mmt_top.specs.declared.form.Declaration.{Declaration}

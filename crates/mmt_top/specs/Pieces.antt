@@ -1,6 +1,6 @@
 -- The pieces that the code holds, as the definitions say them.
 use Rattle.std.specs.Prelude.{◌≡◌, ◌<◌, ◌≤◌, ◌+◌, ℕ, List, ◌∷◌, length, drop, map}
-use Rattle.output_meaning.specs.Pieces as meant
+use Rattle.first_path_meaning.specs.Pieces as meant
 use Rattle.mmt_top.specs.declared.pieces.Piece.{Piece}
 
 abbrev pub piece_of : Piece → meant.Piece

@@ -3,8 +3,8 @@ use Rattle.std.specs.Prelude.{◌≡◌, ℕ, Bool, true, false, List, [], ◌++
 use Rattle.std.specs.Option.{option_map}
 use Rattle.mmt_outside.specs.Bytes.{Taken, appended, flushed, TookPrefix}
 use Rattle.output_meaning.specs.Lines.{lines_of}
-use Rattle.output_meaning.specs.Commands as commands
-use Rattle.output_meaning.specs.Script as meant
+use Rattle.first_path_meaning.specs.Commands as commands
+use Rattle.first_path_meaning.specs.Script as meant
 use Rattle.output_meaning.specs.Printed.{bad_line, unended_line}
 use Rattle.script_reader.specs.Reading.{Reading}
 use Rattle.script_reader.specs.declared.fault.ScriptFault.{ScriptFault as Fault}

@@ -5,9 +5,9 @@ use Rattle.std.specs.BTreeMap.{BTreeMap, get_by}
 use Rattle.std.specs.Ordering.{nat_cmp}
 use Rattle.std.specs.Cmp.Lexicographic.{slice_cmp}
 use Rattle.std.specs.Borrow.{Bor}
-use Rattle.output_meaning.specs.Pieces as pieces
-use Rattle.output_meaning.specs.Declared as meant
-use Rattle.output_meaning.specs.Verdicts as verdicts
+use Rattle.first_path_meaning.specs.Pieces as pieces
+use Rattle.first_path_meaning.specs.Declared as meant
+use Rattle.first_path_meaning.specs.Verdicts as verdicts
 use Rattle.mmt_top.specs.declared.verdict.Level.{Level}
 use Rattle.mmt_top.specs.declared.verdict.Level.TheVariants.{Family, Object}
 use Rattle.mmt_top.specs.declared.verdict.Rule.{Rule}

@@ -1,6 +1,6 @@
 //! What a command prints, and what it leaves.
 ghost use Rattle.std.specs.Prelude.{◌≡◌, IfOk, OnOk};
-ghost use Rattle.output_meaning.specs.Script as meant;
+ghost use Rattle.first_path_meaning.specs.Script as meant;
 ghost use Rattle.script_reader.specs.Answers.{IsGiven};
 ghost use Rattle.mmt_top.specs.Session.{put_in, command_in};
 

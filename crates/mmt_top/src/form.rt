@@ -1,8 +1,8 @@
 //! The first form of a text: `%sig N = {`, declarations `id : type.` and `id : id -> .. -> id.`, and `}.`.
 ghost use Rattle.std.specs.Prelude.{◌≡◌, ◌<◌, ◌&&◌, [], ◌∷◌, length, IfOk, codes};
 ghost use Rattle.std.specs.Option.{option_map, option_and_then};
-ghost use Rattle.output_meaning.specs.FirstForm as meant;
-ghost use Rattle.output_meaning.specs.Pieces.{is_text};
+ghost use Rattle.first_path_meaning.specs.FirstForm as meant;
+ghost use Rattle.first_path_meaning.specs.Pieces.{is_text};
 ghost use Rattle.mmt_top.specs.Pieces.{piece_of, pieces_in};
 ghost use Rattle.mmt_top.specs.Forms.{row_in, declaration_in, declarations_in};
 

@@ -2,8 +2,9 @@
 ghost use Rattle.std.specs.Prelude.{◌≡◌, ◌≤◌, ◌++◌, ◌==◌, not, length, take, IfOk, OnOk};
 ghost use Rattle.std.specs.Fmt.{decimal};
 ghost use Rattle.std.specs.List.{count_by, suffix_len};
-ghost use Rattle.output_meaning.specs.Declared as declared;
+ghost use Rattle.first_path_meaning.specs.Declared as declared;
 ghost use Rattle.output_meaning.specs.Printed as printed;
+ghost use Rattle.first_path_meaning.specs.FirstLines.{rule_word, put_line, accepted_line, refused_line, verdict_line};
 ghost use Rattle.mmt_top.specs.Verdicts.{rule_in, verdict_in, refusal_in};
 
 use crate::verdict::{Refusal, Rule, Verdict};
@@ -49,7 +50,7 @@ fn push_number(alloc: Global, line: &mut Vec<u8>, number: u64) -> Result<(), All
 }
 
 fn rule_word(rule: Rule) -> &'static [u8]
-    ensures { result.now ≡ printed.rule_word (rule_in rule) }
+    ensures { result.now ≡ rule_word (rule_in rule) }
 {
     match rule {
         Rule::UnknownName => b"unknown-name",
@@ -69,7 +70,7 @@ fn named_at(alloc: Global, name: &[u8], version: u64) -> Result<Vec<u8>, AllocEr
 }
 
 pub(crate) fn put_line(alloc: Global, name: &[u8], version: u64) -> Result<Vec<u8>, AllocError>
-    ensures { IfOk result (λ line. line.items ≡ printed.put_line name.now version) }
+    ensures { IfOk result (λ line. line.items ≡ put_line name.now version) }
 {
     let mut line = Vec::from_slice(alloc, b"@")?;
     push_number(alloc, &mut line, version)?;
@@ -94,7 +95,7 @@ fn accepted_line(
     version: u64,
     size: usize,
 ) -> Result<Vec<u8>, AllocError>
-    ensures { IfOk result (λ line. line.items ≡ printed.accepted_line name.now version size) }
+    ensures { IfOk result (λ line. line.items ≡ accepted_line name.now version size) }
 {
     let mut line = named_at(alloc, name, version)?;
     line.extend_from_slice(b" accepted theory ")?;
@@ -110,7 +111,7 @@ fn refused_line(
     text: &[u8],
     refusal: &Refusal<'_>,
 ) -> Result<Vec<u8>, AllocError>
-    ensures { IfOk result (λ line. line.items ≡ printed.refused_line name.now version text.now (refusal_in refusal.now)) }
+    ensures { IfOk result (λ line. line.items ≡ refused_line name.now version text.now (refusal_in refusal.now)) }
 {
     let front = in_front(text, refusal.at);
     let mut line = named_at(alloc, name, version)?;
@@ -133,7 +134,7 @@ pub(crate) fn verdict_line(
     text: &[u8],
     verdict: &Verdict<'_>,
 ) -> Result<Vec<u8>, AllocError>
-    ensures { IfOk result (λ line. line.items ≡ printed.verdict_line name.now version text.now (verdict_in verdict.now)) }
+    ensures { IfOk result (λ line. line.items ≡ verdict_line name.now version text.now (verdict_in verdict.now)) }
 {
     match verdict {
         Verdict::Accepted(size) => accepted_line(alloc, name, version, *size),

@@ -2,12 +2,12 @@
 ghost use Rattle.std.specs.Prelude.{◌≡◌, ◌<◌, ◌≤◌, true, false, length, take, slice_index, IfOk};
 ghost use Rattle.std.specs.List.{list_all};
 ghost use Rattle.name_meaning.specs.Characters as characters;
-ghost use Rattle.output_meaning.specs.Pieces as meant;
-ghost use Rattle.output_meaning.specs.Pieces.{pieces_from};
-ghost use Rattle.output_meaning.specs.FirstForm.{is_name_piece};
+ghost use Rattle.first_path_meaning.specs.Pieces as meant;
+ghost use Rattle.first_path_meaning.specs.Pieces.{pieces_from};
+ghost use Rattle.first_path_meaning.specs.FirstForm.{is_name_piece};
 ghost use Rattle.mmt_top.specs.Pieces.{piece_of, pieces_in, BeginsWith};
 
-use name_meaning::{is_identifier, is_identifier_byte, is_special, is_white_space};
+use identifiers::{is_identifier, is_identifier_byte, is_special, is_white_space};
 use std::alloc::{AllocError, Global};
 
 /// Some bytes of a text, and the place of the first of them, counted from 0.

@@ -2,7 +2,7 @@
 ghost use Rattle.std.specs.Prelude.{◌≡◌, ◌≤◌, true, false, [], Some, IfSome, IsNone, OnOk, OnErr};
 ghost use Rattle.mmt_outside.specs.Bytes.{appended, flushed, TookPrefix};
 ghost use Rattle.mmt_outside.specs.Faults.{Rose, HasCause};
-ghost use Rattle.output_meaning.specs.Script.{output_of, script_of, has_fault};
+ghost use Rattle.first_path_meaning.specs.Script.{output_of, script_of, has_fault};
 ghost use Rattle.script_reader.specs.Answers.{IsGiven};
 ghost use Rattle.script_reader.specs.Reading.{to_come};
 ghost use Rattle.mmt_top.specs.Session.{put_in, command_in, items_to_come, output_to_come, GoesOn, EndsAs, IsFlushed, FlushesAt, IsSessionStatus, SpokenTells, FaultTells, TurnTells};

@@ -2,14 +2,14 @@
 ghost use Rattle.std.specs.Prelude.{◌≡◌, ◌<◌, length, IfOk, IfSome};
 ghost use Rattle.std.specs.Option.{option_map, option_and_then};
 ghost use Rattle.std.specs.Str as utf8;
-ghost use Rattle.output_meaning.specs.FirstForm as meant;
+ghost use Rattle.first_path_meaning.specs.FirstForm as meant;
 ghost use Rattle.mmt_top.specs.Pieces.{pieces_in};
 ghost use Rattle.mmt_top.specs.Forms.{declarations_in, IsDotAt};
 
 use crate::form::{Declaration, read_declaration};
 use crate::pieces::{Piece, pieces};
 use crate::tokens::stand_alone;
-use name_meaning::is_identifier;
+use identifiers::is_identifier;
 use std::alloc::{AllocError, Global};
 
 /// Where the first dot is.

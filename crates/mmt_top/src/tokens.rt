@@ -1,10 +1,10 @@
 //! Which pieces make one token together.
 ghost use Rattle.std.specs.Prelude.{◌≡◌, map};
-ghost use Rattle.output_meaning.specs.Pieces as meant;
+ghost use Rattle.first_path_meaning.specs.Pieces as meant;
 ghost use Rattle.mmt_top.specs.Pieces.{piece_of, pieces_in};
 
 use crate::pieces::Piece;
-use name_meaning::is_identifier_byte;
+use identifiers::is_identifier_byte;
 
 fn is_run(piece: &Piece<'_>) -> bool
     ensures { result ≡ meant.is_run_piece (piece_of piece.now) }

@@ -2,8 +2,8 @@
 ghost use Rattle.std.specs.Prelude.{◌≡◌, ℕ, List, Some, IfOk, OnOk, nat_le, if◌then◌else◌};
 ghost use Rattle.std.specs.Option.{option_map};
 ghost use Rattle.std.specs.Str.{bytes_eq};
-ghost use Rattle.output_meaning.specs.Declared as meant;
-ghost use Rattle.output_meaning.specs.Verdicts.{other_form as other_form_of, verdict_of_spelled, verdict_of};
+ghost use Rattle.first_path_meaning.specs.Declared as meant;
+ghost use Rattle.first_path_meaning.specs.Verdicts.{other_form as other_form_of, verdict_of_spelled, verdict_of};
 ghost use Rattle.mmt_top.specs.Pieces.{piece_of, pieces_in};
 ghost use Rattle.mmt_top.specs.Forms.{row_in, declarations_in};
 ghost use Rattle.mmt_top.specs.Verdicts.{verdict_of_fault as fault_verdict, level_in, levels_at, refusal_in, verdict_in, row_fault_by};

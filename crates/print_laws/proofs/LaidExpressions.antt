@@ -8,12 +8,13 @@ use Rattle.std.specs.Prelude.{Some, None, if◌then◌else◌}
 use Rattle.name_meaning.specs.Characters.{is_white_space, is_identifier_byte}
 use Rattle.name_meaning.specs.Identifiers.{is_run}
 use Rattle.text_meaning.specs.Bytes.{begins, equal}
-use Rattle.text_meaning.specs.Tokens.{Path, Mark, Sign, token, percent_sign, LeftParen, RightParen, LeftBracket, RightBracket, LeftBrace, RightBrace, DotSign, row_kind, spelled}
+use Rattle.name_meaning.specs.Names.{Path}
+use Rattle.text_meaning.specs.Tokens.{Mark, Sign, token, percent_sign, LeftParen, RightParen, LeftBracket, RightBracket, LeftBrace, RightBrace, DotSign, row_kind, spelled}
 use Rattle.text_meaning.specs.Cut.{Cut, percent_word, assign, lone_colon, bracket, lone_dot, row, is_row, ends_row, bracket_sign}
 use Rattle.text_meaning.specs.Trees.{Binder, Expr, TypeExpr, NameExpr, AppExpr, PiExpr, LamExpr, TypedLamExpr, ArrowExpr, BackExpr, Exprs, NoArgs, ThenArg}
 use Rattle.twelf_lexer.proofs.Places.{ends_row_begins}
-use Rattle.print_laws.specs.PrintedItems.{Gap, tight, space, new_line, Item, item, path_item, colon_item, assign_item, right_paren, right_bracket, right_brace, arrow_item, back_item, text_of}
-use Rattle.print_laws.specs.PrintedExpressions.{is_word, is_binding, is_operand, is_last_operand, is_back, binder_item, enclosed, placed, expr_items, args_items}
+use Rattle.print_meaning.specs.PrintedItems.{Gap, tight, space, new_line, Item, item, path_item, colon_item, assign_item, right_paren, right_bracket, right_brace, arrow_item, back_item, text_of}
+use Rattle.print_meaning.specs.PrintedExpressions.{is_word, is_binding, is_operand, is_last_operand, is_back, binder_item, enclosed, placed, expr_items, args_items}
 use Rattle.print_laws.proofs.LaidOut.{IsFit, IsLaid, laid_append}
 use Rattle.print_laws.proofs.Writable.{IsWritable}
 use Rattle.print_laws.proofs.WellWritten.{IsWrittenBinder, IsWellWritten, AreWellWritten}

@@ -2,7 +2,8 @@
 use Rattle.std.specs.Prelude.{ℕ, suc, List, ◌++◌, codes}
 use Rattle.std.specs.Fmt.{decimal}
 use Rattle.output_meaning.specs.Printed.{end_of_line, named_at}
-use Rattle.lf_meaning.specs.Terms.{Name, Object, Family}
+use Rattle.name_meaning.specs.Names.{Name}
+use Rattle.lf_meaning.specs.Terms.{Object, Family}
 use Rattle.printing_meaning.specs.Constants.{Seen}
 use Rattle.printing_meaning.specs.PrintedTerms.{object_text, family_text}
 

@@ -1,8 +1,8 @@
 -- How constants are printed, seen from a theory (this profile).
 use Rattle.std.specs.Prelude.{ℕ, List, [], ◌∷◌, ◌++◌, if◌then◌else◌, codes}
 use Rattle.std.specs.Fmt.{decimal}
-use Rattle.lf_meaning.specs.Terms.{Name, Path, Constant}
-use Rattle.lf_meaning.specs.Signatures.{same_name}
+use Rattle.name_meaning.specs.Names.{Name, Path, same_name}
+use Rattle.lf_meaning.specs.Terms.{Constant}
 
 -- Read: the theory from which terms are seen, and the prefix of its printed variables.
 pub record Seen : Type 0 where

@@ -1,7 +1,7 @@
 -- The names of printed variables: a prefix that no constant of the theory clashes with, and a number (this profile).
 use Rattle.std.specs.Prelude.{ℕ, zero, suc, Bool, false, List, [], ◌∷◌, ◌++◌, ◌&&◌, length, drop, sum_by, nat_eq, if◌then◌else◌, codes}
 use Rattle.std.specs.List.{list_any, starts_with}
-use Rattle.lf_meaning.specs.Terms.{Name, Path}
+use Rattle.name_meaning.specs.Names.{Name, Path}
 use Rattle.lf_meaning.specs.Signatures.{Declaration, Signature}
 use Rattle.printing_meaning.specs.Numbers.{is_digit}
 

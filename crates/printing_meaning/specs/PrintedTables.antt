@@ -2,9 +2,9 @@
 use Rattle.std.specs.Prelude.{ℕ, List, [], ◌++◌, length, flat_map, Option, Some, None, codes}
 use Rattle.std.specs.Fmt.{decimal}
 use Rattle.output_meaning.specs.Printed.{end_of_line, named_at}
-use Rattle.lf_meaning.specs.Terms.{Name}
+use Rattle.name_meaning.specs.Names.{Name}
 use Rattle.lf_meaning.specs.Signatures.{Value, Declaration}
-use Rattle.translation_meaning.specs.HeadMaps.{Mapping}
+use Rattle.lf_meaning.specs.HeadMaps.{Mapping}
 use Rattle.library_meaning.specs.Faces.{TheoryFace, ViewFace, Environment, own_part, flat_signature, flat_of}
 use Rattle.printing_meaning.specs.Prefixes.{prefix_of}
 use Rattle.printing_meaning.specs.Constants.{Seen, constant_text}

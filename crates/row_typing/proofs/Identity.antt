@@ -2,21 +2,20 @@
 use Rattle.std.proofs.Common.{◌≡◌, ℕ, zero, suc, [], ◌∷◌, slice_get, Bool, true, false, cond, Option, Some, None, option_map, refl, sym, ap, ap₂, ◌∙◌}
 use Rattle.lf_meaning.specs.Terms.{Constant, Object, Lam, At, Atomic, Var, Con, App, Family, Pi, AtFamily, AtomicFamily, FamilyCon, FamilyApp, Kind, Ty, PiKind, with_domains}
 use Rattle.lf_meaning.specs.Erasure.{erase, erase_context}
-use Rattle.lf_meaning.specs.Replacement.{Kept, object_of, takes, replace, replace_head}
+use Rattle.lf_meaning.specs.Replacement.{Kept, object_of, takes, replace, replace_head, of_constants}
 use Rattle.lf_meaning.specs.Signatures.{Class, FamilyClass, KindClass, Value, SameAs, TermValue, FamilyValue, Declaration, Signature, same_constant, declaration_of, undefined_class, declared_class, class_of}
 use Rattle.lf_meaning.specs.Judgements.{IsClass, Fits, IsSignature}
-use Rattle.lf_meaning.proofs.Equality.{same_constant_sound}
-use Rattle.lf_substitution_laws.specs.Uniform.{of_constants}
-use Rattle.lf_metatheory.proofs.Typed.{checks_sort}
-use Rattle.lf_metatheory.proofs.Declared.{declared_as}
+use Rattle.lf_term_laws.proofs.Equality.{same_constant_sound}
+use Rattle.lf_typing.proofs.Typed.{checks_sort}
+use Rattle.lf_typing.proofs.Declared.{declared_as}
 use Rattle.translation_meaning.specs.Heads.{FamilyHead, head_takes}
-use Rattle.translation_meaning.specs.HeadMaps.{Image, HeadMap, image_of}
+use Rattle.lf_meaning.specs.HeadMaps.{Image, HeadMap, image_of}
 use Rattle.translation_meaning.specs.Translation.{headed_image, family_head_image, family_of, image_kind, translate_object, translate_head, translate_family, translate_kind, translate_class, translate_value, object_value, family_value, same_image}
 use Rattle.translation_meaning.specs.ProperValues.{IsProperValue}
 use Rattle.translation_meaning.specs.TypedMaps.{KeepsValue, IsTypedMap}
-use Rattle.sorted_translation.proofs.Images.{by_images}
-use Rattle.sorted_translation.proofs.Kinded.{family_kinded, kind_kinded}
-use Rattle.sorted_translation.proofs.Known.{ObjectKnown, AtomicKnown, HeadKnown, FamilyKnown, KindKnown, object_known, family_known, kind_known}
+use Rattle.translation_sort_laws.proofs.Images.{by_images}
+use Rattle.translation_sort_laws.proofs.Kinded.{family_kinded, kind_kinded}
+use Rattle.translation_sort_laws.proofs.Known.{ObjectKnown, AtomicKnown, HeadKnown, FamilyKnown, KindKnown, object_known, family_known, kind_known}
 use Rattle.translation_typing.proofs.Proper.{proper_object, proper_body}
 use Rattle.translation_typing.proofs.DeclaredTyped.{declared_typed}
 use Rattle.library_meaning.specs.Words.{own_value, identity_mapping, identity_map}

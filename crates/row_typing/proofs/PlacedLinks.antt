@@ -1,14 +1,13 @@
 -- The link of any path of structures of an accepted theory is placed.
 use Rattle.std.proofs.Common.{◌≡◌, Bool, true, false, cond, List, [], ◌∷◌, ◌++◌, Option, Some, None, is_some, refl, sym, ap, ◌∙◌, subst}
-use Rattle.lf_meaning.specs.Terms.{Name, Path}
-use Rattle.lf_meaning.specs.Signatures.{same_name}
+use Rattle.name_meaning.specs.Names.{Name, Path, same_name}
 use Rattle.lf_meaning.specs.Judgements.{IsSignature}
-use Rattle.lf_meaning.proofs.Equality.{same_name_sound}
-use Rattle.log_meaning.proofs.Members.{Member}
+use Rattle.lf_term_laws.proofs.Equality.{same_name_sound}
+use Rattle.log_laws.proofs.Members.{Member}
 use Rattle.library_meaning.specs.Faces.{StructureFace, TheoryFace, IsTheory, Environment, theory_face, theory_of, structure_of, includes_of, own_of, own_parts, flat_of}
 use Rattle.library_meaning.specs.Coherence.{IsCoherent}
 use Rattle.library_meaning.specs.Words.{Link, structure_link, behind_structure, structures_of, link_by, is_empty, structures_link}
-use Rattle.link_meaning.proofs.Linked.{known_theory}
+use Rattle.link_laws.proofs.Linked.{known_theory}
 use Rattle.holding_laws.proofs.Declared.{place_of}
 use Rattle.link_coherence_laws.proofs.WordsHold.{structure_member}
 use Rattle.row_typing.specs.TypedFaces.{IsTypedEnvironment}

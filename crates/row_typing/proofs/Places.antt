@@ -1,18 +1,19 @@
 -- What a structure induces stands in the order of its domain, and up to each of these constants the structure's map is typed.
 use Rattle.std.proofs.Common.{◌≡◌, ℕ, Bool, true, false, cond, List, [], ◌∷◌, ◌++◌, filter_map, slice_get, Option, Some, None, option_map, inl, inr, ⊎_elim, refl, sym, ap, ap₂, ◌∙◌, subst, subst₂, append_assoc, append-nil}
 use Rattle.std.specs.List.{cons_option}
-use Rattle.lf_meaning.specs.Terms.{Name, Path, Constant}
+use Rattle.name_meaning.specs.Names.{Name, Path}
+use Rattle.lf_meaning.specs.Terms.{Constant}
 use Rattle.lf_meaning.specs.Signatures.{Class, Value, SameAs, TermValue, FamilyValue, Declaration, Signature, same_constant, undefined_class, declared_class, class_of}
 use Rattle.lf_meaning.specs.Judgements.{Fits, ValueFits, IsDeclaration, IsSignature}
-use Rattle.lf_meaning.proofs.Equality.{same_constant_sound, same_constant_itself}
-use Rattle.log_meaning.proofs.Members.{Member, in_append, append_left, append_right}
-use Rattle.translation_meaning.specs.HeadMaps.{Image, HeadMap, image_of}
+use Rattle.lf_term_laws.proofs.Equality.{same_constant_sound, same_constant_itself}
+use Rattle.log_laws.proofs.Members.{Member, in_append, append_left, append_right}
+use Rattle.lf_meaning.specs.HeadMaps.{Image, HeadMap, image_of}
 use Rattle.translation_meaning.specs.Translation.{translate_value, translate_image, same_image, compose}
 use Rattle.translation_meaning.specs.ProperValues.{ValuesAreProper}
-use Rattle.translation_meaning.proofs.Spines.{composed}
+use Rattle.translation_laws.proofs.Spines.{composed}
 use Rattle.translation_typing.specs.Composition.{AreComposable}
 use Rattle.translation_typing.proofs.Composed.{composition_is_typed, composition_is_proper}
-use Rattle.lf_metatheory.proofs.Growing.{signature_shrinks}
+use Rattle.lf_typing.proofs.Growing.{signature_shrinks}
 use Rattle.translation_meaning.specs.TypedMaps.{KeepsValue, IsTypedAt, IsTypedMap}
 use Rattle.library_meaning.specs.Faces.{StructureFace, TheoryFace, IsTheory, Environment, theory_face, theory_of, includes_of, own_of, own_part, own_parts, flat_signature, flat_of}
 use Rattle.library_meaning.specs.Coherence.{IsCoherent}

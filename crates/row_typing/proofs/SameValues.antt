@@ -3,10 +3,10 @@ use Rattle.std.proofs.Common.{◌≡◌, ℕ, zero, suc, ◌+◌, ◌≤◌, [],
 use Rattle.lf_meaning.specs.Terms.{Constant}
 use Rattle.lf_meaning.specs.Signatures.{Class, Value, Signature, same_constant, undefined_class, class_of}
 use Rattle.lf_meaning.specs.Judgements.{IsClass, Fits, IsDeclaration, IsSignature}
-use Rattle.lf_metatheory.proofs.Declared.{declared_as, found_in, class_more}
-use Rattle.lf_metatheory.proofs.Closed.{class_is_class}
-use Rattle.lf_metatheory.proofs.Growing.{signature_shrinks}
-use Rattle.translation_meaning.specs.HeadMaps.{Image, HeadMap, image_of}
+use Rattle.lf_typing.proofs.Declared.{declared_as, found_in, class_more}
+use Rattle.lf_typing.proofs.Closed.{class_is_class}
+use Rattle.lf_typing.proofs.Growing.{signature_shrinks}
+use Rattle.lf_meaning.specs.HeadMaps.{Image, HeadMap, image_of}
 use Rattle.translation_meaning.specs.Translation.{translate_class, translate_value}
 use Rattle.translation_typing.proofs.Agreeing.{AgreeOn, class_agrees, value_agrees}
 use Rattle.translation_typing.proofs.Restricted.{restrict, restricted, restricted_there}

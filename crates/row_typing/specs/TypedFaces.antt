@@ -1,9 +1,9 @@
 -- Faces that are well typed: flat signatures, and the maps of structures and views (Rabe and Kohlhase 2013, section 3).
 use Rattle.std.specs.Prelude.{◌≡◌, ℕ, ◌∷◌, ◌++◌, filter_map, slice_get, Option, Some, option_map}
-use Rattle.lf_meaning.specs.Terms.{Name}
+use Rattle.name_meaning.specs.Names.{Name}
 use Rattle.lf_meaning.specs.Signatures.{Declaration, Signature}
 use Rattle.lf_meaning.specs.Judgements.{Fits, IsSignature}
-use Rattle.translation_meaning.specs.HeadMaps.{Image, HeadMap, image_of}
+use Rattle.lf_meaning.specs.HeadMaps.{Image, HeadMap, image_of}
 use Rattle.translation_meaning.specs.TypedMaps.{IsTypedMap}
 use Rattle.library_meaning.specs.Faces.{StructureFace, TheoryFace, ViewFace, IsTheory, IsView, Environment, theory_of, includes_of, own_part, own_parts, flat_signature, flat_of}
 use Rattle.link_meaning.specs.Induced.{induced_with}

@@ -1,12 +1,12 @@
 -- Links that are well typed (this profile).
 use Rattle.std.specs.Prelude.{◌≡◌, ℕ, List, slice_get, Option, Some}
-use Rattle.lf_meaning.specs.Terms.{Path}
+use Rattle.name_meaning.specs.Names.{Path}
 use Rattle.lf_meaning.specs.Signatures.{Signature}
 use Rattle.lf_meaning.specs.Judgements.{IsSignature}
-use Rattle.translation_meaning.specs.HeadMaps.{HeadMap}
+use Rattle.lf_meaning.specs.HeadMaps.{HeadMap}
 use Rattle.translation_meaning.specs.ProperValues.{ValuesAreProper}
 use Rattle.translation_meaning.specs.TypedMaps.{IsTypedMap}
-use Rattle.sorted_translation.specs.AtomicBodies.{BodiesAreAtomic}
+use Rattle.translation_sort_laws.specs.AtomicBodies.{BodiesAreAtomic}
 use Rattle.library_meaning.specs.Faces.{StructureFace, TheoryFace, Environment, flat_signature, flat_of}
 use Rattle.library_meaning.specs.Coherence.{IsCoherentMap, IsCoherent}
 use Rattle.library_meaning.specs.Words.{Link, RowMeans, row_meaning}

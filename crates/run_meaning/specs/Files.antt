@@ -1,8 +1,8 @@
 -- The files of a folder, and how they are loaded (this profile).
+use Rattle.text_meaning.specs.Trees.{first_name}
 use Rattle.std.specs.Prelude.{ℕ, Bool, List, [], ◌∷◌, ◌++◌, ◌-◌, ◌^◌, length, take, drop, nat_eq, nat_lt, filter, fold, Option, Some, None, if◌then◌else◌, codes}
 use Rattle.std.specs.List.{ends_with}
-use Rattle.lf_meaning.specs.Terms.{Path}
-use Rattle.log_meaning.specs.Names.{Name, Text, same_name, comes_before}
+use Rattle.name_meaning.specs.Names.{Path, Name, Text, same_name, comes_before}
 use Rattle.log_meaning.specs.Log.{Put, Log, library_of, is_present}
 use Rattle.log_meaning.specs.Append.{Edited, Made, Same, Absent, Full, TooLong, TooMany, append_answer, appended}
 use Rattle.text_meaning.specs.Cutting.{lex}
@@ -54,11 +54,6 @@ pub record Loading : Type 0 where
   pub log : Log
   pub origins : List Origin
   pub damaged : List Damaged
-
--- Read: the module's name in a piece. A piece has a name of one.
-abbrev pub first_name : Path → Name
-first_name [] = []
-first_name (name ∷ path) = name
 
 abbrev pub name_of : Piece → Name
 name_of piece = first_name piece.name.path

@@ -1,6 +1,6 @@
 -- What checking a folder prints (this profile).
 use Rattle.std.specs.Prelude.{ℕ, Bool, true, false, find, List, ◌++◌, ◌+◌, ◌||◌, not, length, filter, flat_map, nat_eq, Option, Some, None}
-use Rattle.log_meaning.specs.Names.{Name, same_name}
+use Rattle.name_meaning.specs.Names.{Name, same_name}
 use Rattle.log_meaning.specs.Log.{Log, Library, names_of, library_of, version_of}
 use Rattle.output_meaning.specs.Printed.{absent_line}
 use Rattle.printing_meaning.specs.VerdictLines.{Judged, Refused, AcceptedTheory, AcceptedView, judged_line}

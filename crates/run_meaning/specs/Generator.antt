@@ -1,15 +1,14 @@
 -- The generator: a library that is made from a number, its edits, and what is printed of them (this profile).
 use Rattle.std.specs.Prelude.{ℕ, zero, suc, List, [], ◌∷◌, ◌++◌, ◌+◌, ◌*◌, ◌-◌, ◌/◌, ◌%◌, ◌^◌, length, filter, sum_by, nat_eq, if◌then◌else◌, codes}
 use Rattle.std.specs.Fmt.{decimal}
-use Rattle.log_meaning.specs.Names.{Name, Text, is_among}
+use Rattle.name_meaning.specs.Names.{Name, Text, is_among}
 use Rattle.log_meaning.specs.Log.{Edit, Put, edited_name, Log, Library, names_of, library_of, version_of}
 use Rattle.log_meaning.specs.Append.{Edited, Made, Same, Absent, Full, TooLong, TooMany, append_answer, appended, appended_all}
 use Rattle.walk_meaning.specs.Walks.{Dependencies, is_grounded}
 use Rattle.walk_meaning.specs.Reach.{reach}
-use Rattle.library_meaning.specs.Faces.{Environment, flat_signature}
+use Rattle.library_meaning.specs.Faces.{Environment, flat_signature, flat_of}
 use Rattle.printing_meaning.specs.VerdictLines.{Judged, Refused, AcceptedTheory, AcceptedView}
 use Rattle.printing_meaning.specs.GeneratorLines.{Counts, generator_line, installs_line}
-use Rattle.library_meaning.specs.Faces.{flat_of}
 use Rattle.run_meaning.specs.Judging.{Judging, environment_of}
 use Rattle.run_meaning.specs.Folders.{accepted_count, refused_count}
 

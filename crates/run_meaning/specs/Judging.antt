@@ -1,7 +1,7 @@
 -- What is judged of the modules of a library, for what prints it (this profile). The definitions of output are over any
 -- judging; the one of the rules is given where verdicts are defined.
 use Rattle.std.specs.Prelude.{if◌then◌else◌}
-use Rattle.log_meaning.specs.Names.{Name, Text}
+use Rattle.name_meaning.specs.Names.{Name, Text}
 use Rattle.log_meaning.specs.Log.{Library, is_present}
 use Rattle.walk_meaning.specs.Walks.{Dependencies}
 use Rattle.library_meaning.specs.Faces.{Known, IsAbsent, IsRefused, IsTheory, IsView, Environment}

@@ -3,8 +3,8 @@ use Rattle.std.specs.Prelude.{ℕ, suc, List, [], ◌∷◌, ◌==◌, ◌^◌, 
 use Rattle.std.specs.List.{starts_with}
 use Rattle.std.specs.Str.{bytes_eq}
 use Rattle.output_meaning.specs.Lines.{content_of}
-use Rattle.output_meaning.specs.Commands.{line_limit, is_name, is_silent, text_before, behind_end}
-use Rattle.log_meaning.specs.Names.{Name, Text}
+use Rattle.output_meaning.specs.ScriptLines.{line_limit, is_name, is_silent, text_before, behind_end}
+use Rattle.name_meaning.specs.Names.{Name, Text}
 use Rattle.log_meaning.specs.Log.{Edit, Put, Drop}
 use Rattle.log_meaning.specs.Append.{text_limit}
 

@@ -1,6 +1,6 @@
 -- The log that a script leaves, and of which modules its lines tell (this profile).
 use Rattle.std.specs.Prelude.{ℕ, Bool, List, [], ◌∷◌, ◌++◌, ◌&&◌, take, fold, flat_map, filter_map, nat_le, Option, Some, None, if◌then◌else◌}
-use Rattle.log_meaning.specs.Names.{Name}
+use Rattle.name_meaning.specs.Names.{Name}
 use Rattle.log_meaning.specs.Log.{Edit, Log, names_of, library_of, version_of}
 use Rattle.walk_meaning.specs.Walks.{Dependencies, is_grounded}
 use Rattle.run_meaning.specs.ScriptCommands.{Command, EditCommand, ReportCommand, CheckCommand, FlatCommand, CarryCommand, LogCommand, BlankCommand}

@@ -1,7 +1,7 @@
 -- What a script prints (this profile).
 use Rattle.std.specs.Prelude.{ℕ, Bool, true, false, List, [], ◌∷◌, ◌++◌, flat_map, Option, Some, None}
 use Rattle.output_meaning.specs.Printed.{absent_line, bad_line, unended_line}
-use Rattle.log_meaning.specs.Names.{Name, Text}
+use Rattle.name_meaning.specs.Names.{Name, Text}
 use Rattle.log_meaning.specs.Log.{Log, Library, names_of, library_of, text_of, version_of}
 use Rattle.log_meaning.specs.Append.{appended}
 use Rattle.library_meaning.specs.Faces.{Environment}

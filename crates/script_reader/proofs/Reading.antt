@@ -6,7 +6,7 @@ use Rattle.std.specs.declared.option.Option.{Option}
 use Rattle.std.proofs.lemmas.List.{take_more, take-append-drop, length-append, length-take}
 use Rattle.mmt_outside.specs.Bytes.{preceded}
 use Rattle.output_meaning.specs.Lines.{NoFeed}
-use Rattle.output_meaning.proofs.LineLemmas.{NoFeed-append}
+use Rattle.output_laws.proofs.LineLemmas.{NoFeed-append}
 use Rattle.script_reader.specs.Pieces.{EndsInFeed, MovesFront, ReadsLine}
 use Rattle.script_reader.specs.declared.line.LineEnd.TheVariants.{Feed}
 

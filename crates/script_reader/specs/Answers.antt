@@ -3,8 +3,8 @@ use Rattle.std.specs.Prelude.{◌≡◌, ◌≤◌, ℕ, Bool, List, [], ◌∷�
 use Rattle.std.specs.declared.option.Option.{Option}
 use Rattle.mmt_outside.specs.Faults.{Rose}
 use Rattle.output_meaning.specs.Lines.{lines_of}
-use Rattle.output_meaning.specs.Commands as meant
-use Rattle.output_meaning.specs.Script.{line_after}
+use Rattle.first_path_meaning.specs.Commands as meant
+use Rattle.output_meaning.specs.ScriptLines.{line_limit, line_after}
 use Rattle.script_reader.specs.Texts.{StaysTold}
 use Rattle.script_reader.specs.declared.command.Command.{Command}
 use Rattle.script_reader.specs.declared.command.Command.TheVariants as commands
@@ -53,12 +53,12 @@ IsAnswer (Err fault) next lines after first line now = IsFault fault next first
 
 -- Read: the names and texts of a command have no more bytes than a line may have, and a text that is put no more than a text may have.
 abbrev pub IsShort : Command → Type 0
-IsShort (commands.Put name text) = (length name ≤ meant.line_limit) × (length text ≤ meant.text_limit)
-IsShort (commands.Drop name) = length name ≤ meant.line_limit
-IsShort (commands.Report name) = length name ≤ meant.line_limit
+IsShort (commands.Put name text) = (length name ≤ line_limit) × (length text ≤ meant.text_limit)
+IsShort (commands.Drop name) = length name ≤ line_limit
+IsShort (commands.Report name) = length name ≤ line_limit
 IsShort commands.Check = Unit {0}
-IsShort (commands.Flat name) = length name ≤ meant.line_limit
-IsShort (commands.Carry view text) = (length view ≤ meant.line_limit) × (length text ≤ meant.line_limit)
+IsShort (commands.Flat name) = length name ≤ line_limit
+IsShort (commands.Carry view text) = (length view ≤ line_limit) × (length text ≤ line_limit)
 IsShort commands.Log = Unit {0}
 IsShort commands.Blank = Unit {0}
 IsShort commands.End = Unit {0}

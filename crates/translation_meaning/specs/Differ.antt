@@ -3,7 +3,7 @@ use Rattle.std.specs.Prelude.{ℕ, zero, suc, Bool, false, [], ◌∷◌, Option
 use Rattle.lf_meaning.specs.Terms.{Constant}
 use Rattle.lf_meaning.specs.Signatures.{Value, Declaration, Signature}
 use Rattle.lf_meaning.specs.Equality.{same_value}
-use Rattle.translation_meaning.specs.HeadMaps.{Image, HeadMap, image_of}
+use Rattle.lf_meaning.specs.HeadMaps.{Image, HeadMap, image_of}
 
 -- Read: the value of a constant's image, if it has one.
 abbrev pub value_in : HeadMap → Constant → Option Value

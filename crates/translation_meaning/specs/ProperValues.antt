@@ -3,7 +3,7 @@
 use Rattle.std.specs.Prelude.{◌≡◌, ℕ, ◌<◌, Some, ⊤}
 use Rattle.lf_meaning.specs.Terms.{Constant, Object, Lam, At, Var, Con, App, Family, Pi, AtFamily, FamilyCon, FamilyApp}
 use Rattle.lf_meaning.specs.Signatures.{Value, SameAs, TermValue, FamilyValue}
-use Rattle.translation_meaning.specs.HeadMaps.{Image, HeadMap, image_of}
+use Rattle.lf_meaning.specs.HeadMaps.{Image, HeadMap, image_of}
 
 -- Read: the object is no constant without arguments; as a value such a one is the same as the constant.
 abbrev pub IsNoConstant : Object → Type 0

@@ -3,12 +3,11 @@
 use Rattle.std.specs.Prelude.{ℕ, zero, suc, Option, Some, None, map}
 use Rattle.lf_meaning.specs.Terms.{Constant, Object, Lam, At, Var, Con, App, Family, Pi, AtFamily, AtomicFamily, FamilyCon, FamilyApp, Kind, Ty, PiKind}
 use Rattle.lf_meaning.specs.Erasure.{erase}
-use Rattle.lf_meaning.specs.Replacement.{Headed, Kept, Replaced}
+use Rattle.lf_meaning.specs.Replacement.{Headed, Kept, Replaced, replace_constants}
 use Rattle.lf_meaning.specs.Substitution.{action}
 use Rattle.lf_meaning.specs.Signatures.{Class, FamilyClass, KindClass, Value, SameAs, TermValue, FamilyValue}
-use Rattle.lf_substitution_laws.specs.Uniform.{replace_constants}
 use Rattle.translation_meaning.specs.Heads.{Head, ObjectHead, FamilyHead, head_takes}
-use Rattle.translation_meaning.specs.HeadMaps.{Image, Mapping, HeadMap, image_of}
+use Rattle.lf_meaning.specs.HeadMaps.{Image, Mapping, HeadMap, image_of}
 
 -- Read: what stands in place of an object constant with this image. The same constant d is d; a term is itself, at the
 -- erasure of the image's classifier. An image of another level leaves the constant: no checked map has one.

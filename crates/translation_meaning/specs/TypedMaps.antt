@@ -2,7 +2,7 @@
 use Rattle.std.specs.Prelude.{◌≡◌, ℕ, Option, Some, None, slice_get, ⊤}
 use Rattle.lf_meaning.specs.Signatures.{Value, Declaration, Signature}
 use Rattle.lf_meaning.specs.Judgements.{Fits}
-use Rattle.translation_meaning.specs.HeadMaps.{Image, HeadMap, image_of}
+use Rattle.lf_meaning.specs.HeadMaps.{Image, HeadMap, image_of}
 use Rattle.translation_meaning.specs.Translation.{translate_class, translate_value}
 
 -- Read: the image has the translated value of a defined constant; of an undefined one nothing is said.

@@ -3,14 +3,14 @@ use Rattle.std.proofs.Common.{◌≡◌, ℕ, slice_get, Option, Some, None, opt
 use Rattle.lf_meaning.specs.Terms.{Constant, Pi, AtFamily}
 use Rattle.lf_meaning.specs.Signatures.{Class, Value, SameAs, TermValue, FamilyValue, Declaration, Signature}
 use Rattle.lf_meaning.specs.Judgements.{IsClass, Fits}
-use Rattle.translation_meaning.specs.HeadMaps.{Image, HeadMap, image_of}
+use Rattle.lf_meaning.specs.HeadMaps.{Image, HeadMap, image_of}
 use Rattle.translation_meaning.specs.Translation.{translate_object, translate_family, translate_class, translate_value, translate_image, same_image, compose}
 use Rattle.translation_meaning.specs.ProperValues.{IsProperValue, ValuesAreProper}
 use Rattle.translation_meaning.specs.TypedMaps.{KeepsValue, IsTypedAt}
-use Rattle.translation_meaning.proofs.Spines.{composed}
-use Rattle.sorted_translation.specs.AtomicBodies.{HasAtomicBody, BodiesAreAtomic}
+use Rattle.translation_laws.proofs.Spines.{composed}
+use Rattle.translation_sort_laws.specs.AtomicBodies.{HasAtomicBody, BodiesAreAtomic}
 use Rattle.translation_typing.specs.Composition.{AreComposable, ObjectsAreComposed, FamiliesAreComposed, KindsAreComposed, ClassesAreComposed, ValuesAreComposed, CompositionIsTyped, CompositionIsProper}
-use Rattle.sorted_translation.proofs.Bases.{atomic_translated}
+use Rattle.translation_sort_laws.proofs.Bases.{atomic_translated}
 use Rattle.translation_typing.proofs.Proper.{proper_atomic, object_value_proper, family_value_proper}
 use Rattle.translation_typing.proofs.DeclaredTyped.{declared_typed}
 use Rattle.translation_typing.proofs.Laws.{class_carried, value_carried}

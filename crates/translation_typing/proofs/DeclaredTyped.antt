@@ -3,7 +3,7 @@ use Rattle.std.proofs.Common.{◌≡◌, ℕ, zero, suc, [], ◌∷◌, ◌++◌
 use Rattle.lf_meaning.specs.Terms.{Constant}
 use Rattle.lf_meaning.specs.Signatures.{Class, Value, Declaration, Signature, class_of}
 use Rattle.lf_meaning.specs.Judgements.{IsClass, Fits, ValueFits, IsDeclaration, IsSignature}
-use Rattle.lf_metatheory.proofs.Declared.{class_more as class_later}
+use Rattle.lf_typing.proofs.Declared.{class_more as class_later}
 use Rattle.translation_typing.proofs.Grown.{class_more, fits_more}
 
 some_is : {A : Type 0} {x y : A} → Some x ≡ Some y → x ≡ y

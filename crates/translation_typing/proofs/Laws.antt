@@ -9,27 +9,26 @@ use Rattle.lf_meaning.specs.Substitution.{substitute, substitute_family, substit
 use Rattle.lf_meaning.specs.Sorts.{HasSort, sorts_of}
 use Rattle.lf_meaning.specs.Signatures.{Class, Value, Declaration, Signature, same_constant, declaration_of, undefined_class, class_of}
 use Rattle.lf_meaning.specs.Judgements.{Checks, Synthesises, SynthesisesKind, IsFamily, IsKind, IsContext, IsSignature, IsClass, IsDeclaration, Fits}
-use Rattle.lf_meaning.proofs.Equality.{same_constant_sound}
-use Rattle.lf_metatheory.proofs.Declared.{declared_as, found_in, class_more}
-use Rattle.lf_metatheory.proofs.Closed.{class_is_class}
-use Rattle.lf_metatheory.proofs.Growing.{signature_shrinks}
-use Rattle.lf_metatheory.proofs.Typed.{checks_sort, synthesises_sort}
-use Rattle.lf_metatheory.proofs.HeadTyping.{synthesised_is_family, synthesised_is_kind, HeadedHas}
-use Rattle.lf_meaning.specs.Replacement.{replace_head}
-use Rattle.lf_substitution_laws.specs.Uniform.{of_constants}
-use Rattle.lf_metatheory.proofs.Regular.{erase_split, length_erased}
-use Rattle.translation_meaning.specs.HeadMaps.{HeadMap, image_of}
+use Rattle.lf_term_laws.proofs.Equality.{same_constant_sound}
+use Rattle.lf_typing.proofs.Declared.{declared_as, found_in, class_more}
+use Rattle.lf_typing.proofs.Closed.{class_is_class}
+use Rattle.lf_typing.proofs.Growing.{signature_shrinks}
+use Rattle.lf_typing.proofs.Typed.{checks_sort, synthesises_sort}
+use Rattle.lf_typing.proofs.HeadTyping.{synthesised_is_family, synthesised_is_kind, HeadedHas}
+use Rattle.lf_meaning.specs.Replacement.{replace_head, of_constants}
+use Rattle.lf_typing.proofs.Regular.{erase_split, length_erased}
+use Rattle.lf_meaning.specs.HeadMaps.{HeadMap, image_of}
 use Rattle.translation_meaning.specs.Translation.{translate_object, translate_head, translate_family, translate_kind, translate_class, translate_value}
 use Rattle.translation_meaning.specs.TypedMaps.{IsTypedMap}
-use Rattle.sorted_translation.specs.AtomicBodies.{BodiesAreAtomic}
+use Rattle.translation_sort_laws.specs.AtomicBodies.{BodiesAreAtomic}
 use Rattle.translation_typing.specs.TypedTranslation.{translate_context, IsTypedTranslation, TypingIsCarried, ContextsAreCarried, FamiliesAreCarried, KindsAreCarried, ClassesAreCarried, ValuesAreCarried, RaisedObjectsAreTranslated, RaisedFamiliesAreTranslated, RaisedKindsAreTranslated, SubstitutedObjectsAreTranslated, SubstitutedFamiliesAreTranslated, SubstitutedKindsAreTranslated}
-use Rattle.sorted_translation.proofs.Kinded.{kind_has_domains, IsKinded, IsKindedKind, family_kinded, kind_kinded}
-use Rattle.sorted_translation.proofs.Known.{AtomicKnown, HeadKnown, atomic_known, head_known, object_known, family_known, kind_known, raised_object_known, raised_family_known, raised_kind_known, substituted_object_known, substituted_family_known, substituted_kind_known}
-use Rattle.sorted_translation.proofs.Bases.{renamed, erase_translated}
-use Rattle.sorted_translation.proofs.Commuting.{raise_translated, raise_family_translated, raise_kind_translated, substitute_translated, substitute_family_translated, substitute_kind_translated}
-use Rattle.sorted_translation.proofs.Images.{TypedImage, IsMap, by_images}
+use Rattle.translation_sort_laws.proofs.Kinded.{kind_has_domains, IsKinded, IsKindedKind, family_kinded, kind_kinded}
+use Rattle.translation_sort_laws.proofs.Known.{AtomicKnown, HeadKnown, atomic_known, head_known, object_known, family_known, kind_known, raised_object_known, raised_family_known, raised_kind_known, substituted_object_known, substituted_family_known, substituted_kind_known}
+use Rattle.translation_sort_laws.proofs.Bases.{renamed, erase_translated}
+use Rattle.translation_sort_laws.proofs.Commuting.{raise_translated, raise_family_translated, raise_kind_translated, substitute_translated, substitute_family_translated, substitute_kind_translated}
+use Rattle.translation_sort_laws.proofs.Images.{TypedImage, IsMap, by_images}
 use Rattle.translation_typing.proofs.TypedHeads.{HeadIs}
-use Rattle.sorted_translation.proofs.KindDomains.{domains_of}
+use Rattle.translation_sort_laws.proofs.KindDomains.{domains_of}
 use Rattle.translation_typing.proofs.Restricted.{restrict, restricted_there, restricted_declared}
 use Rattle.translation_typing.proofs.Agreeing.{AgreeOn, replace_head_agrees, head_agrees, class_agrees, context_agrees, object_agrees, family_agrees, kind_agrees, checked_agrees, typed_family_agrees, typed_kind_agrees, value_agrees}
 use Rattle.translation_typing.proofs.Carrying.{synthesises_translated, head_translated, class_translated, context_translated, family_translated, kind_translated, checks_translated, value_translated}

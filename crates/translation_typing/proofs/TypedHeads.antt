@@ -5,11 +5,11 @@ use Rattle.lf_meaning.specs.Erasure.{erase}
 use Rattle.lf_meaning.specs.Substitution.{substitute, substitute_family, substitute_kind, substitute_context}
 use Rattle.lf_meaning.specs.Signatures.{Signature}
 use Rattle.lf_meaning.specs.Judgements.{Checks, IsFamily, IsKind, IsContext, IsSignature}
-use Rattle.lf_metatheory.proofs.Regular.{context_sorted}
-use Rattle.lf_metatheory.proofs.SubstitutionTyping.{substitute_is_family, substitute_is_kind}
+use Rattle.lf_typing.proofs.Regular.{context_sorted}
+use Rattle.lf_typing.proofs.SubstitutionTyping.{substitute_is_family, substitute_is_kind}
 use Rattle.translation_meaning.specs.Heads.{Head, ObjectHead, FamilyHead, family_takes}
 use Rattle.translation_typing.specs.FamilyHeads.{FamilyTyped, OnSpine, UnderBinders}
-use Rattle.sorted_translation.proofs.KindDomains.{domains_append, domains_length, domains_map, domains_count}
+use Rattle.translation_sort_laws.proofs.KindDomains.{domains_append, domains_length, domains_map, domains_count}
 
 -- a head of this kind
 abbrev pub HeadIs : Signature → Context → Kind → Head → Type 0

@@ -4,7 +4,7 @@ use Rattle.std.specs.Prelude.{◌≡◌}
 use Rattle.lf_meaning.specs.Terms.{Object, Family, Kind, Context}
 use Rattle.lf_meaning.specs.Signatures.{Class, Value, Signature}
 use Rattle.lf_meaning.specs.Judgements.{Checks, IsFamily, IsKind, IsContext, IsClass, Fits}
-use Rattle.translation_meaning.specs.HeadMaps.{HeadMap}
+use Rattle.lf_meaning.specs.HeadMaps.{HeadMap}
 use Rattle.translation_meaning.specs.Translation.{translate_object, translate_family, translate_kind, translate_class, translate_value, compose}
 use Rattle.translation_meaning.specs.ProperValues.{ValuesAreProper}
 use Rattle.translation_typing.specs.TypedTranslation.{IsTypedTranslation}

@@ -6,9 +6,9 @@ use Rattle.text_meaning.specs.Trees as trees
 use Rattle.mmt_syntax.specs.Readings.{read_words, read_written, read_assigns}
 use Rattle.mmt_syntax.specs.declared.written.Written.{Written}
 use Rattle.mmt_syntax.specs.declared.assign.Assign.{Assign}
-use Rattle.print_laws.specs.PrintedItems.{Gap, tight, space, new_line, Item, dot_item, right_brace, equal_item, text_of}
-use Rattle.print_laws.specs.PrintedExpressions.{whole_items}
-use Rattle.print_laws.specs.PrintedModules.{morph_items, assign_items, value_items, value_gap, decl_items, module_items, module_text}
+use Rattle.print_meaning.specs.PrintedItems.{Gap, tight, space, new_line, Item, dot_item, right_brace, equal_item, text_of}
+use Rattle.print_meaning.specs.PrintedExpressions.{whole_items}
+use Rattle.print_meaning.specs.PrintedModules.{morph_items, assign_items, value_items, value_gap, decl_items, module_items, module_text}
 use Rattle.print_laws.proofs.LaidOut.{text_append}
 use Rattle.twelf_print.specs.Fronts.{spaced, more_words, words_text, assign_front, constant_text, structure_text, decl_front, module_front}
 use Rattle.twelf_print.proofs.Texts.{written_then, next_taken}

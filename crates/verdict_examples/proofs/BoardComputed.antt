@@ -1,6 +1,6 @@
 -- The worked case of the board over modules computes.
 use Rattle.std.proofs.Common.{refl}
-use Rattle.log_meaning.specs.Names.{is_ascending}
+use Rattle.name_meaning.specs.Names.{is_ascending}
 use Rattle.log_meaning.specs.Log.{library_of, stamp_from}
 use Rattle.log_meaning.specs.Append.{append_answer}
 use Rattle.walk_meaning.specs.Walks.{is_ungrounded}

@@ -1,14 +1,15 @@
 -- Worked case of the board over modules: a text is put again, and put back, between a claim and its install.
 use Rattle.std.specs.Prelude.{◌≡◌, true, List, [], ◌∷◌, Some, None, codes}
-use Rattle.lf_meaning.specs.Terms.{Name, Pi, Ty}
+use Rattle.name_meaning.specs.Names.{Name}
+use Rattle.lf_meaning.specs.Terms.{Pi, Ty}
 use Rattle.lf_meaning.specs.Signatures.{FamilyClass, KindClass}
 use Rattle.log_meaning.specs.Log.{Edit, Put}
 use Rattle.log_meaning.specs.Append.{Made}
 use Rattle.board_meaning.specs.Events.{EditMade, Claim, Install, Stale, History}
 use Rattle.board_meaning.specs.Machine.{edit_reply, claim_reply, IsInstalled, IsStale, install_reply, IsVerdict, IsPending, report_reply, EditCall, ClaimCall, InstallCall}
 use Rattle.board_meaning.specs.Legal.{PassCall, after_calls, may_make_all}
-use Rattle.board_meaning.specs.Examples.{by_front, input}
-use Rattle.verdict_meaning.specs.Dependencies.{dependencies}
+use Rattle.board_machine_laws.specs.Examples.{by_front, input}
+use Rattle.text_meaning.specs.Dependencies.{dependencies}
 use Rattle.verdict_meaning.specs.Verdicts.{Verdict, Accepted, Theory}
 use Rattle.verdict_meaning.specs.Rounds.{modules}
 use Rattle.verdict_examples.specs.ExampleTexts.{text_Nat, text_Nat_misspelled}

@@ -1,6 +1,7 @@
 -- Worked cases: what is told of a text that is put behind others.
 use Rattle.std.specs.Prelude.{◌≡◌, List, [], ◌∷◌, ◌++◌, drop, Some, None, codes}
-use Rattle.lf_meaning.specs.Terms.{Name, Path, Constant, Family, Pi, AtFamily, FamilyCon, Ty}
+use Rattle.name_meaning.specs.Names.{Name, Path}
+use Rattle.lf_meaning.specs.Terms.{Constant, Family, Pi, AtFamily, FamilyCon, Ty}
 use Rattle.lf_meaning.specs.Signatures.{Class, FamilyClass, KindClass, SameAs}
 use Rattle.log_meaning.specs.Log.{Module}
 use Rattle.expansion_meaning.specs.Rules.{Rule}

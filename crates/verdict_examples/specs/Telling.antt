@@ -1,7 +1,7 @@
 -- How worked cases are stated: texts are put into a library, and the verdict on one of them is told.
 use Rattle.std.specs.Prelude.{ℕ, suc, ◌+◌, ◌==◌, List, [], ◌∷◌, ◌++◌, Option, Some, None, map, length, filter, fold, take, if◌then◌else◌}
 use Rattle.lf_meaning.specs.Signatures.{Signature}
-use Rattle.log_meaning.specs.Names.{Name, Text}
+use Rattle.name_meaning.specs.Names.{Name, Text}
 use Rattle.log_meaning.specs.Log.{Module, Library, with_module, without_module}
 use Rattle.expansion_meaning.specs.Rules.{Rule}
 use Rattle.verdict_meaning.specs.Verdicts.{Verdict, Accepted, Refused, Theory, View}

@@ -1,13 +1,12 @@
 -- The inclusions of a theory, and what is reached by inclusions alone (Rabe and Kohlhase 2013, section 3: inclusions are
 -- transitive).
 use Rattle.std.specs.Prelude.{◌≡◌, true, List, [], ◌∷◌, flat_map}
-use Rattle.log_meaning.specs.Names.{Name, Text, is_among}
+use Rattle.name_meaning.specs.Names.{Name, Text, is_among}
 use Rattle.log_meaning.specs.Log.{Library, text_of}
 use Rattle.walk_meaning.specs.Walks.{of_text}
-use Rattle.text_meaning.specs.Trees.{Decl, IncludeDecl, StructDecl, ConstDecl, Module, SigModule, ViewModule}
+use Rattle.text_meaning.specs.Trees.{Decl, IncludeDecl, StructDecl, ConstDecl, Module, SigModule, ViewModule, first_name}
 use Rattle.text_meaning.specs.Reading.{ModuleText, ModuleTree, JudgementTree, Answer, Read, Syntax, TooDeep, Unsupported}
-use Rattle.text_laws.specs.ReadingLaws.{read}
-use Rattle.verdict_meaning.specs.Dependencies.{first_name}
+use Rattle.text_meaning.specs.TextAnswers.{read}
 
 -- Read: the theory that a declaration includes, if it is an inclusion.
 abbrev pub decl_inclusions : Decl → List Name

@@ -1,13 +1,13 @@
 -- The tests of a theory's declarations and of a view, and what they make (Rabe and Kohlhase 2013, section 3: theories and
 -- views; the order of tests is this profile).
 use Rattle.std.specs.Prelude.{Bool, List, [], ◌∷◌, ◌++◌, ◌||◌, not, is_some, Option, Some, None, Ok, ⊤}
-use Rattle.lf_meaning.specs.Terms.{Name, Path}
+use Rattle.name_meaning.specs.Names.{Name, Path}
 use Rattle.lf_meaning.specs.Signatures.{Class, Value}
 use Rattle.library_meaning.specs.Faces.{TheoryFace, ViewFace, Known, IsAbsent, IsRefused, IsTheory, IsView, Environment, structure_of}
 use Rattle.library_meaning.specs.Closure.{with_inclusion}
 use Rattle.library_meaning.specs.Resolution.{Scope, own_at}
 use Rattle.text_meaning.specs.Tokens.{Span}
-use Rattle.text_meaning.specs.Trees.{Expr, Written, Assign, Decl, IncludeDecl, StructDecl, ConstDecl}
+use Rattle.text_meaning.specs.Trees.{Expr, Written, Assign, Decl, IncludeDecl, StructDecl, ConstDecl, first_name}
 use Rattle.expansion_meaning.specs.Rules.{Rule}
 use Rattle.expansion_meaning.specs.Answers.{◌>>=◌}
 use Rattle.expansion_meaning.specs.Values.{expand_class, expand_value}
@@ -15,7 +15,6 @@ use Rattle.link_meaning.specs.Refusals.{Outcome, refused, labelled, demand}
 use Rattle.link_meaning.specs.Assignments.{Setting}
 use Rattle.link_meaning.specs.Passes.{link_map}
 use Rattle.link_meaning.specs.Induced.{with_structure}
-use Rattle.verdict_meaning.specs.Dependencies.{first_name}
 
 -- Read: the module is an accepted theory: else it is absent, refused, or a view.
 abbrev pub known_theory : Span → Path → Known → Outcome TheoryFace

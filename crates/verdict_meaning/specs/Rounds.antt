@@ -1,14 +1,14 @@
 -- The verdicts of a library, by rounds (this profile). Each round judges every module over the verdicts of the round before,
 -- restricted to what the module reaches. A grounded module has its verdict as soon as there are as many rounds as its longest
 -- walk has names.
+use Rattle.name_meaning.specs.Names.{Name, same_name, is_among}
+use Rattle.log_meaning.specs.Log.{Library, Module}
+use Rattle.library_meaning.specs.Faces.{Environment, Known, IsAbsent}
 use Rattle.std.specs.Prelude.{ℕ, zero, suc, List, [], ◌∷◌, map, filter, not, length, Option, Some, None, if◌then◌else◌}
-use Rattle.log_meaning.specs.Names.{Name, same_name, is_among}
-use Rattle.log_meaning.specs.Log.{Module, Library}
 use Rattle.walk_meaning.specs.Walks.{walking}
 use Rattle.walk_meaning.specs.Reach.{reach}
 use Rattle.walk_meaning.specs.Subject.{Subject}
-use Rattle.library_meaning.specs.Faces.{Known, IsAbsent, Environment}
-use Rattle.verdict_meaning.specs.Dependencies.{dependencies}
+use Rattle.text_meaning.specs.Dependencies.{dependencies}
 use Rattle.verdict_meaning.specs.Verdicts.{Verdict, known_by, judge}
 
 -- Read: a module with its verdict.
@@ -63,3 +63,7 @@ told_by library name = known_if (verdict_of library name)
 -- Read: the subject that the board is over: modules, with these dependencies and verdicts.
 abbrev pub modules : Subject Verdict
 modules = record { dependencies = dependencies; answer = verdict_of }
+
+-- Read: what is known to a module: the verdicts of the library on all that it reaches, without itself.
+abbrev pub known_to : Library → Name → Environment
+known_to library name = known_of (others_reached library name) (verdicts library)

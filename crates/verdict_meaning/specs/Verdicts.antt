@@ -1,16 +1,14 @@
 -- The verdict on a module, over what is known of the others (this profile).
 use Rattle.std.specs.Prelude.{ℕ, Bool, true, false, [], ◌∷◌, find, length, Option, Some, None, Ok, Err}
-use Rattle.lf_meaning.specs.Terms.{Name}
-use Rattle.lf_meaning.specs.Signatures.{same_name}
-use Rattle.log_meaning.specs.Names.{Text}
+use Rattle.name_meaning.specs.Names.{Name, same_name, Text}
 use Rattle.library_meaning.specs.Faces.{TheoryFace, ViewFace, Known, IsRefused, IsTheory, IsView, Environment, flat_signature}
-use Rattle.text_meaning.specs.Trees.{Written, Module, SigModule, ViewModule}
+use Rattle.text_meaning.specs.Trees.{Written, Module, SigModule, ViewModule, first_name}
 use Rattle.text_meaning.specs.Reading.{ModuleText, ModuleTree, JudgementTree, Answer, Read, Syntax, TooDeep, Unsupported}
-use Rattle.text_laws.specs.ReadingLaws.{read}
+use Rattle.text_meaning.specs.TextAnswers.{read}
 use Rattle.expansion_meaning.specs.Rules.{Rule}
 use Rattle.expansion_meaning.specs.Answers.{◌>>=◌}
 use Rattle.link_meaning.specs.Refusals.{Refusal, Outcome, refused, demand}
-use Rattle.verdict_meaning.specs.Dependencies.{Dependency, first_name, module_dependencies}
+use Rattle.text_meaning.specs.Dependencies.{Dependency, module_dependencies}
 use Rattle.verdict_meaning.specs.Modules.{empty_theory, declare_all, checked_view}
 
 -- Read: what an accepted module shows: a theory's face, with the number of declarations of its flat signature, or a view's.

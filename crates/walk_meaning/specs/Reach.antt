@@ -1,6 +1,6 @@
 -- The reach of a name: all on which its answer may depend (this profile).
 use Rattle.std.specs.Prelude.{◌≡◌, ◌⊎◌, ℕ, zero, suc, true, List, [], ◌∷◌, length, flat_map}
-use Rattle.log_meaning.specs.Names.{Name, is_among, with_names}
+use Rattle.name_meaning.specs.Names.{Name, is_among, with_names}
 use Rattle.log_meaning.specs.Log.{Library, text_of}
 use Rattle.walk_meaning.specs.Walks.{Dependencies, direct, IsWalk}
 

@@ -1,6 +1,6 @@
 -- What is answered of the modules of a library (this profile).
 use Rattle.std.specs.Prelude.{◌≡◌, true, Option, is_some}
-use Rattle.log_meaning.specs.Names.{Name}
+use Rattle.name_meaning.specs.Names.{Name}
 use Rattle.log_meaning.specs.Log.{Library, IsLibrary, is_present}
 use Rattle.walk_meaning.specs.Walks.{Dependencies, is_grounded}
 use Rattle.walk_meaning.specs.Reach.{reach, AgreesOn}

@@ -1,7 +1,7 @@
 -- Walks along dependencies, and which names are grounded (this profile).
 use Rattle.std.specs.Prelude.{◌≡◌, ℕ, zero, suc, ◌<◌, Bool, true, List, [], ◌∷◌, ◌&&◌, not, length, filter, Option, Some, None}
 use Rattle.std.specs.List.{list_any}
-use Rattle.log_meaning.specs.Names.{Name, Text, is_among}
+use Rattle.name_meaning.specs.Names.{Name, Text, is_among}
 use Rattle.log_meaning.specs.Log.{Library, names_of, text_of, is_present}
 
 -- Read: the direct dependencies of a module, from its name and its text alone.

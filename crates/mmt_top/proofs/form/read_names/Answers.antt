@@ -1,5 +1,5 @@
 use Rattle.std.proofs.Common.{List, drop, sym, ap, ◌∙◌, arith, rules, subst}
-use Rattle.output_meaning.specs.Pieces as pieces
+use Rattle.first_path_meaning.specs.Pieces as pieces
 use Rattle.mmt_top.specs.Pieces.{piece_of, pieces_in}
 use Rattle.mmt_top.specs.declared.pieces.Piece.{Piece}
 use Rattle.mmt_top.proofs.PieceSteps.{map-append}

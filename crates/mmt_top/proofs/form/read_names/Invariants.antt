@@ -1,7 +1,7 @@
 use Rattle.std.proofs.Common.{◌≡◌, ◌++◌, List, length}
 use Rattle.std.specs.Option.{option_map}
-use Rattle.output_meaning.specs.Pieces as pieces
-use Rattle.output_meaning.specs.FirstForm as meant
+use Rattle.first_path_meaning.specs.Pieces as pieces
+use Rattle.first_path_meaning.specs.FirstForm as meant
 use Rattle.mmt_top.specs.Pieces.{pieces_in}
 use Rattle.mmt_top.proofs.form.read_names.Given as goal
 

@@ -1,6 +1,6 @@
 use Rattle.std.proofs.Common.{◌++◌, List, sym, ap, ◌∙◌, arith}
 use Rattle.std.proofs.lemmas.List.{append-nil}
-use Rattle.output_meaning.specs.Pieces as meant
+use Rattle.first_path_meaning.specs.Pieces as meant
 use Rattle.mmt_top.specs.Pieces.{pieces_in}
 use Rattle.mmt_top.proofs.PieceSteps.{step_white, no_more}
 use Rattle.mmt_top.proofs.pieces.pieces.Goals as goal

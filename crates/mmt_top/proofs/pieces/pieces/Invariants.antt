@@ -1,5 +1,5 @@
 use Rattle.std.proofs.Common.{◌≡◌, ◌≤◌, ◌-◌, ◌++◌, length, drop}
-use Rattle.output_meaning.specs.Pieces.{pieces_from}
+use Rattle.first_path_meaning.specs.Pieces.{pieces_from}
 use Rattle.mmt_top.specs.Pieces.{pieces_in}
 use Rattle.mmt_top.proofs.pieces.pieces.Given as goal
 

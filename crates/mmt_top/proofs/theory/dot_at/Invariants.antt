@@ -1,5 +1,5 @@
 use Rattle.std.proofs.Common.{take}
-use Rattle.output_meaning.specs.FirstForm.{NoDot}
+use Rattle.first_path_meaning.specs.FirstForm.{NoDot}
 use Rattle.mmt_top.specs.Pieces.{pieces_in}
 use Rattle.mmt_top.proofs.theory.dot_at.Given as goal
 

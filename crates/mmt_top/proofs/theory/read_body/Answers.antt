@@ -2,7 +2,7 @@ use Rattle.std.proofs.Common.{◌≡◌, ◌+◌, ◌-◌, List, ℕ, take, drop
 use Rattle.std.proofs.lemmas.List.{length-take, length-drop}
 use Rattle.std.specs.Prelude.{Option}
 use Rattle.std.specs.Option.{option_map}
-use Rattle.output_meaning.specs.FirstForm as meant
+use Rattle.first_path_meaning.specs.FirstForm as meant
 use Rattle.mmt_top.specs.Pieces.{pieces_in}
 use Rattle.mmt_top.specs.Forms.{declaration_in, declarations_in, IsDotAt}
 use Rattle.mmt_top.specs.declared.form.Declaration.{Declaration}

@@ -1,5 +1,5 @@
 use Rattle.std.proofs.Common.{Bool, not, ◌&&◌, drop, sym, ap, ◌∙◌, arith, ◌+◌}
-use Rattle.output_meaning.specs.Pieces as meant
+use Rattle.first_path_meaning.specs.Pieces as meant
 use Rattle.mmt_top.specs.Pieces.{pieces_in}
 use Rattle.mmt_top.proofs.Forms.{alone_step, alone_end}
 use Rattle.mmt_top.proofs.tokens.stand_alone.Goals as goal

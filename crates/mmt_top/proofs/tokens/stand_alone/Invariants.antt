@@ -1,5 +1,5 @@
 use Rattle.std.proofs.Common.{◌≡◌, drop}
-use Rattle.output_meaning.specs.Pieces as meant
+use Rattle.first_path_meaning.specs.Pieces as meant
 use Rattle.mmt_top.specs.Pieces.{pieces_in}
 use Rattle.mmt_top.proofs.tokens.stand_alone.Given as goal
 

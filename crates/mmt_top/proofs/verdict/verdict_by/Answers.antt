@@ -2,7 +2,7 @@ use Rattle.std.proofs.Common.{◌≡◌, refl, ap, ◌∙◌, subst, arith}
 use Rattle.std.specs.Prelude.{Option, Some, is_none, true, false, if◌then◌else◌}
 use Rattle.std.specs.Str.{bytes_eq}
 use Rattle.std.specs.Option.{option_map}
-use Rattle.output_meaning.specs.Declared as meant
+use Rattle.first_path_meaning.specs.Declared as meant
 use Rattle.mmt_top.specs.Forms.{declarations_in}
 use Rattle.mmt_top.specs.Verdicts.{refusal_in, levels_at, verdict_in}
 use Rattle.mmt_top.proofs.Levels.{Tested-nil, tested_twice, tested_more, tested_all, found_some, found_none, verdict_twice, verdict_fault, empty_levels, fault_by}

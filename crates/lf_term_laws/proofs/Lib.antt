@@ -1,0 +1,5 @@
+pub mod Equality
+pub mod Lookups
+pub mod SpineSynthesis
+pub mod Spines
+pub mod Substituted

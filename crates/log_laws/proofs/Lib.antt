@@ -1,0 +1,5 @@
+pub mod Libraries
+pub mod Limits
+pub mod Members
+pub mod Order
+pub mod Places
