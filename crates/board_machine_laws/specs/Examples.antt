@@ -10,7 +10,7 @@ use Rattle.board_meaning.specs.Standing.{stands}
 use Rattle.board_meaning.specs.Machine.{claim_reply, IsInstalled, IsStale, install_reply, IsVerdict, IsPending, IsAbsent, report_reply, Call, EditCall, ClaimCall, InstallCall, ReleaseCall, CloseCall}
 use Rattle.board_meaning.specs.Legal.{PassCall, after_calls, may_make_all}
 
--- Read: a small subject. Each byte of a text is the name of a dependency, and the answer of a name is the number of
+-- A small subject. Each byte of a text is the name of a dependency, and the answer of a name is the number of
 -- present names in its reach.
 abbrev pub letters : Name → Text → List Name
 letters name text = map (λ (byte : ℕ). byte ∷ []) text

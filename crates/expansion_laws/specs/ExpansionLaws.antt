@@ -11,95 +11,95 @@ use Rattle.expansion_meaning.specs.Expansion.{expand_object, expand_head, expand
 use Rattle.expansion_meaning.specs.Values.{expand_class, expand_family_value, expand_value}
 use Rattle.expansion_meaning.specs.Stands.{StandsObject, StandsHead, StandsArguments, StandsFamily, StandsKind, StandsClass, StandsFamilyValue, StandsValue}
 
--- Read: an object is answered exactly where it stands.
+-- An object is answered exactly where it stands.
 abbrev pub ObjectsStand : Type 0
 ObjectsStand =
     (scope : Scope) (locals : Locals) (expression : Expr) (family : Family) (object : Object)
     → (expand_object scope locals expression family ≡ Ok object) ↔ StandsObject scope locals expression family object
 
--- Read: a head of the wanted level is answered exactly where it stands.
+-- A head of the wanted level is answered exactly where it stands.
 abbrev pub HeadsStand : Type 0
 HeadsStand =
     (level : Level) (scope : Scope) (locals : Locals) (expression : Expr) (head : Head)
     → (expand_head level scope locals expression ≡ Ok head) ↔ (StandsHead scope locals expression head × (level_of head ≡ level))
 
--- Read: a head is answered for arguments exactly where it has taken them.
+-- A head is answered for arguments exactly where it has taken them.
 abbrev pub ArgumentsStand : Type 0
 ArgumentsStand =
     (scope : Scope) (locals : Locals) (arguments : Exprs) (first head : Head)
     → (expand_arguments scope locals arguments first ≡ Ok head) ↔ StandsArguments scope locals arguments first head
 
--- Read: a family is answered exactly where it stands.
+-- A family is answered exactly where it stands.
 abbrev pub FamiliesStand : Type 0
 FamiliesStand =
     (scope : Scope) (locals : Locals) (expression : Expr) (family : Family)
     → (expand_family scope locals expression ≡ Ok family) ↔ StandsFamily scope locals expression family
 
--- Read: a kind is answered exactly where it stands.
+-- A kind is answered exactly where it stands.
 abbrev pub KindsStand : Type 0
 KindsStand =
     (scope : Scope) (locals : Locals) (expression : Expr) (kind : Kind)
     → (expand_kind scope locals expression ≡ Ok kind) ↔ StandsKind scope locals expression kind
 
--- Read: a class is answered exactly where it stands.
+-- A class is answered exactly where it stands.
 abbrev pub ClassesStand : Type 0
 ClassesStand =
     (scope : Scope) (expression : Expr) (class : Class) → (expand_class scope expression ≡ Ok class) ↔ StandsClass scope expression class
 
--- Read: the body of a family value is answered exactly where it stands.
+-- The body of a family value is answered exactly where it stands.
 abbrev pub FamilyValuesStand : Type 0
 FamilyValuesStand =
     (scope : Scope) (locals : Locals) (expression : Expr) (kind : Kind) (body : Family)
     → (expand_family_value scope locals expression kind ≡ Ok body) ↔ StandsFamilyValue scope locals expression kind body
 
--- Read: a value is answered exactly where it stands.
+-- A value is answered exactly where it stands.
 abbrev pub ValuesStand : Type 0
 ValuesStand =
     (scope : Scope) (expression : Expr) (class : Class) (value : Value)
     → (expand_value scope expression class ≡ Ok value) ↔ StandsValue scope expression class value
 
--- Read: at most one term stands.
+-- At most one term stands.
 abbrev pub OneObject : Type 0
 OneObject =
     (scope : Scope) (locals : Locals) (expression : Expr) (family : Family) (object other : Object)
     → StandsObject scope locals expression family object → StandsObject scope locals expression family other → object ≡ other
 
--- Read: at most one head stands, an object or a family.
+-- At most one head stands, an object or a family.
 abbrev pub OneHead : Type 0
 OneHead =
     (scope : Scope) (locals : Locals) (expression : Expr) (head other : Head)
     → StandsHead scope locals expression head → StandsHead scope locals expression other → head ≡ other
 
--- Read: a head becomes at most one head by the arguments.
+-- A head becomes at most one head by the arguments.
 abbrev pub OneHeadTaken : Type 0
 OneHeadTaken =
     (scope : Scope) (locals : Locals) (arguments : Exprs) (first head other : Head)
     → StandsArguments scope locals arguments first head → StandsArguments scope locals arguments first other → head ≡ other
 
--- Read: at most one family stands.
+-- At most one family stands.
 abbrev pub OneFamily : Type 0
 OneFamily =
     (scope : Scope) (locals : Locals) (expression : Expr) (family other : Family)
     → StandsFamily scope locals expression family → StandsFamily scope locals expression other → family ≡ other
 
--- Read: at most one kind stands.
+-- At most one kind stands.
 abbrev pub OneKind : Type 0
 OneKind =
     (scope : Scope) (locals : Locals) (expression : Expr) (kind other : Kind)
     → StandsKind scope locals expression kind → StandsKind scope locals expression other → kind ≡ other
 
--- Read: at most one class stands.
+-- At most one class stands.
 abbrev pub OneClass : Type 0
 OneClass =
     (scope : Scope) (expression : Expr) (class other : Class) → StandsClass scope expression class → StandsClass scope expression other → class ≡ other
 
--- Read: at most one body of a family value stands.
+-- At most one body of a family value stands.
 abbrev pub OneFamilyValue : Type 0
 OneFamilyValue =
     (scope : Scope) (locals : Locals) (expression : Expr) (kind : Kind) (body other : Family)
     → StandsFamilyValue scope locals expression kind body → StandsFamilyValue scope locals expression kind other → body ≡ other
 
--- Read: at most one value stands.
+-- At most one value stands.
 abbrev pub OneValue : Type 0
 OneValue =
     (scope : Scope) (expression : Expr) (class : Class) (value other : Value)

@@ -9,11 +9,11 @@ use Rattle.name_meaning.specs.Characters.{is_white_space}
 use Rattle.name_meaning.specs.Identifiers.{is_identifier}
 use Rattle.output_meaning.specs.Lines.{without_line_feed, content_of}
 
--- Read: the greatest number of bytes between a `put` line and its end line.
+-- The greatest number of bytes between a `put` line and its end line.
 abbrev pub text_limit : ℕ
 text_limit = 2 ^ 20
 
--- Read: a line says nothing (it is blank, or a comment), puts a text under a name, asks for the report of a name, or is
+-- A line says nothing (it is blank, or a comment), puts a text under a name, asks for the report of a name, or is
 -- no line of a script.
 pub data Said : Type 0 where
   nothing : Said
@@ -21,17 +21,17 @@ pub data Said : Type 0 where
   reports : List ℕ → Said
   wrong : Said
 
--- Read: what the line says of the name, where it is one.
+-- What the line says of the name, where it is one.
 abbrev pub of_name : (List ℕ → Said) → List ℕ → Said
 of_name said name = if is_name name then said name else wrong
 
--- Read: what the content of a command line says. The word of a command and its name are parted by one space.
+-- What the content of a command line says. The word of a command and its name are parted by one space.
 abbrev pub command_by : List ℕ → Said
 command_by content =
     if starts_with nat_eq content (codes "put ") then of_name puts (drop 4 content)
     else (if starts_with nat_eq content (codes "report ") then of_name reports (drop 7 content) else wrong)
 
--- Read: what the content of a line says. A longer line than the limit is wrong whatever it holds.
+-- What the content of a line says. A longer line than the limit is wrong whatever it holds.
 abbrev pub said_by : List ℕ → Said
 said_by content =
     if nat_lt line_limit (length content) then wrong else (if is_silent content then nothing else command_by content)
@@ -43,31 +43,31 @@ pub data Command : Type 0 where
   report : List ℕ → Command
   blank : Command
 
--- Read: nothing is left; or a command, with the lines behind it; or a bad line; or a `put` line whose text has no end.
+-- Nothing is left; or a command, with the lines behind it; or a bad line; or a `put` line whose text has no end.
 pub data Next : Type 0 where
   ends : Next
   gives : Command → List (List ℕ) → Next
   bad : Next
   unended : Next
 
--- Read: the `put` of a text that stands in front of these lines, or unended where there is no end line.
+-- The `put` of a text that stands in front of these lines, or unended where there is no end line.
 abbrev pub ended : List ℕ → List ℕ → Option (List (List ℕ)) → Next
 ended name text None = unended
 ended name text (Some rest) = gives (put name text) rest
 
--- Read: the `put` of the text that the lines begin with. A longer text than the limit is bad, ended or not.
+-- The `put` of the text that the lines begin with. A longer text than the limit is bad, ended or not.
 abbrev pub put_of : List ℕ → List (List ℕ) → Next
 put_of name lines =
     if nat_lt text_limit (length (text_before lines)) then bad else ended name (text_before lines) (behind_end lines)
 
--- Read: what a line that says this, in front of these lines, gives. A `put` is bad where it is no longer allowed.
+-- What a line that says this, in front of these lines, gives. A `put` is bad where it is no longer allowed.
 abbrev pub next_by : Bool → Said → List (List ℕ) → Next
 next_by may_put nothing lines = gives blank lines
 next_by may_put (puts name) lines = if may_put then put_of name lines else bad
 next_by may_put (reports name) lines = gives (report name) lines
 next_by may_put wrong lines = bad
 
--- Read: what the lines that are left say next.
+-- What the lines that are left say next.
 abbrev pub next_of : Bool → List (List ℕ) → Next
 next_of may_put [] = ends
 next_of may_put (line ∷ lines) = next_by may_put (said_by (content_of line)) lines

@@ -11,21 +11,21 @@ rule_word unknown_name = codes "unknown-name"
 rule_word level = codes "level"
 rule_word unsupported = codes "unsupported"
 
--- Read: `@V put N`.
+-- `@V put N`.
 abbrev pub put_line : List ℕ → ℕ → List ℕ
 put_line name version = codes "@" ++ decimal version ++ codes " put " ++ name ++ end_of_line
 
--- Read: `N @V accepted theory K`.
+-- `N @V accepted theory K`.
 abbrev pub accepted_line : List ℕ → ℕ → ℕ → List ℕ
 accepted_line name version size = named_at name version ++ codes " accepted theory " ++ decimal size ++ end_of_line
 
--- Read: `N @V refused L:C RULE LABEL`, with line and column counted in the text from 1.
+-- `N @V refused L:C RULE LABEL`, with line and column counted in the text from 1.
 abbrev pub refused_line : List ℕ → ℕ → List ℕ → Refusal → List ℕ
 refused_line name version text refusal =
     named_at name version ++ codes " refused " ++ decimal (line_at text refusal.at) ++ codes ":"
     ++ decimal (column_at text refusal.at) ++ codes " " ++ rule_word refusal.rule ++ codes " " ++ refusal.label ++ end_of_line
 
--- Read: the line of a verdict.
+-- The line of a verdict.
 abbrev pub verdict_line : List ℕ → ℕ → List ℕ → Verdict → List ℕ
 verdict_line name version text (accepted size) = accepted_line name version size
 verdict_line name version text (refused refusal) = refused_line name version text refusal

@@ -3,31 +3,31 @@ use Rattle.std.specs.Prelude.{ℕ, Bool, true, false, List, [], ◌∷◌, ◌+�
 use Rattle.std.specs.Str.{bytes_eq}
 use Rattle.name_meaning.specs.Characters.{is_white_space, is_special, is_identifier_byte}
 
--- Read: some bytes of a text, and the place of the first of them, counted from 0.
+-- Some bytes of a text, and the place of the first of them, counted from 0.
 pub record Piece : Type 0 where
   pub at : ℕ
   pub bytes : List ℕ
 
--- Read: the piece is the special character or the word whose bytes these are.
+-- The piece is the special character or the word whose bytes these are.
 abbrev pub is_text : List ℕ → Piece → Bool
 is_text bytes piece = bytes_eq piece.bytes bytes
 
--- Read: the piece is a run of identifier bytes.
+-- The piece is a run of identifier bytes.
 abbrev pub is_run_piece : Piece → Bool
 is_run_piece piece = is_identifier_byte (slice_index piece.bytes 0)
 
--- Read: the second piece begins where the first one ends.
+-- The second piece begins where the first one ends.
 abbrev pub touches : Piece → Piece → Bool
 touches first second = second.at == first.at + length first.bytes
 
--- Read: the pieces behind an identifier byte at a place, with the byte: it lengthens a run that begins directly behind it.
+-- The pieces behind an identifier byte at a place, with the byte: it lengthens a run that begins directly behind it.
 abbrev pub onto_run : ℕ → ℕ → List Piece → List Piece
 onto_run at byte [] = record { at = at; bytes = byte ∷ [] } ∷ []
 onto_run at byte (piece ∷ pieces) =
     if is_run_piece piece && (piece.at == at + 1) then record { at = at; bytes = byte ∷ piece.bytes } ∷ pieces
     else record { at = at; bytes = byte ∷ [] } ∷ (piece ∷ pieces)
 
--- Read: the pieces of the bytes, the first of which stands at the place. White space is left out.
+-- The pieces of the bytes, the first of which stands at the place. White space is left out.
 unfoldable pub pieces_from : ℕ → List ℕ → List Piece
 pieces_from at [] = []
 pieces_from at (byte ∷ bytes) =
@@ -35,22 +35,22 @@ pieces_from at (byte ∷ bytes) =
     else (if is_special byte then record { at = at; bytes = byte ∷ [] } ∷ pieces_from (at + 1) bytes
     else onto_run at byte (pieces_from (at + 1) bytes))
 
--- Read: the first two pieces make one token, as `:=` is one.
+-- The first two pieces make one token, as `:=` is one.
 abbrev pub assigns : Piece → Piece → Bool
 assigns first second = is_text (codes ":") first && touches first second && (slice_index second.bytes 0 == 61)
 
--- Read: the three pieces make one token, as two runs do that a dot joins.
+-- The three pieces make one token, as two runs do that a dot joins.
 abbrev pub joins : Piece → Piece → Piece → Bool
 joins first dot second =
     is_text (codes ".") dot && is_run_piece first && touches first dot && is_run_piece second && touches dot second
 
--- Read: the piece makes one token with the pieces that follow it.
+-- The piece makes one token with the pieces that follow it.
 abbrev pub is_joined : Piece → List Piece → Bool
 is_joined first [] = false
 is_joined first (second ∷ []) = assigns first second
 is_joined first (second ∷ third ∷ pieces) = assigns first second || joins first second third
 
--- Read: no pieces in the list make one token together, the `%` in front of a word excepted.
+-- No pieces in the list make one token together, the `%` in front of a word excepted.
 unfoldable pub stand_alone : List Piece → Bool
 stand_alone [] = true
 stand_alone (first ∷ pieces) = not (is_joined first pieces) && stand_alone pieces

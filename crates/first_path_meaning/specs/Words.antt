@@ -6,7 +6,7 @@ use Rattle.std.specs.Str.{bytes_eq}
 abbrev pub are_words : List (List ℕ) → List (List ℕ) → Bool
 are_words = pointwise bytes_eq
 
--- Read: the words, each as its bytes, are an accepted list.
+-- The words, each as its bytes, are an accepted list.
 abbrev pub is_accepted : List (List ℕ) → Bool
 is_accepted words =
     are_words words (codes "play" ∷ []) || are_words words (codes "play" ∷ codes "--workers" ∷ codes "0" ∷ [])

@@ -12,7 +12,7 @@ use Rattle.verdict_meaning.specs.Modules.{scope_in}
 use Rattle.printing_meaning.specs.CarriedLines.{Carries}
 use Rattle.judged_meaning.specs.Carrying.{carry}
 
--- Read: the name is a view's, and the text is a judgement that stands for an object and a family over the view's whole domain.
+-- The name is a view's, and the text is a judgement that stands for an object and a family over the view's whole domain.
 -- The object and the family here are the translations of these along the view.
 pub record IsTranslated (environment : Environment) (name : Name) (text : Text) (object : Object) (family : Family) : Type 0 where
   pub view : ViewFace
@@ -28,7 +28,7 @@ pub record IsTranslated (environment : Environment) (name : Name) (text : Text) 
   pub object_is : object ≡ translate_object view.map from_object
   pub family_is : family ≡ translate_family view.map from_family
 
--- Read: an object and a family are carried exactly where they are such translations, whatever is known.
+-- An object and a family are carried exactly where they are such translations, whatever is known.
 abbrev pub CarryIsTranslation : Type 0
 CarryIsTranslation =
     (environment : Environment) (name : Name) (text : Text) (object : Object) (family : Family)

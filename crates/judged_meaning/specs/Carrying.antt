@@ -19,23 +19,23 @@ use Rattle.printing_meaning.specs.CarriedLines.{Carried, Carries, NoView, Ill}
 abbrev pub ill_by : Fault → Carried
 ill_by fault = Ill fault.span.from (word_of fault.rule)
 
--- Read: an object over the source, at this family, is carried with it along the map; or it breaks a rule.
+-- An object over the source, at this family, is carried with it along the map; or it breaks a rule.
 abbrev pub carried_object : HeadMap → Family → Answer Object → Carried
 carried_object along family (Ok object) = Carries (translate_object along object) (translate_family along family)
 carried_object along family (Err fault) = ill_by fault
 
--- Read: the family of a judgement over the source, and then its object.
+-- The family of a judgement over the source, and then its object.
 abbrev pub carried_family : HeadMap → Scope → Judgement → Answer Family → Carried
 carried_family along scope judgement (Ok family) = carried_object along family (expand_object scope [] judgement.object family)
 carried_family along scope judgement (Err fault) = ill_by fault
 
--- Read: a judgement over the whole source theory. The source of an accepted view is accepted.
+-- A judgement over the whole source theory. The source of an accepted view is accepted.
 abbrev pub carried_over : Environment → ViewFace → Judgement → Option TheoryFace → Carried
 carried_over environment view judgement None = NoView
 carried_over environment view judgement (Some source) =
     carried_family view.map (scope_in environment source) judgement (expand_family (scope_in environment source) [] judgement.family)
 
--- Read: what a text that is read so comes to. A text read as a judgement is no module.
+-- What a text that is read so comes to. A text read as a judgement is no module.
 abbrev pub carried_tree : Environment → ViewFace → reading.Tree → Carried
 carried_tree environment view (reading.ModuleTree tree) = NoView
 carried_tree environment view (reading.JudgementTree judgement) = carried_over environment view judgement (theory_of environment view.domain)
@@ -46,7 +46,7 @@ carried_text environment view (reading.Syntax at) = Ill at (codes "syntax")
 carried_text environment view (reading.TooDeep at) = Ill at (codes "too-deep")
 carried_text environment view (reading.Unsupported at) = Ill at (codes "unsupported")
 
--- Read: what carrying the judgement of a text along the view of this name comes to. Whether there is such a view is tested
+-- What carrying the judgement of a text along the view of this name comes to. Whether there is such a view is tested
 -- before the text is read.
 abbrev pub carried_along : Environment → Option ViewFace → Text → Carried
 carried_along environment None text = NoView

@@ -11,7 +11,7 @@ use Rattle.printing_meaning.specs.VerdictLines.{Refusal, Judged, Refused, Accept
 use Rattle.run_meaning.specs.Judging.{Judging}
 use Rattle.judged_meaning.specs.Carrying.{carry}
 
--- Read: a refusal, as it is printed: the place where it begins, the rule's word and the label.
+-- A refusal, as it is printed: the place where it begins, the rule's word and the label.
 abbrev pub printed_refusal : refusals.Refusal → Refusal
 printed_refusal refusal = record { at = refusal.span.from; rule = word_of refusal.rule; label = refusal.label }
 
@@ -20,12 +20,12 @@ judged_by (verdicts.Accepted (verdicts.Theory face size)) = AcceptedTheory face
 judged_by (verdicts.Accepted (verdicts.View face)) = AcceptedView face
 judged_by (verdicts.Refused refusal) = Refused (printed_refusal refusal)
 
--- Read: what is judged of a name by its verdict. A present name has one; for an absent one nothing is asked.
+-- What is judged of a name by its verdict. A present name has one; for an absent one nothing is asked.
 abbrev pub judged_if : Option verdicts.Verdict → Judged
 judged_if None = Refused (record { at = 0; rule = []; label = [] })
 judged_if (Some verdict) = judged_by verdict
 
--- Read: the judging of the rules.
+-- The judging of the rules.
 abbrev pub rules : Judging
 rules = record {
   dependencies = dependencies;

@@ -6,14 +6,14 @@ use Rattle.run_meaning.specs.Folders.{folder_output}
 use Rattle.run_meaning.specs.Generator.{generator_output}
 use Rattle.judged_meaning.specs.JudgingByRules.{rules}
 
--- Read: the output of a script.
+-- The output of a script.
 abbrev pub play_output : List ℕ → List ℕ
 play_output script = output_of rules script
 
--- Read: the output of a checked folder with these files.
+-- The output of a checked folder with these files.
 abbrev pub check_output : List File → List ℕ
 check_output files = folder_output rules files
 
--- Read: the output of the generator, from a start, for so many modules, edits and workers.
+-- The output of the generator, from a start, for so many modules, edits and workers.
 abbrev pub generate_output : ℕ → ℕ → ℕ → ℕ → List ℕ
 generate_output start modules edits workers = generator_output rules start modules edits workers

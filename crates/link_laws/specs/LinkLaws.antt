@@ -10,31 +10,31 @@ use Rattle.link_meaning.specs.AssignmentsRead.{AssignsRead}
 use Rattle.link_meaning.specs.Passes.{assigned_map, link_map}
 use Rattle.link_meaning.specs.Equations.{MeetsEquations}
 
--- Read: the passes answer a map exactly where it meets the equations.
+-- The passes answer a map exactly where it meets the equations.
 abbrev pub PassesMeetEquations : Type 0
 PassesMeetEquations =
     (setting : Setting) (assigned : List Assigned) (along : HeadMap) → IsSettled setting
     → (assigned_map setting assigned ≡ Ok along) ↔ MeetsEquations setting assigned along
 
--- Read: at most one map meets them.
+-- At most one map meets them.
 abbrev pub OneMapMeetsEquations : Type 0
 OneMapMeetsEquations =
     (setting : Setting) (assigned : List Assigned) (along other : HeadMap) → IsSettled setting
     → MeetsEquations setting assigned along → MeetsEquations setting assigned other → along ≡ other
 
--- Read: the assignments are read as what they give, and as nothing else.
+-- The assignments are read as what they give, and as nothing else.
 abbrev pub AssignmentsAreRead : Type 0
 AssignmentsAreRead =
     (setting : Setting) (assigns : List Assign) (assigned : List Assigned)
     → (read_assigns setting [] assigns ≡ Ok assigned) ↔ AssignsRead setting [] assigns assigned
 
--- Read: a link has a map exactly where its assignments give something, and the map meets the equations of that.
+-- A link has a map exactly where its assignments give something, and the map meets the equations of that.
 abbrev pub LinkMapMeetsEquations : Type 0
 LinkMapMeetsEquations =
     (setting : Setting) (assigns : List Assign) (along : HeadMap) → IsSettled setting
     → (link_map setting assigns ≡ Ok along) ↔ IsMapOfLink setting assigns along
 
--- Read: a link has at most one such map.
+-- A link has at most one such map.
 abbrev pub OneMapOfLink : Type 0
 OneMapOfLink =
     (setting : Setting) (assigns : List Assign) (along other : HeadMap) → IsSettled setting

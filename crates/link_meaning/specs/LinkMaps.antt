@@ -8,11 +8,11 @@ use Rattle.link_meaning.specs.Equations.{MeetsEquations}
 use Rattle.library_meaning.specs.Faces.{theory_of}
 use Rattle.library_meaning.specs.Coherence.{IsCoherent}
 
--- Read: the environment is coherent, and the link's domain an accepted theory in it.
+-- The environment is coherent, and the link's domain an accepted theory in it.
 pub record IsSettled (setting : Setting) : Type 0 where
   pub coherent : IsCoherent setting.environment
   pub theory : IsSome (theory_of setting.environment setting.domain)
 
--- Read: the map meets the equations of what the assignments of the link give.
+-- The map meets the equations of what the assignments of the link give.
 abbrev pub IsMapOfLink : Setting → List Assign → HeadMap → Type 0
 IsMapOfLink setting assigns along = (assigned : List Assigned) × AssignsRead setting [] assigns assigned × MeetsEquations setting assigned along

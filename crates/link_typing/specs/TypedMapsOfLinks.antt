@@ -12,7 +12,7 @@ use Rattle.link_meaning.specs.Passes.{link_map}
 use Rattle.link_coherence_laws.specs.BetweenTheories.{IsBetweenTheories}
 use Rattle.row_typing.specs.TypedFaces.{IsTypedEnvironment}
 
--- Read: where all that is known is coherent and well typed, and the passes over the assignments of a link between known theories
+-- Where all that is known is coherent and well typed, and the passes over the assignments of a link between known theories
 -- answer a map, it is typed.
 abbrev pub LinksHaveTypedMaps : Type 0
 LinksHaveTypedMaps =

@@ -5,36 +5,36 @@ use Rattle.name_meaning.specs.Names.{Name, Text, same_name, is_among}
 use Rattle.log_meaning.specs.Log.{Edit, Put, Drop, edited_name, Log, Library, names_of, library_of, text_of, is_present, version_of, stamp_of, IsLibrary}
 use Rattle.log_meaning.specs.Append.{module_limit, edit_limit, total_limit, is_short, total_size, appended}
 
--- Read: what an edit leaves of its name.
+-- What an edit leaves of its name.
 abbrev pub left_by : Edit → Option Text
 left_by (Put name text) = Some text
 left_by (Drop name) = None
 
--- Read: the library of a log has its names in byte order, each once.
+-- The library of a log has its names in byte order, each once.
 abbrev pub LogLeavesLibrary : Type 0
 LogLeavesLibrary = (log : Log) → IsLibrary (library_of log)
 
--- Read: the names of a library are those that it has a text for.
+-- The names of a library are those that it has a text for.
 abbrev pub NamesArePresent : Type 0
 NamesArePresent = (library : Library) (name : Name) → is_present library name ≡ is_among (names_of library) name
 
--- Read: an edit decides the text of its own name, and leaves those of the others.
+-- An edit decides the text of its own name, and leaves those of the others.
 abbrev pub EditDecidesText : Type 0
 EditDecidesText =
     (log : Log) (edit : Edit) (name : Name)
     → text_of (library_of (log ++ edit ∷ [])) name ≡ (if same_name name (edited_name edit) then left_by edit else text_of (library_of log) name)
 
--- Read: an edit's version becomes the stamp of its name, and the stamps of the others stay.
+-- An edit's version becomes the stamp of its name, and the stamps of the others stay.
 abbrev pub EditDecidesStamp : Type 0
 EditDecidesStamp =
     (log : Log) (edit : Edit) (name : Name)
     → stamp_of (log ++ edit ∷ []) name ≡ (if same_name name (edited_name edit) then suc (version_of log) else stamp_of log name)
 
--- Read: no stamp is greater than the version.
+-- No stamp is greater than the version.
 abbrev pub StampsArePast : Type 0
 StampsArePast = (log : Log) (name : Name) → stamp_of log name ≤ version_of log
 
--- Read: the log keeps to all limits: of each text that was put, of the edits, of the modules that are left, and of all texts
+-- The log keeps to all limits: of each text that was put, of the edits, of the modules that are left, and of all texts
 -- together.
 pub record IsWithinLimits (log : Log) : Type 0 where
   pub texts : list_all is_short log ≡ true
@@ -42,6 +42,6 @@ pub record IsWithinLimits (log : Log) : Type 0 where
   pub modules : length (library_of log) ≤ module_limit
   pub total : total_size log ≤ total_limit
 
--- Read: a log that keeps to the limits keeps to them after any edit.
+-- A log that keeps to the limits keeps to them after any edit.
 abbrev pub LimitsAreKept : Type 0
 LimitsAreKept = (log : Log) (edit : Edit) → IsWithinLimits log → IsWithinLimits (appended log edit)

@@ -19,7 +19,7 @@ declaration_in declaration = record { name = piece_of declaration.name; row = ro
 abbrev pub declarations_in : List Declaration → List meant.Declaration
 declarations_in declarations = map declaration_in declarations
 
--- Read: no piece is a dot; or the first dot stands at this index.
+-- No piece is a dot; or the first dot stands at this index.
 abbrev pub IsDotAt : List Piece → Option ℕ → Type 0
 IsDotAt pieces None = NoDot (pieces_in pieces)
 IsDotAt pieces (Some i) =

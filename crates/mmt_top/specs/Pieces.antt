@@ -9,7 +9,7 @@ piece_of piece = record { at = piece.at; bytes = piece.bytes.now }
 abbrev pub pieces_in : List Piece → List meant.Piece
 pieces_in pieces = map piece_of pieces
 
--- Read: the piece is the first of those of the text from the place on, and the others follow it.
+-- The piece is the first of those of the text from the place on, and the others follow it.
 pub record BeginsWith (text : List ℕ) (at : ℕ) (piece : meant.Piece) : Type 0 where
   pub some : 0 < length piece.bytes
   pub within : at + length piece.bytes ≤ length text

@@ -32,17 +32,17 @@ abbrev pub verdict_in : Verdict → verdicts.Verdict
 verdict_in (Accepted size) = verdicts.accepted size
 verdict_in (Refused refusal) = verdicts.refused (refusal_in refusal)
 
--- Read: the level of a name in the table.
+-- The level of a name in the table.
 abbrev pub levels_at : BTreeMap (Bor (List ℕ)) Level → List ℕ → Option meant.Level
 levels_at levels name = option_map level_in (get_by (λ key. slice_cmp nat_cmp name key.now) levels)
 
--- Read: the first fault of the names of a row, where this gives the levels of the names above.
+-- The first fault of the names of a row, where this gives the levels of the names above.
 abbrev pub row_fault_by : (List ℕ → Option meant.Level) → List ℕ → List pieces.Piece → Option meant.Refusal
 row_fault_by levels label [] = None
 row_fault_by levels label (name ∷ others) =
     meant.or_else (meant.fault_at name label (levels name.bytes)) (row_fault_by levels label others)
 
--- Read: the verdict of so many declarations with this first fault.
+-- The verdict of so many declarations with this first fault.
 abbrev pub verdict_of_fault : ℕ → Option meant.Refusal → verdicts.Verdict
 verdict_of_fault size None = verdicts.accepted size
 verdict_of_fault size (Some refusal) = verdicts.refused refusal

@@ -6,19 +6,19 @@ use Rattle.std.specs.List.{count_by, suffix_len}
 abbrev pub end_of_line : List ℕ
 end_of_line = 10 ∷ []
 
--- Read: `N @V`.
+-- `N @V`.
 abbrev pub named_at : List ℕ → ℕ → List ℕ
 named_at name version = name ++ codes " @" ++ decimal version
 
--- Read: `N @V absent`.
+-- `N @V absent`.
 abbrev pub absent_line : List ℕ → ℕ → List ℕ
 absent_line name version = named_at name version ++ codes " absent" ++ end_of_line
 
--- Read: `line L: bad command`.
+-- `line L: bad command`.
 abbrev pub bad_line : ℕ → List ℕ
 bad_line line = codes "line " ++ decimal line ++ codes ": bad command" ++ end_of_line
 
--- Read: `line L: unended text`.
+-- `line L: unended text`.
 abbrev pub unended_line : ℕ → List ℕ
 unended_line line = codes "line " ++ decimal line ++ codes ": unended text" ++ end_of_line
 

@@ -6,16 +6,16 @@ use Rattle.lf_meaning.specs.Signatures.{Signature}
 use Rattle.printing_meaning.specs.Numbers.{is_number}
 use Rattle.printing_meaning.specs.Prefixes.{prefix_with, is_taken, prefix_of}
 
--- Read: no own constant of one name begins with the prefix and a digit, so a printed variable is none of them.
+-- No own constant of one name begins with the prefix and a digit, so a printed variable is none of them.
 abbrev pub PrefixIsFree : Type 0
 PrefixIsFree = (own : Signature) → is_taken own (prefix_of own) ≡ false
 
--- Read: with fewer marks the prefix is taken.
+-- With fewer marks the prefix is taken.
 abbrev pub PrefixIsLeast : Type 0
 PrefixIsLeast =
     (own : Signature) (count : ℕ) → length (prefix_with count) < length (prefix_of own) → is_taken own (prefix_with count) ≡ true
 
--- Read: a number of at most 64 digits is printed in decimal digits, without a leading zero, and the digits have its value. Of
+-- A number of at most 64 digits is printed in decimal digits, without a leading zero, and the digits have its value. Of
 -- longer numbers nothing is said.
 abbrev pub NumbersAreDecimal : Type 0
 NumbersAreDecimal =

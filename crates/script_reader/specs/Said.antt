@@ -11,7 +11,7 @@ meaning_of (Puts name) = meant.puts name
 meaning_of (Reports name) = meant.reports name
 meaning_of Wrong = meant.wrong
 
--- Read: the name in what a line says is no longer than a line may be.
+-- The name in what a line says is no longer than a line may be.
 abbrev pub IsWithin : Said → Type 0
 IsWithin Nothing = Unit {0}
 IsWithin (Puts name) = length name ≤ line_limit

@@ -3,7 +3,7 @@ use Rattle.name_meaning.specs.Names.{Path, Name}
 use Rattle.text_meaning.specs.Trees.{Decl, IncludeDecl, StructDecl, ConstDecl}
 use Rattle.std.specs.Prelude.{◌∷◌, Option, Some, None}
 
--- Read: the label of an assignment to a path: the path, behind the name of the structure if the link is one.
+-- The label of an assignment to a path: the path, behind the name of the structure if the link is one.
 abbrev pub label_in : Option Name → Path → Path
 label_in None path = path
 label_in (Some structure) path = structure ∷ path

@@ -2,10 +2,10 @@
 use Rattle.std.specs.Prelude.{ℕ, List, ◌+◌, ◌==◌, not, take}
 use Rattle.std.specs.List.{suffix_len, count_by}
 
--- Read: one more than the number of line feeds in front of the place.
+-- One more than the number of line feeds in front of the place.
 abbrev pub line_at : List ℕ → ℕ → ℕ
 line_at text at = count_by (λ byte. byte == 10) (take at text) + 1
 
--- Read: one more than the number of bytes between the last line feed in front of the place and the place.
+-- One more than the number of bytes between the last line feed in front of the place and the place.
 abbrev pub column_at : List ℕ → ℕ → ℕ
 column_at text at = suffix_len (λ byte. not (byte == 10)) (take at text) + 1

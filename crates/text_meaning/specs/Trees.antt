@@ -49,7 +49,7 @@ pub record Judgement : Type 0 where
   pub object : Expr
   pub family : Expr
 
--- Read: the first name of a path.
+-- The first name of a path.
 abbrev pub first_name : Path → Name
 first_name [] = []
 first_name (name ∷ path) = name

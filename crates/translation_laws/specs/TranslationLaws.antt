@@ -8,26 +8,26 @@ use Rattle.lf_meaning.specs.HeadMaps.{HeadMap, image_of}
 use Rattle.translation_meaning.specs.Differ.{value_in, agree_on, differ}
 use Rattle.translation_meaning.specs.Translation.{headed_image, translate_object, translate_head, translate_image, compose}
 
--- Read: a constant with its arguments is translated by its image taking the translated arguments, from left to right.
+-- A constant with its arguments is translated by its image taking the translated arguments, from left to right.
 abbrev pub SpineIsTaken : Type 0
 SpineIsTaken =
     (along : HeadMap) (constant : Constant) (arguments : List Object)
     → translate_object along (At (apply_all (Con constant) arguments))
     ≡ object_of (takes_all (headed_image constant (image_of along constant)) (map (translate_object along) arguments))
 
--- Read: so is an atomic family with further arguments.
+-- So is an atomic family with further arguments.
 abbrev pub FamilySpineIsTaken : Type 0
 FamilySpineIsTaken =
     (along : HeadMap) (p : AtomicFamily) (arguments : List Object)
     → translate_head along (family_apply_all p arguments) ≡ head_takes_all (translate_head along p) (map (translate_object along) arguments)
 
--- Read: a composition has the images of the first map, translated along the second, and no others.
+-- A composition has the images of the first map, translated along the second, and no others.
 abbrev pub CompositionTranslatesImages : Type 0
 CompositionTranslatesImages =
     (first second : HeadMap) (constant : Constant)
     → image_of (compose first second) constant ≡ option_map (translate_image second) (image_of first constant)
 
--- Read: the place where two maps differ is the first declaration on which they do not agree; there is none where they agree on
+-- The place where two maps differ is the first declaration on which they do not agree; there is none where they agree on
 -- all.
 pub record IsFirstDifference (first second : HeadMap) (names : Signature) (place : ℕ) : Type 0 where
   pub declaration : Declaration
@@ -35,20 +35,20 @@ pub record IsFirstDifference (first second : HeadMap) (names : Signature) (place
   pub differs : agree_on first second declaration ≡ false
   pub before : (i : ℕ) (earlier : Declaration) → i < place → slice_get names i ≡ Some earlier → agree_on first second earlier ≡ true
 
--- Read: the maps agree on all declarations.
+-- The maps agree on all declarations.
 abbrev pub AgreeOnAll : HeadMap → HeadMap → Signature → Type 0
 AgreeOnAll first second names = (i : ℕ) (declaration : Declaration) → slice_get names i ≡ Some declaration → agree_on first second declaration ≡ true
 
--- Read: a place is that of the first difference; none is that there is no difference.
+-- A place is that of the first difference; none is that there is no difference.
 abbrev pub IsDifference : HeadMap → HeadMap → Signature → Option ℕ → Type 0
 IsDifference first second names None = AgreeOnAll first second names
 IsDifference first second names (Some place) = IsFirstDifference first second names place
 
--- Read: what the function answers is so.
+-- What the function answers is so.
 abbrev pub DifferenceIsFirst : Type 0
 DifferenceIsFirst = (first second : HeadMap) (names : Signature) → IsDifference first second names (differ first second names)
 
--- Read: two maps agree on a constant where both give it an image, with one value.
+-- Two maps agree on a constant where both give it an image, with one value.
 abbrev pub AgreeIsOneValue : Type 0
 AgreeIsOneValue =
     (first second : HeadMap) (declaration : Declaration)

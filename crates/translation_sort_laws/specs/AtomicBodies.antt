@@ -5,12 +5,12 @@ use Rattle.lf_meaning.specs.Signatures.{Value, SameAs, TermValue, FamilyValue}
 use Rattle.translation_meaning.specs.AtomicFamilies.{IsAtomicFamily}
 use Rattle.lf_meaning.specs.HeadMaps.{Image, HeadMap, image_of}
 
--- Read: if the value is a family, it is atomic below its binders.
+-- If the value is a family, it is atomic below its binders.
 abbrev pub HasAtomicBody : Value → Type 0
 HasAtomicBody (SameAs constant) = ⊤
 HasAtomicBody (TermValue object) = ⊤
 HasAtomicBody (FamilyValue binders body) = IsAtomicFamily body
 
--- Read: so is each family that is the value of an image.
+-- So is each family that is the value of an image.
 abbrev pub BodiesAreAtomic : HeadMap → Type 0
 BodiesAreAtomic along = (constant : Constant) (image : Image) → image_of along constant ≡ Some image → HasAtomicBody image.value

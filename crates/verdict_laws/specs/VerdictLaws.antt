@@ -14,21 +14,21 @@ use Rattle.expansion_meaning.specs.Rules.{Rule}
 use Rattle.text_meaning.specs.Dependencies.{Dependency, module_dependencies, dependencies}
 use Rattle.verdict_meaning.specs.Verdicts.{Refused, judge}
 
--- Read: there is a verdict on each present name, and on no other.
+-- There is a verdict on each present name, and on no other.
 abbrev pub PresentNamesHaveVerdicts : Type 0
 PresentNamesHaveVerdicts = AnswersPresent modules
 
--- Read: the verdict on a present name is that on its text, over the verdicts of what it reaches.
+-- The verdict on a present name is that on its text, over the verdicts of what it reaches.
 abbrev pub VerdictIsJudged : Type 0
 VerdictIsJudged =
     (library : Library) (name : Name) (text : Text) → text_of library name ≡ Some text
     → verdict_of library name ≡ Some (judge (known_to library name) (is_among (ungrounded_names library)) name text)
 
--- Read: the verdict on a grounded name is equal in any two libraries that agree on its reach.
+-- The verdict on a grounded name is equal in any two libraries that agree on its reach.
 abbrev pub VerdictKeepsToReach : Type 0
 VerdictKeepsToReach = KeepsToReach modules
 
--- Read: the verdict on a grounded name depends on its text and the verdicts of its reach alone.
+-- The verdict on a grounded name depends on its text and the verdicts of its reach alone.
 abbrev pub VerdictRestsOnVerdicts : Type 0
 VerdictRestsOnVerdicts =
     (library other : Library) (name : Name) (text : Text) → text_of library name ≡ Some text → text_of other name ≡ Some text
@@ -37,7 +37,7 @@ VerdictRestsOnVerdicts =
     → ((reached : Name) → is_among (others_reached library name) reached ≡ true → verdict_of library reached ≡ verdict_of other reached)
     → verdict_of library name ≡ verdict_of other name
 
--- Read: the module is refused as a cycle, at the first of its dependencies in the order of the text that is ungrounded itself.
+-- The module is refused as a cycle, at the first of its dependencies in the order of the text that is ungrounded itself.
 pub record IsCycle (library : Library) (name : Name) : Type 0 where
   pub text : Text
   pub has : text_of library name ≡ Some text
@@ -51,6 +51,6 @@ pub record IsCycle (library : Library) (name : Name) : Type 0 where
       → is_ungrounded dependencies library other.name ≡ false
   pub refused : verdict_of library name ≡ Some (Refused (record { span = dependency.span; rule = Rule.Cycle; label = dependency.label }))
 
--- Read: an ungrounded module is refused so, and never accepted.
+-- An ungrounded module is refused so, and never accepted.
 abbrev pub UngroundedIsCycle : Type 0
 UngroundedIsCycle = (library : Library) (name : Name) → is_ungrounded dependencies library name ≡ true → IsCycle library name

@@ -5,17 +5,17 @@ use Rattle.log_meaning.specs.Log.{Library, IsLibrary, is_present}
 use Rattle.walk_meaning.specs.Walks.{Dependencies, is_grounded}
 use Rattle.walk_meaning.specs.Reach.{reach, AgreesOn}
 
--- Read: a subject has direct dependencies, and a definition of its answers, by a library and a name of it.
+-- A subject has direct dependencies, and a definition of its answers, by a library and a name of it.
 pub record Subject (Answer : Type 0) : Type 0 where
   pub dependencies : Dependencies
   pub answer : Library → Name → Option Answer
 
--- Read: the subject answers of the present names and of no others.
+-- The subject answers of the present names and of no others.
 abbrev pub AnswersPresent : {Answer : Type 0} → Subject Answer → Type 0
 AnswersPresent subject =
     (library : Library) (name : Name) → IsLibrary library → is_some (subject.answer library name) ≡ is_present library name
 
--- Read: the answer of a grounded name depends on the texts of its reach alone.
+-- The answer of a grounded name depends on the texts of its reach alone.
 abbrev pub KeepsToReach : {Answer : Type 0} → Subject Answer → Type 0
 KeepsToReach subject =
     (library other : Library) (name : Name) → IsLibrary library → IsLibrary other
