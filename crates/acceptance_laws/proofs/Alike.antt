@@ -3,8 +3,8 @@ use Rattle.std.proofs.Common.{◌≡◌, Bool, true, false, cond, List, [], ◌�
 use Rattle.std.specs.List.{cons_option}
 use Rattle.name_meaning.specs.Names.{Name, Path}
 use Rattle.lf_meaning.specs.Signatures.{Signature}
-use Rattle.log_laws.proofs.Members.{Member}
-use Rattle.log_laws.proofs.Order.{among_member}
+use Rattle.list_laws.proofs.Members.{Member}
+use Rattle.name_laws.proofs.Order.{among_member}
 use Rattle.library_meaning.specs.Faces.{StructureFace, TheoryFace, ViewFace, IsTheory, IsView, theory_face, Environment, theory_of, includes_of, own_of, own_part, own_parts, flat_of}
 use Rattle.library_meaning.specs.Closure.{sees}
 use Rattle.library_meaning.specs.Resolution.{Scope, Variables, own_at, qualified, bound_variable, the_only, or_variable, or_declared, Resolved, resolve}

@@ -4,7 +4,7 @@ use Rattle.std.specs.Prelude.{⊤}
 use Rattle.name_meaning.specs.Names.{Name, Path, same_name}
 use Rattle.lf_meaning.specs.Signatures.{Class, Value, Declaration, Signature}
 use Rattle.lf_term_laws.proofs.Equality.{pointwise_sound, same_name_sound}
-use Rattle.log_laws.proofs.Members.{find_found}
+use Rattle.list_laws.proofs.Members.{find_found}
 use Rattle.lf_meaning.specs.HeadMaps.{HeadMap}
 use Rattle.library_meaning.specs.Faces.{StructureFace, TheoryFace, Environment, theory_of, structure_of}
 use Rattle.library_meaning.specs.Resolution.{Scope, has_path, own_at}

@@ -2,7 +2,7 @@
 use Rattle.std.proofs.Common.{◌≡◌, Bool, true, false, List, [], ◌∷◌, ◌++◌, flat_map, filter_map, Option, Some, None, is_some, inl, inr, ⊎_elim, refl, sym, ap, ◌∙◌, subst}
 use Rattle.name_meaning.specs.Names.{Name, Path, same_name}
 use Rattle.lf_meaning.specs.Signatures.{Class, Value}
-use Rattle.log_laws.proofs.Members.{Member, in_append, append_left, append_right, flat_map_in}
+use Rattle.list_laws.proofs.Members.{Member, in_append, append_left, append_right, flat_map_in}
 use Rattle.lf_meaning.specs.HeadMaps.{HeadMap}
 use Rattle.library_meaning.specs.Faces.{StructureFace, TheoryFace, Environment, theory_of, includes_of}
 use Rattle.library_meaning.specs.Closure.{with_all, with_inclusion}

@@ -4,8 +4,8 @@ use Rattle.std.proofs.Common.{◌≡◌, ◌↔◌, ℕ, zero, suc, Bool, true, 
 use Rattle.std.proofs.lemmas.Bool.{cases_Bool}
 use Rattle.name_meaning.specs.Names.{Name, same_name, is_among}
 use Rattle.log_meaning.specs.Log.{Library}
-use Rattle.log_laws.proofs.Members.{Member, map_in}
-use Rattle.log_laws.proofs.Order.{member_among, same_sound}
+use Rattle.list_laws.proofs.Members.{Member, map_in}
+use Rattle.name_laws.proofs.Order.{member_among, same_sound}
 use Rattle.walk_meaning.specs.Walks.{of_text, direct, walking, is_grounded}
 use Rattle.walk_laws.proofs.Walking.{present_in, depends_present}
 use Rattle.walk_laws.proofs.Reaching.{reach_closed, reach_first}

@@ -2,7 +2,7 @@
 use Rattle.std.proofs.Common.{◌≡◌, ℕ, suc, Bool, true, false, cond, ◌||◌, List, [], ◌∷◌, Option, Some, None, inl, inr, refl, sym, ap, ◌∙◌, subst}
 use Rattle.std.specs.Prelude.{⊤}
 use Rattle.name_meaning.specs.Names.{Name, Path, same_name}
-use Rattle.log_laws.proofs.Members.{Member}
+use Rattle.list_laws.proofs.Members.{Member}
 use Rattle.library_meaning.specs.Faces.{StructureFace, TheoryFace, Known, IsAbsent, IsRefused, IsTheory, IsView, Environment, theory_of, structure_of, includes_of}
 use Rattle.library_meaning.specs.Closure.{sees}
 use Rattle.library_meaning.specs.Words.{Link, structure_link, followed_by, behind_structure, structures_of, link_by, is_empty, structures_link, Meaning, Means, Faulty, or_unknown, simple_word, longer_word, is_here, word_meaning, meets, RowMeaning, RowMeans, RowFaulty, EndsApart, next_by, row_from, first_by, row_meaning}

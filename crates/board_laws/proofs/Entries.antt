@@ -5,8 +5,8 @@ use Rattle.std.proofs.lemmas.Bool.{and_parts, cases_Bool}
 use Rattle.name_meaning.specs.Names.{Name, comes_before, is_ascending}
 use Rattle.log_meaning.specs.Log.{Edit, Log, names_of, is_present}
 use Rattle.log_meaning.specs.Append.{Edited, Made, Same, Absent, Full, TooLong, TooMany, append_answer, log_after, appended}
-use Rattle.log_laws.proofs.Members.{Member, all_at}
-use Rattle.log_laws.proofs.Order.{before_trans, not_before_itself, among_member}
+use Rattle.list_laws.proofs.Members.{Member, all_at}
+use Rattle.name_laws.proofs.Order.{before_trans, not_before_itself, among_member}
 use Rattle.log_laws.proofs.Libraries.{present_among, library_ascending}
 use Rattle.walk_meaning.specs.Walks.{Dependencies, is_ungrounded}
 use Rattle.board_meaning.specs.Events.{Event, EditMade, Claim, Stale, Release, Close, Entry, History, edit_of, log_of, library_after, entry_of}
@@ -15,7 +15,7 @@ use Rattle.board_meaning.specs.Ready.{is_closed, is_ready, least_ready}
 use Rattle.board_meaning.specs.Machine.{edit_reply, edit_event, Installed, IsInstalled, IsStale, install_event, install_reply, Call, EditCall, ClaimCall, InstallCall, ReleaseCall, CloseCall, event_of, is_by, may_call, after_call}
 use Rattle.board_meaning.specs.Legal.{IsLegal}
 use Rattle.board_laws.specs.HistoryLaws.{is_edit_call}
-use Rattle.log_laws.proofs.Places.{get_take}
+use Rattle.list_laws.proofs.Places.{get_take}
 use Rattle.board_machine_laws.proofs.Histories.{log_append}
 use Rattle.board_laws.proofs.Legality.{follows_event, edit_event_edit, close_event, claim_event, least_is_ready}
 use Rattle.board_laws.proofs.Standings.{ready_parts}

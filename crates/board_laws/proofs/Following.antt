@@ -6,14 +6,14 @@ use Rattle.name_meaning.specs.Names.{Name, same_name, is_among}
 use Rattle.log_meaning.specs.Log.{Edit, edited_name}
 use Rattle.walk_meaning.specs.Walks.{Dependencies}
 use Rattle.walk_meaning.specs.Reach.{reach}
-use Rattle.log_laws.proofs.Members.{Member, in_append, append_left, append_right}
-use Rattle.log_laws.proofs.Order.{among_member, member_among, same_sound, same_itself}
+use Rattle.list_laws.proofs.Members.{Member, in_append, append_left, append_right}
+use Rattle.name_laws.proofs.Order.{among_member, member_among, same_sound, same_itself}
 use Rattle.board_meaning.specs.Events.{Entry, History, edit_in, library_after}
 use Rattle.board_meaning.specs.Claims.{claim_at, is_open, is_ended, is_claim_of}
 use Rattle.board_meaning.specs.Standing.{installed_claim, installed_claims, is_edit_of, is_edited, is_edited_after, is_unedited, stands}
 use Rattle.board_meaning.specs.Machine.{IsInstalled, install_reply}
 use Rattle.board_meaning.specs.Legal.{IsLegal}
-use Rattle.log_laws.proofs.Places.{take_front, drop_front}
+use Rattle.list_laws.proofs.Places.{take_front, drop_front}
 use Rattle.board_machine_laws.proofs.Histories.{filter_map_last, edited_append}
 use Rattle.board_machine_laws.proofs.Claiming.{claim_within, claim_front, is_name_some, some_is_name, unedited_input, unedited_from, installed_unedited}
 use Rattle.board_laws.proofs.Standings.{Supported, stands_by, by_stands, installed_claimed, reach_now}

@@ -6,7 +6,7 @@ use Rattle.log_meaning.specs.Log.{Edit, names_of}
 use Rattle.log_meaning.specs.Append.{Edited, Made, Same, Absent, Full, TooLong, TooMany, append_answer}
 use Rattle.log_laws.specs.LogLaws.{IsWithinLimits}
 use Rattle.walk_meaning.specs.Walks.{Dependencies}
-use Rattle.log_laws.proofs.Members.{find_found}
+use Rattle.list_laws.proofs.Members.{find_found}
 use Rattle.log_laws.proofs.Limits.{made_not_full, made_within, empty_within}
 use Rattle.board_meaning.specs.Events.{Event, EditMade, Claim, Release, Close, Entry, History, edit_of, edit_in, log_of, library_after, version_after, version_with, entry_of}
 use Rattle.board_meaning.specs.Claims.{claimed_name, claim_at}
@@ -14,7 +14,7 @@ use Rattle.board_meaning.specs.Standing.{installed_claim}
 use Rattle.board_meaning.specs.Ready.{is_closed, is_ready, least_ready}
 use Rattle.board_meaning.specs.Machine.{edit_reply, edit_event, Installed, IsInstalled, IsStale, install_event, install_reply, Call, EditCall, ClaimCall, InstallCall, ReleaseCall, CloseCall, event_of, may_call, after_call}
 use Rattle.board_meaning.specs.Legal.{MayFollow, IsLegal, PassCall, after_calls, may_make_all}
-use Rattle.log_laws.proofs.Places.{place_within, get_front, get_last, get_more, take_front, take_length, take_more, take_past}
+use Rattle.list_laws.proofs.Places.{place_within, get_front, get_last, get_more, take_front, take_length, take_more, take_past}
 use Rattle.board_machine_laws.proofs.Histories.{log_none, log_some}
 use Rattle.board_machine_laws.proofs.Claiming.{claim_entry}
 

@@ -5,8 +5,8 @@ use Rattle.std.proofs.lemmas.Bool.{cases_Bool, or_parts, and_parts}
 use Rattle.name_meaning.specs.Names.{Name}
 use Rattle.log_meaning.specs.Log.{names_of, is_present}
 use Rattle.walk_meaning.specs.Walks.{Dependencies, direct, walking, is_ungrounded, is_grounded}
-use Rattle.log_laws.proofs.Members.{Member, all_not, find_some}
-use Rattle.log_laws.proofs.Order.{member_among}
+use Rattle.list_laws.proofs.Members.{Member, all_not, find_some}
+use Rattle.name_laws.proofs.Order.{member_among}
 use Rattle.walk_laws.proofs.Walking.{present_in, walking_step, in_ungrounded, grounded_dependency}
 use Rattle.board_meaning.specs.Events.{History, library_after}
 use Rattle.board_meaning.specs.Claims.{open_claims, has_current_claim, is_claim_of, is_unchanged, inputs_of}

@@ -5,8 +5,8 @@ use Rattle.name_meaning.specs.Names.{Name, same_name}
 use Rattle.log_meaning.specs.Log.{text_of, is_present}
 use Rattle.walk_meaning.specs.Walks.{Dependencies, direct}
 use Rattle.walk_meaning.specs.Reach.{reach}
-use Rattle.log_laws.proofs.Members.{Member, append_left, in_filter, filter_in}
-use Rattle.log_laws.proofs.Order.{same_sound, same_itself}
+use Rattle.list_laws.proofs.Members.{Member, append_left, in_filter, filter_in}
+use Rattle.name_laws.proofs.Order.{same_sound, same_itself}
 use Rattle.walk_laws.proofs.Walking.{depends_present}
 use Rattle.walk_laws.proofs.Reaching.{reach_closed, reach_first, reach_least}
 use Rattle.walk_laws.proofs.Agreement.{direct_same}
@@ -15,7 +15,7 @@ use Rattle.board_meaning.specs.Claims.{claimed_name, claim_at}
 use Rattle.board_meaning.specs.Standing.{installed_claim, installed_claims, is_edited, is_edited_after, is_unedited, stands}
 use Rattle.board_meaning.specs.Ready.{is_ready}
 use Rattle.board_meaning.specs.Legal.{IsLegal}
-use Rattle.log_laws.proofs.Places.{take_take, drop_parts, drop_here, length_take}
+use Rattle.list_laws.proofs.Places.{take_take, drop_parts, drop_here, length_take}
 use Rattle.board_machine_laws.proofs.Histories.{filter_map_append, edited_append}
 use Rattle.board_machine_laws.proofs.Claiming.{claim_entry, claim_within, claim_front, since_claim, text_since, unedited_input, unedited_from}
 use Rattle.board_laws.proofs.Legality.{legal_claim, legal_front}

@@ -3,8 +3,8 @@ use Rattle.std.proofs.Common.{◌≡◌, ℕ, ◌<◌, ◌≤◌, true, false, n
 use Rattle.std.proofs.lemmas.Bool.{and_parts, false_from_ne_true}
 use Rattle.name_meaning.specs.Names.{Name}
 use Rattle.walk_meaning.specs.Walks.{Dependencies}
-use Rattle.log_laws.proofs.Members.{any_of}
-use Rattle.log_laws.proofs.Places.{place_within, take_length, get_take}
+use Rattle.list_laws.proofs.Members.{any_of}
+use Rattle.list_laws.proofs.Places.{place_within, take_length, get_take}
 use Rattle.board_meaning.specs.Events.{Install, Entry, History}
 use Rattle.board_meaning.specs.Claims.{claim_at, ends_claim, is_ended, is_open, is_claim_of, has_current_claim}
 use Rattle.board_meaning.specs.Standing.{installed_claim, is_unedited, installed_claims, stands}

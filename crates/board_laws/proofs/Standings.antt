@@ -7,8 +7,8 @@ use Rattle.log_meaning.specs.Log.{Library, is_present}
 use Rattle.walk_meaning.specs.Walks.{Dependencies, direct, is_grounded}
 use Rattle.walk_meaning.specs.Reach.{reach}
 use Rattle.walk_meaning.specs.Subject.{KeepsToReach}
-use Rattle.log_laws.proofs.Members.{Member, any_found, any_of, any_not, any_none, all_at}
-use Rattle.log_laws.proofs.Order.{among_member, member_among}
+use Rattle.list_laws.proofs.Members.{Member, any_found, any_of, any_not, any_none, all_at}
+use Rattle.name_laws.proofs.Order.{among_member, member_among}
 use Rattle.log_laws.proofs.Libraries.{library_ascending}
 use Rattle.walk_laws.proofs.Agreement.{reach_same, grounded_same}
 use Rattle.board_meaning.specs.Events.{Event, EditMade, Claim, Install, Stale, Release, Close, Entry, History, log_of, library_after}
@@ -17,7 +17,7 @@ use Rattle.board_meaning.specs.Standing.{installed_claim, installed_claims, is_e
 use Rattle.board_meaning.specs.Ready.{dependencies_stand, is_ready, is_closed}
 use Rattle.board_meaning.specs.Machine.{IsInstalled, install_reply, is_by, may_call}
 use Rattle.board_meaning.specs.Legal.{IsLegal}
-use Rattle.log_laws.proofs.Places.{place_within}
+use Rattle.list_laws.proofs.Places.{place_within}
 use Rattle.board_machine_laws.proofs.Claiming.{claim_within, claim_front, is_name_some, some_is_name, agrees_since}
 use Rattle.board_laws.proofs.Legality.{legal_claim, legal_install}
 

@@ -7,14 +7,14 @@ use Rattle.log_meaning.specs.Log.{Edit, edited_name, is_present, text_of}
 use Rattle.log_meaning.specs.Append.{Made, append_answer}
 use Rattle.walk_meaning.specs.Walks.{Dependencies, is_ungrounded}
 use Rattle.walk_meaning.specs.Reach.{reach}
-use Rattle.walk_meaning.specs.Subject.{Subject, KeepsToReach, AnswersPresent}
-use Rattle.log_laws.proofs.Members.{Member, any_none, all_at, find_found}
-use Rattle.log_laws.proofs.Order.{among_member, member_among, same_sound}
+use Rattle.walk_meaning.specs.Subject.{Subject, KeepsToReach, AnswersPresent, answers_of}
+use Rattle.list_laws.proofs.Members.{Member, any_none, all_at, find_found}
+use Rattle.name_laws.proofs.Order.{among_member, member_among, same_sound}
 use Rattle.board_meaning.specs.Events.{EditMade, Install, Entry, History, edit_of, edit_in, log_of, library_after, version_after, stamp_after}
 use Rattle.board_meaning.specs.Claims.{claim_at, is_open, Input, inputs_of, inputs_by, input_names, is_claim_of, inputs_after, is_unchanged, first_changed}
 use Rattle.board_meaning.specs.Standing.{installed_claim, is_edited_after, is_unedited, stands, Stands}
 use Rattle.board_meaning.specs.Ready.{is_ready, least_ready}
-use Rattle.board_meaning.specs.Machine.{Job, IsInstalled, IsStale, install_reply, IsVerdict, told_by, report_reply, is_by, may_call, answers_of, job_after, claim_reply, IsAbsent, IsPending, is_known, installed_by}
+use Rattle.board_meaning.specs.Machine.{Job, IsInstalled, IsStale, install_reply, IsVerdict, told_by, report_reply, is_by, may_call, job_after, claim_reply, IsAbsent, IsPending, is_known, installed_by}
 use Rattle.board_meaning.specs.Legal.{MayFollow, IsLegal}
 use Rattle.board_laws.specs.HistoryLaws.{log_with}
 use Rattle.board_laws.specs.StandingLaws.{IsFirstChanged, IsToldVerdict}

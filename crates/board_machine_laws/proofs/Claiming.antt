@@ -6,14 +6,14 @@ use Rattle.name_meaning.specs.Names.{Name, same_name}
 use Rattle.log_meaning.specs.Log.{text_of}
 use Rattle.walk_meaning.specs.Walks.{Dependencies}
 use Rattle.walk_meaning.specs.Reach.{reach, AgreesOn}
-use Rattle.log_laws.proofs.Members.{Member, in_map, map_in, any_not, any_none, find_found, find_none, all_of}
-use Rattle.log_laws.proofs.Order.{among_member, same_sound, same_itself}
+use Rattle.list_laws.proofs.Members.{Member, in_map, map_in, any_not, any_none, find_found, find_none, all_of}
+use Rattle.name_laws.proofs.Order.{among_member, same_sound, same_itself}
 use Rattle.log_laws.proofs.Libraries.{stamp_past}
 use Rattle.board_meaning.specs.Events.{Event, EditMade, Claim, Install, Stale, Release, Close, Entry, History, edit_of, log_of, library_after, stamp_after}
 use Rattle.board_meaning.specs.Claims.{claimed_name, claim_at, Input, inputs_after, inputs_by, inputs_of, input_names, is_unchanged, first_changed, is_name}
 use Rattle.board_meaning.specs.Standing.{is_edit_of, is_edited, is_edited_after, is_unedited}
 use Rattle.board_meaning.specs.Machine.{IsInstalled, installed_by, install_reply}
-use Rattle.log_laws.proofs.Places.{place_within, get_front, split_at}
+use Rattle.list_laws.proofs.Places.{place_within, get_front, split_at}
 use Rattle.board_machine_laws.proofs.Histories.{unedited_text, unedited_stamp, edited_stamp}
 
 -- ---- the entry of a claim

@@ -9,7 +9,8 @@ use Rattle.board_meaning.specs.Events.{log_of}
 use Rattle.board_meaning.specs.Claims.{claims_from, is_open, inputs_after, inputs_of, first_changed, has_current_claim}
 use Rattle.board_meaning.specs.Standing.{installed_claims, is_edited, is_unedited, stands}
 use Rattle.board_meaning.specs.Ready.{is_closed, dependencies_stand, is_ready, least_ready}
-use Rattle.board_meaning.specs.Machine.{answers_of, job_after, job_of, install_reply, report_reply, answers_reply, event_of, may_call, after_call}
+use Rattle.walk_meaning.specs.Subject.{answers_of}
+use Rattle.board_meaning.specs.Machine.{job_after, job_of, install_reply, report_reply, answers_reply, event_of, may_call, after_call}
 use Rattle.board_meaning.specs.Legal.{after_calls, may_make_all}
 use Rattle.board_machine_laws.specs.Examples.{JobHasStamps, InstallIsStale, WayBackIsStale, StaleIsPending, ClaimedAgain, HistoryOfStaleInstall, SecondInstallIsInstalled, VerdictIsTold, NothingIsReady, CallsMayBeMade, AbsentNameIsInput, BothStand, OnlyDependantFalls, DependencyComesFirst, RingIsTold, RingIsNotReady, DroppedIsAbsent, ClosedIsNotReady, ClosedIsUsed, ClosedTellsVerdict, OthersMayNotCall}
 

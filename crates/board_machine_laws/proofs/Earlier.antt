@@ -6,8 +6,8 @@ use Rattle.std.proofs.lemmas.List.Folds.{list_any-append}
 use Rattle.name_meaning.specs.Names.{Name}
 use Rattle.walk_meaning.specs.Walks.{Dependencies}
 use Rattle.walk_meaning.specs.Reach.{reach}
-use Rattle.log_laws.proofs.Members.{Member, any_of, filter_in}
-use Rattle.log_laws.proofs.Places.{take_take, take_drop, drop_parts, length_take}
+use Rattle.list_laws.proofs.Members.{Member, any_of, filter_in}
+use Rattle.list_laws.proofs.Places.{take_take, take_drop, drop_parts, length_take}
 use Rattle.board_meaning.specs.Events.{Entry, History, library_after}
 use Rattle.board_meaning.specs.Claims.{claimed_name, claim_at, claims_from, ends_claim, is_ended, is_open, open_claims, inputs_of, is_unchanged, is_claim_of, has_current_claim}
 use Rattle.board_meaning.specs.Standing.{is_edited, is_unedited}

@@ -1,25 +1,15 @@
 -- The board as a machine: the reply and the entry of each call, from the history alone (this profile).
+use Rattle.walk_meaning.specs.Subject.{answers_of, present_answer, Subject}
 use Rattle.std.specs.Prelude.{ℕ, Bool, true, false, List, ◌++◌, ◌&&◌, ◌||◌, not, map, take, length, filter, nat_eq, slice_get, Option, Some, None, option_map, option_and_then, option_to_list, if◌then◌else◌}
 use Rattle.name_meaning.specs.Names.{Name, Text, same_name}
 use Rattle.log_meaning.specs.Log.{Edit, Library, text_of, is_present}
 use Rattle.log_meaning.specs.Append.{Edited, Made, Same, Absent, Full, TooLong, TooMany, append_answer}
 use Rattle.walk_meaning.specs.Walks.{Dependencies, is_grounded, is_ungrounded}
 use Rattle.walk_meaning.specs.Reach.{reach}
-use Rattle.walk_meaning.specs.Subject.{Subject}
 use Rattle.board_meaning.specs.Events.{Event, EditMade, Claim, Install, Stale, Release, Close, Entry, History, log_of, library_after, version_after, entry_of}
 use Rattle.board_meaning.specs.Claims.{Input, claim_at, is_open, inputs_after, inputs_of, first_changed}
 use Rattle.board_meaning.specs.Standing.{stands}
 use Rattle.board_meaning.specs.Ready.{is_closed, least_ready}
-
--- The subject's answer of a name, if the library has the name.
-abbrev pub present_answer : {Answer : Type 0} → Subject Answer → Library → Name → Option Answer
-present_answer subject library name = if is_present library name then subject.answer library name else None
-
--- The subject's answers of the reach of a name, the name itself left out, in byte order. A name that is absent has
--- none.
-unfoldable pub answers_of : {Answer : Type 0} → Subject Answer → Library → Name → List (Name × Option Answer)
-answers_of subject library name =
-    map (λ (other : Name). (other, present_answer subject library other)) (filter (λ (other : Name). not (same_name name other)) (reach subject.dependencies library name))
 
 -- What a worker is handed: the place of its claim, the name and its text, the inputs with their stamps, and the
 -- answers of the reach.

@@ -5,7 +5,7 @@ use Rattle.lf_meaning.specs.Terms.{Object, Family}
 use Rattle.lf_meaning.specs.Judgements.{IsTyping}
 use Rattle.name_meaning.specs.Names.{Name, Text, is_among}
 use Rattle.log_meaning.specs.Log.{Library, is_present}
-use Rattle.log_laws.proofs.Order.{among_member, member_among}
+use Rattle.name_laws.proofs.Order.{among_member, member_among}
 use Rattle.walk_meaning.specs.Reach.{reach}
 use Rattle.walk_laws.proofs.Reaching.{reach_first}
 use Rattle.holding_laws.proofs.Declared.{place_of}

@@ -3,8 +3,8 @@ use Rattle.std.proofs.Common.{◌≡◌, ℕ, zero, suc, true, List, [], ◌∷�
 use Rattle.std.proofs.lemmas.List.Sums.{fold-append}
 use Rattle.name_meaning.specs.Names.{Name, Text}
 use Rattle.log_meaning.specs.Log.{Library, text_of}
-use Rattle.log_laws.proofs.Members.{Member, in_append, in_map, map_in, in_flat_map, flat_map_in}
-use Rattle.log_laws.proofs.Order.{among_member, member_among}
+use Rattle.list_laws.proofs.Members.{Member, in_append, in_map, map_in, in_flat_map, flat_map_in}
+use Rattle.name_laws.proofs.Order.{among_member, member_among}
 use Rattle.walk_meaning.specs.Walks.{of_text, direct, walking}
 use Rattle.walk_laws.proofs.Walking.{present_in, depends_present}
 use Rattle.text_meaning.specs.Trees.{Written, Decl, IncludeDecl, StructDecl, ConstDecl, SigModule, ViewModule, first_name}

@@ -5,8 +5,8 @@ use Rattle.std.proofs.lemmas.Bool.{cases_Bool}
 use Rattle.name_meaning.specs.Names.{same_name as same_bytes, Name, Text, same_name, is_among}
 use Rattle.lf_term_laws.proofs.Equality.{same_name_sound}
 use Rattle.log_meaning.specs.Log.{Library, text_of, is_present}
-use Rattle.log_laws.proofs.Members.{Member, filter_in}
-use Rattle.log_laws.proofs.Order.{member_among, same_sound, same_itself}
+use Rattle.list_laws.proofs.Members.{Member, filter_in}
+use Rattle.name_laws.proofs.Order.{member_among, same_sound, same_itself}
 use Rattle.walk_meaning.specs.Walks.{of_text, direct, walking, is_ungrounded, is_grounded}
 use Rattle.walk_meaning.specs.Reach.{reach}
 use Rattle.walk_laws.proofs.Walking.{present_in}

@@ -6,9 +6,9 @@ use Rattle.name_meaning.specs.Names.{Name, Path, same_name}
 use Rattle.lf_meaning.specs.Terms.{Constant}
 use Rattle.lf_meaning.specs.Signatures.{Class, Value, Declaration, Signature, declaration_of}
 use Rattle.lf_term_laws.proofs.Equality.{same_name_sound, same_name_itself}
-use Rattle.log_laws.proofs.Members.{Member, in_append, append_left, append_right, in_flat_map, flat_map_in, find_none}
-use Rattle.log_laws.proofs.Order.{among_member, member_among}
-use Rattle.log_laws.proofs.Places.{get_more, place_within, get_front, get_last}
+use Rattle.list_laws.proofs.Members.{Member, in_append, append_left, append_right, in_flat_map, flat_map_in, find_none}
+use Rattle.name_laws.proofs.Order.{among_member, member_among}
+use Rattle.list_laws.proofs.Places.{get_more, place_within, get_front, get_last}
 use Rattle.lf_meaning.specs.HeadMaps.{HeadMap}
 use Rattle.library_meaning.specs.Faces.{StructureFace, TheoryFace, Known, IsAbsent, theory_face, Environment, theory_of, structure_of, includes_of, own_part, own_parts, flat_signature, flat_of}
 use Rattle.library_meaning.specs.Closure.{sees, with_inclusion}

@@ -2,8 +2,8 @@
 use Rattle.std.proofs.Common.{◌≡◌, true, List, [], ◌∷◌, ◌++◌, is_some, ◌⊎◌, inl, inr, ⊎_elim, refl, sym, ap, ap₂, ◌∙◌, subst, true≢false}
 use Rattle.name_meaning.specs.Names.{Name}
 use Rattle.lf_meaning.specs.Signatures.{declaration_of}
-use Rattle.log_laws.proofs.Members.{Member}
-use Rattle.log_laws.proofs.Order.{member_among}
+use Rattle.list_laws.proofs.Members.{Member}
+use Rattle.name_laws.proofs.Order.{member_among}
 use Rattle.library_meaning.specs.Faces.{TheoryFace, ViewFace, IsAbsent, theory_face, Environment, theory_of, includes_of, own_of, own_part, own_parts, flat_signature, flat_of}
 use Rattle.library_meaning.specs.Closure.{sees}
 use Rattle.library_meaning.specs.Coherence.{AreTheories, IsClosure, DeclarationsHold, IsCoherentMap, IsCoherentTheory, IsCoherentView, IsCoherent}

@@ -3,7 +3,8 @@ use Rattle.std.proofs.Common.{◌≡◌, Bool, true, false, Option, Some, None, 
 use Rattle.std.specs.Prelude.{⊤}
 use Rattle.text_meaning.specs.Tokens.{Span}
 use Rattle.expansion_meaning.specs.Rules.{Rule}
-use Rattle.expansion_meaning.specs.Answers.{◌>>=◌, must, or_broken}
+use Rattle.answer_meaning.specs.Answers.{◌>>=◌}
+use Rattle.expansion_meaning.specs.Answers.{must, or_broken}
 
 pub record Came {E A B : Type 0} (first : Result A E) (next : A → Result B E) (value : B) : Type 0 where
   pub item : A

@@ -7,7 +7,8 @@ use Rattle.library_meaning.specs.Resolution.{Scope, Resolved, Variable, Declared
 use Rattle.library_laws.proofs.Resolving.{resolution_stands}
 use Rattle.text_meaning.specs.Tokens.{Span}
 use Rattle.expansion_meaning.specs.Rules.{Rule}
-use Rattle.expansion_meaning.specs.Answers.{must, ◌>>=◌}
+use Rattle.expansion_meaning.specs.Answers.{must}
+use Rattle.answer_meaning.specs.Answers.{◌>>=◌}
 use Rattle.expansion_meaning.specs.Locals.{Locals, variables_of, family_at}
 use Rattle.expansion_meaning.specs.NameHeads.{Level, Objects, Families, level_of, same_level, variable_head, resolved_head, name_head}
 use Rattle.expansion_meaning.specs.Stands.{BeginsAs, NameStands}

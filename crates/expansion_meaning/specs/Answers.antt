@@ -1,4 +1,5 @@
 -- Answers that are a value or the first fault (this profile).
+use Rattle.answer_meaning.specs.Answers.{◌>>=◌}
 use Rattle.std.specs.Prelude.{Bool, true, false, Option, Some, None, Result, Ok, Err, ⊤}
 use Rattle.text_meaning.specs.Tokens.{Span}
 use Rattle.expansion_meaning.specs.Rules.{Rule}
@@ -15,12 +16,6 @@ Answer A = Result A Fault
 -- This rule is broken here.
 abbrev pub broken : {A : Type 0} → Span → Rule → Answer A
 broken span rule = Err (record { span = span; rule = rule })
-
-infixl 10 ◌>>=◌
--- Go on with the answer, unless it is a fault.
-abbrev pub ◌>>=◌ : {E A B : Type 0} → Result A E → (A → Result B E) → Result B E
-◌>>=◌ (Err fault) next = Err fault
-◌>>=◌ (Ok value) next = next value
 
 -- A test, with the rule that is broken where it fails.
 abbrev pub must : Bool → Span → Rule → Answer ⊤

@@ -8,7 +8,8 @@ use Rattle.library_meaning.specs.Resolution.{Scope}
 use Rattle.text_meaning.specs.Tokens.{Span}
 use Rattle.text_meaning.specs.Trees.{Expr, TypeExpr, NameExpr, AppExpr, PiExpr, LamExpr, TypedLamExpr, ArrowExpr, BackExpr, Exprs, NoArgs, ThenArg}
 use Rattle.expansion_meaning.specs.Rules.{Rule}
-use Rattle.expansion_meaning.specs.Answers.{Answer, broken, must, or_broken, ◌>>=◌}
+use Rattle.expansion_meaning.specs.Answers.{Answer, broken, must, or_broken}
+use Rattle.answer_meaning.specs.Answers.{◌>>=◌}
 use Rattle.expansion_meaning.specs.Locals.{Locals, with_local}
 use Rattle.expansion_meaning.specs.NameHeads.{Level, Objects, Families, name_head}
 

@@ -7,7 +7,8 @@ use Rattle.translation_meaning.specs.Heads.{Head, ObjectHead, FamilyHead}
 use Rattle.library_meaning.specs.Resolution.{Scope, Resolved, Variable, Declared, Unknown, Ambiguous, resolve}
 use Rattle.text_meaning.specs.Tokens.{Span}
 use Rattle.expansion_meaning.specs.Rules.{Rule}
-use Rattle.expansion_meaning.specs.Answers.{Answer, broken, must, ◌>>=◌}
+use Rattle.expansion_meaning.specs.Answers.{Answer, broken, must}
+use Rattle.answer_meaning.specs.Answers.{◌>>=◌}
 use Rattle.expansion_meaning.specs.Locals.{Locals, variables_of, family_at}
 
 -- An object constant of this family. A value of another level leaves the constant: no coherent scope has one.

@@ -12,7 +12,8 @@ use Rattle.library_meaning.specs.Words.{own_value}
 use Rattle.text_meaning.specs.Tokens.{Span}
 use Rattle.text_meaning.specs.Trees.{Expr, TypeExpr, NameExpr, AppExpr, PiExpr, LamExpr, TypedLamExpr, ArrowExpr, BackExpr}
 use Rattle.expansion_meaning.specs.Rules.{Rule}
-use Rattle.expansion_meaning.specs.Answers.{Answer, broken, must, ◌>>=◌}
+use Rattle.expansion_meaning.specs.Answers.{Answer, broken, must}
+use Rattle.answer_meaning.specs.Answers.{◌>>=◌}
 use Rattle.expansion_meaning.specs.Locals.{Locals, with_local}
 use Rattle.expansion_meaning.specs.NameHeads.{Level, Objects, Families, same_level, name_head}
 use Rattle.expansion_meaning.specs.Expansion.{span_of, family_at_type, expand_head, expand_arguments, expand_object, expand_family, expand_kind}

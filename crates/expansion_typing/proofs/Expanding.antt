@@ -8,8 +8,8 @@ use Rattle.lf_meaning.specs.Judgements.{Checks, Synthesises, IsFamily, IsKind, I
 use Rattle.lf_typing.proofs.Declared.{class_more}
 use Rattle.lf_typing.proofs.Typed.{more_checks, more_family, more_kind}
 use Rattle.lf_typing.proofs.HeadTyping.{synthesised_is_family}
-use Rattle.log_laws.proofs.Members.{Member}
-use Rattle.log_laws.proofs.Places.{split_at}
+use Rattle.list_laws.proofs.Members.{Member}
+use Rattle.list_laws.proofs.Places.{split_at}
 use Rattle.translation_meaning.specs.Heads.{Head, ObjectHead, FamilyHead}
 use Rattle.translation_meaning.specs.Translation.{object_value, family_value}
 use Rattle.library_meaning.specs.Resolution.{Scope, Resolved, Variable, Declared, Unknown, Ambiguous}

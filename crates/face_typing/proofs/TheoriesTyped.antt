@@ -4,8 +4,8 @@ use Rattle.name_meaning.specs.Names.{Name}
 use Rattle.lf_meaning.specs.Signatures.{Class, Value, Declaration, Signature}
 use Rattle.lf_meaning.specs.Judgements.{IsClass, ValueFits, IsSignature}
 use Rattle.lf_typing.proofs.Growing.{signature_grows}
-use Rattle.log_laws.proofs.Members.{Member, in_append, append_left, append_right, in_flat_map, flat_map_in}
-use Rattle.log_laws.proofs.Places.{get_more}
+use Rattle.list_laws.proofs.Members.{Member, in_append, append_left, append_right, in_flat_map, flat_map_in}
+use Rattle.list_laws.proofs.Places.{get_more}
 use Rattle.lf_meaning.specs.HeadMaps.{HeadMap}
 use Rattle.translation_meaning.specs.TypedMaps.{IsTypedMap}
 use Rattle.library_meaning.specs.Faces.{StructureFace, TheoryFace, IsAbsent, Environment, theory_of, includes_of, own_part, own_parts, flat_signature, flat_of}

@@ -5,9 +5,9 @@ use Rattle.name_meaning.specs.Names.{Name}
 use Rattle.lf_meaning.specs.Signatures.{Declaration, Signature}
 use Rattle.lf_meaning.specs.Judgements.{IsDeclaration, IsSignature}
 use Rattle.lf_typing.proofs.Growing.{empty_signature, signature_grows}
-use Rattle.log_laws.proofs.Members.{Member, in_append, append_left, append_right, in_flat_map, flat_map_in}
-use Rattle.log_laws.proofs.Order.{among_member, member_among}
-use Rattle.log_laws.proofs.Places.{take_front, take_length}
+use Rattle.list_laws.proofs.Members.{Member, in_append, append_left, append_right, in_flat_map, flat_map_in}
+use Rattle.name_laws.proofs.Order.{among_member, member_among}
+use Rattle.list_laws.proofs.Places.{take_front, take_length}
 use Rattle.lf_meaning.specs.HeadMaps.{HeadMap}
 use Rattle.library_meaning.specs.Faces.{TheoryFace, Environment, theory_of, includes_of, own_of, own_part, own_parts}
 use Rattle.library_meaning.specs.Closure.{sees}

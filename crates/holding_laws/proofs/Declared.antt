@@ -3,8 +3,8 @@ use Rattle.std.proofs.Common.{◌≡◌, ℕ, zero, suc, Bool, true, false, cond
 use Rattle.lf_meaning.specs.Terms.{Constant}
 use Rattle.lf_meaning.specs.Signatures.{Class, Declaration, Signature, same_constant, declaration_of, undefined_class, declared_class, class_of}
 use Rattle.lf_term_laws.proofs.Equality.{same_constant_sound, same_constant_itself}
-use Rattle.log_laws.proofs.Members.{Member}
-use Rattle.log_laws.proofs.Places.{take_drop}
+use Rattle.list_laws.proofs.Members.{Member}
+use Rattle.list_laws.proofs.Places.{take_drop}
 use Rattle.library_meaning.specs.Holding.{ClassHolds, OptionalValueHolds}
 use Rattle.library_meaning.specs.Coherence.{DeclarationsHold}
 use Rattle.expansion_laws.proofs.Binding.{some_same}

@@ -4,8 +4,8 @@ use Rattle.name_meaning.specs.Names.{Path}
 use Rattle.lf_meaning.specs.Terms.{Object, Family, Pi, Kind, Ty, PiKind, domain_count}
 use Rattle.lf_meaning.specs.Raising.{raise_family}
 use Rattle.lf_meaning.specs.Signatures.{Class, FamilyClass, KindClass, Value, SameAs, TermValue, FamilyValue, Declaration, Signature, undefined_class, class_of}
-use Rattle.log_laws.proofs.Members.{Member, append_left, append_right, flat_map_in, find_found}
-use Rattle.log_laws.proofs.Order.{among_member}
+use Rattle.list_laws.proofs.Members.{Member, append_left, append_right, flat_map_in, find_found}
+use Rattle.name_laws.proofs.Order.{among_member}
 use Rattle.translation_meaning.specs.Heads.{Head, ObjectHead, FamilyHead}
 use Rattle.library_meaning.specs.Faces.{own_part, own_parts}
 use Rattle.library_meaning.specs.Resolution.{Scope, Variables, has_path, Resolved, Variable, Declared, Unknown, Ambiguous}

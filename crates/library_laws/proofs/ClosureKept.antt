@@ -1,9 +1,9 @@
 -- The inclusion closure lists each theory once, and behind what it includes.
 use Rattle.std.proofs.Common.{◌≡◌, ℕ, zero, suc, Bool, true, false, cond, List, [], ◌∷◌, ◌++◌, length, take, slice_get, fold, Some, ◌⊎◌, inl, inr, ⊎_elim, refl, sym, ap, ◌∙◌, subst, true≢false, arith, append_assoc}
 use Rattle.name_meaning.specs.Names.{Name}
-use Rattle.log_laws.proofs.Members.{Member, in_append}
-use Rattle.log_laws.proofs.Order.{among_member, member_among}
-use Rattle.log_laws.proofs.Places.{place_within, get_more, take_front, take_length}
+use Rattle.list_laws.proofs.Members.{Member, in_append}
+use Rattle.name_laws.proofs.Order.{among_member, member_among}
+use Rattle.list_laws.proofs.Places.{place_within, get_more, take_front, take_length}
 use Rattle.library_meaning.specs.Faces.{Environment, theory_of, includes_of}
 use Rattle.library_meaning.specs.Closure.{sees, with_once, with_all, with_inclusion, closure_of}
 use Rattle.library_meaning.specs.Coherence.{IsClosure}

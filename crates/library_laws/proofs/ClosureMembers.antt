@@ -2,8 +2,8 @@
 use Rattle.std.proofs.Common.{◌≡◌, Bool, true, false, cond, List, [], ◌∷◌, ◌++◌, fold, flat_map, ◌⊎◌, inl, inr, ⊎_elim, refl, sym, ap, ◌∙◌, subst}
 use Rattle.std.proofs.lemmas.List.Sums.{fold-append}
 use Rattle.name_meaning.specs.Names.{Name}
-use Rattle.log_laws.proofs.Members.{Member, in_append, append_left, append_right}
-use Rattle.log_laws.proofs.Order.{among_member, member_among}
+use Rattle.list_laws.proofs.Members.{Member, in_append, append_left, append_right}
+use Rattle.name_laws.proofs.Order.{among_member, member_among}
 use Rattle.library_meaning.specs.Faces.{Environment, theory_of, includes_of}
 use Rattle.library_meaning.specs.Closure.{sees, with_once, with_all, brought, with_inclusion, closure_of}
 use Rattle.library_laws.specs.ClosureLaws.{Brings, InclusionAdds, ClosureHasExactly, ClosureInOrder}

@@ -3,7 +3,7 @@ use Rattle.std.proofs.Common.{◌≡◌, ◌≢◌, ℕ, zero, suc, ◌+◌, ◌
 use Rattle.std.specs.List.{cons_option}
 use Rattle.name_meaning.specs.Names.{Name, Path}
 use Rattle.lf_meaning.specs.Signatures.{Declaration}
-use Rattle.log_laws.proofs.Order.{same_sound, same_itself}
+use Rattle.name_laws.proofs.Order.{same_sound, same_itself}
 use Rattle.library_meaning.specs.Faces.{own_part}
 use Rattle.library_meaning.specs.Closure.{sees}
 use Rattle.library_meaning.specs.Resolution.{Scope, Variables, is_variable, variable_from, bound_variable, own_at, qualified, included_at, the_only, Resolved, Variable, Declared, Unknown, Ambiguous, or_variable, or_declared, resolve}

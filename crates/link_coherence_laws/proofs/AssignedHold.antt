@@ -5,7 +5,7 @@ use Rattle.std.proofs.lemmas.Bool.{and_parts}
 use Rattle.name_meaning.specs.Names.{Name, Path, same_name}
 use Rattle.lf_meaning.specs.Signatures.{Class, Value, SameAs, Declaration, Signature}
 use Rattle.lf_term_laws.proofs.Equality.{same_name_sound}
-use Rattle.log_laws.proofs.Members.{Member, append_right}
+use Rattle.list_laws.proofs.Members.{Member, append_right}
 use Rattle.translation_meaning.specs.Differ.{value_in}
 use Rattle.library_meaning.specs.Faces.{theory_of, includes_of, own_part, own_parts}
 use Rattle.library_meaning.specs.Holding.{ClassHolds, ValueHolds, OptionalValueHolds, AlikeClasses}

@@ -6,8 +6,8 @@ use Rattle.name_meaning.specs.Names.{Name, Path, same_name}
 use Rattle.lf_meaning.specs.Terms.{Constant}
 use Rattle.lf_meaning.specs.Signatures.{Class, FamilyClass, KindClass, Value, Declaration, Signature, same_constant, declaration_of, undefined_class, class_of}
 use Rattle.lf_term_laws.proofs.Equality.{same_name_sound}
-use Rattle.log_laws.proofs.Members.{Member, any_found, in_append, append_left, append_right, in_flat_map}
-use Rattle.log_laws.proofs.Order.{among_member, member_among}
+use Rattle.list_laws.proofs.Members.{Member, any_found, in_append, append_left, append_right, in_flat_map}
+use Rattle.name_laws.proofs.Order.{among_member, member_among}
 use Rattle.lf_meaning.specs.HeadMaps.{Image, HeadMap, image_of}
 use Rattle.translation_meaning.specs.Differ.{value_in}
 use Rattle.library_meaning.specs.Faces.{StructureFace, TheoryFace, Environment, theory_of, structure_of, includes_of, own_of, own_part, own_parts, flat_of}

@@ -5,8 +5,8 @@ use Rattle.std.specs.List.{cons_option}
 use Rattle.name_meaning.specs.Names.{Name, same_name}
 use Rattle.lf_meaning.specs.Signatures.{Declaration, Signature}
 use Rattle.lf_term_laws.proofs.Equality.{same_name_itself}
-use Rattle.log_laws.proofs.Members.{Member, in_flat_map, append_right}
-use Rattle.log_laws.proofs.Order.{member_among}
+use Rattle.list_laws.proofs.Members.{Member, in_flat_map, append_right}
+use Rattle.name_laws.proofs.Order.{member_among}
 use Rattle.lf_meaning.specs.HeadMaps.{Image, Mapping, HeadMap, image_of}
 use Rattle.library_meaning.specs.Faces.{own_part, own_parts, flat_of}
 use Rattle.library_meaning.specs.Holding.{AlikeClasses}

@@ -4,9 +4,9 @@ use Rattle.name_meaning.specs.Names.{Name, Path}
 use Rattle.lf_meaning.specs.Terms.{Constant}
 use Rattle.lf_meaning.specs.Signatures.{Class, FamilyClass, KindClass, Value, SameAs, TermValue, FamilyValue, Declaration, Signature, same_constant, undefined_class, declared_class, class_of}
 use Rattle.lf_term_laws.proofs.Equality.{same_name_sound, same_constant_itself}
-use Rattle.log_laws.proofs.Members.{Member, in_append, append_left, append_right, in_flat_map}
-use Rattle.log_laws.proofs.Order.{member_among}
-use Rattle.log_laws.proofs.Places.{place_within, take_front, take_length, get_more}
+use Rattle.list_laws.proofs.Members.{Member, in_append, append_left, append_right, in_flat_map}
+use Rattle.name_laws.proofs.Order.{member_among}
+use Rattle.list_laws.proofs.Places.{place_within, take_front, take_length, get_more}
 use Rattle.lf_meaning.specs.HeadMaps.{Mapping, HeadMap}
 use Rattle.translation_meaning.specs.Translation.{translate_class, translate_value}
 use Rattle.translation_meaning.specs.Differ.{value_in}

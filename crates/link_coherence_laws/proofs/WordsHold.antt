@@ -4,8 +4,8 @@ use Rattle.std.proofs.lemmas.Bool.{or_cases}
 use Rattle.name_meaning.specs.Names.{Name, Path, same_name}
 use Rattle.lf_meaning.specs.Signatures.{Declaration, Signature}
 use Rattle.lf_term_laws.proofs.Equality.{same_name_sound}
-use Rattle.log_laws.proofs.Members.{Member, in_append, append_left, in_flat_map, flat_map_in}
-use Rattle.log_laws.proofs.Order.{among_member, member_among}
+use Rattle.list_laws.proofs.Members.{Member, in_append, append_left, in_flat_map, flat_map_in}
+use Rattle.name_laws.proofs.Order.{among_member, member_among}
 use Rattle.lf_meaning.specs.HeadMaps.{HeadMap}
 use Rattle.translation_meaning.specs.Translation.{compose}
 use Rattle.library_meaning.specs.Faces.{StructureFace, TheoryFace, ViewFace, Known, IsAbsent, IsRefused, IsTheory, IsView, theory_face, Environment, theory_of, structure_of, includes_of, own_of, own_part, own_parts, flat_signature, flat_of}

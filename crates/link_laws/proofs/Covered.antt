@@ -5,7 +5,7 @@ use Rattle.std.specs.Prelude.{⊤}
 use Rattle.name_meaning.specs.Names.{Name}
 use Rattle.lf_meaning.specs.Signatures.{Value, Declaration, Signature}
 use Rattle.lf_term_laws.proofs.Equality.{same_value_sound, same_value_itself}
-use Rattle.log_laws.proofs.Members.{Member, find_none}
+use Rattle.list_laws.proofs.Members.{Member, find_none}
 use Rattle.lf_meaning.specs.HeadMaps.{HeadMap}
 use Rattle.translation_meaning.specs.Differ.{value_in, agree, agree_on, differ_from, differ}
 use Rattle.library_meaning.specs.Faces.{own_part}

@@ -2,7 +2,7 @@
 use Rattle.std.proofs.Common.{◌≡◌, ℕ, zero, suc, List, [], ◌∷◌, ◌++◌, take, length, slice_get, Some, Ok, refl, sym, ap, ap₂, ◌∙◌, subst, append_assoc, append-nil, arith}
 use Rattle.lf_meaning.specs.Terms.{Constant}
 use Rattle.lf_meaning.specs.Signatures.{Class, Value, Declaration, Signature}
-use Rattle.log_laws.proofs.Places.{take_front, take_length}
+use Rattle.list_laws.proofs.Places.{take_front, take_length}
 use Rattle.lf_meaning.specs.HeadMaps.{Mapping, HeadMap}
 use Rattle.translation_meaning.specs.Translation.{translate_class}
 use Rattle.library_meaning.specs.Coherence.{declared_names, mapped_names, DeclarationsHold}

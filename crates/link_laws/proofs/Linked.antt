@@ -4,8 +4,8 @@ use Rattle.std.specs.List.{list_all}
 use Rattle.name_meaning.specs.Names.{Name, Path, same_name}
 use Rattle.lf_meaning.specs.Signatures.{Class, Value, Declaration, Signature}
 use Rattle.lf_term_laws.proofs.Equality.{same_name_sound, same_name_itself}
-use Rattle.log_laws.proofs.Members.{Member, all_at, all_of, in_append, append_left, in_flat_map, flat_map_in}
-use Rattle.log_laws.proofs.Order.{among_member, member_among}
+use Rattle.list_laws.proofs.Members.{Member, all_at, all_of, in_append, append_left, in_flat_map, flat_map_in}
+use Rattle.name_laws.proofs.Order.{among_member, member_among}
 use Rattle.lf_meaning.specs.HeadMaps.{HeadMap}
 use Rattle.translation_meaning.specs.Translation.{translate_class, translate_value}
 use Rattle.translation_meaning.specs.Differ.{value_in, agree}

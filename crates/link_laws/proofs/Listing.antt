@@ -3,7 +3,7 @@ use Rattle.std.proofs.Common.{◌≡◌, ℕ, zero, suc, Bool, true, false, cond
 use Rattle.std.specs.Prelude.{⊤}
 use Rattle.lf_meaning.specs.Terms.{Constant}
 use Rattle.lf_meaning.specs.Signatures.{Class, Declaration, Signature, same_constant, declaration_of, declared_class, class_of}
-use Rattle.log_laws.proofs.Members.{Member}
+use Rattle.list_laws.proofs.Members.{Member}
 use Rattle.lf_meaning.specs.HeadMaps.{Image, Mapping, HeadMap, image_of}
 use Rattle.library_meaning.specs.Coherence.{declared_names, mapped_names}
 use Rattle.expansion_laws.proofs.Binding.{came_by, goes_by, some_same}

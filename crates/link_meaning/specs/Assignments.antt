@@ -10,7 +10,7 @@ use Rattle.library_meaning.specs.Words.{Link, structures_of, structures_link, Wo
 use Rattle.text_meaning.specs.Tokens.{Span}
 use Rattle.text_meaning.specs.Trees.{Expr, Written, Assign, IncludeAssign, StructAssign, ConstAssign}
 use Rattle.expansion_meaning.specs.Rules.{Rule}
-use Rattle.expansion_meaning.specs.Answers.{◌>>=◌}
+use Rattle.answer_meaning.specs.Answers.{◌>>=◌}
 use Rattle.link_meaning.specs.Refusals.{Outcome, refused, demand, or_refused}
 
 -- A link from a theory into another. The theory that is being built is there for words that begin with its name; for a

@@ -12,7 +12,7 @@ use Rattle.library_meaning.specs.Closure.{sees}
 use Rattle.library_meaning.specs.Words.{identity_map}
 use Rattle.text_meaning.specs.Tokens.{Span}
 use Rattle.expansion_meaning.specs.Rules.{Rule}
-use Rattle.expansion_meaning.specs.Answers.{◌>>=◌}
+use Rattle.answer_meaning.specs.Answers.{◌>>=◌}
 use Rattle.link_meaning.specs.Refusals.{Outcome, refused, or_refused, each}
 use Rattle.link_meaning.specs.Assignments.{Setting, is_or_includes, codomain_sees, included_theories, Assigned, Covering, Sharing, Giving}
 

@@ -14,7 +14,7 @@ use Rattle.library_meaning.specs.Words.{Link}
 use Rattle.text_meaning.specs.Tokens.{Span}
 use Rattle.text_meaning.specs.Trees.{Expr, Assign}
 use Rattle.expansion_meaning.specs.Rules.{Rule}
-use Rattle.expansion_meaning.specs.Answers.{◌>>=◌}
+use Rattle.answer_meaning.specs.Answers.{◌>>=◌}
 use Rattle.expansion_meaning.specs.Expansion.{span_of}
 use Rattle.expansion_meaning.specs.Values.{expand_value}
 use Rattle.link_meaning.specs.Refusals.{Outcome, refused, labelled, demand, or_refused, each}

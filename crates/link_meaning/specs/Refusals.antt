@@ -3,7 +3,8 @@ use Rattle.std.specs.Prelude.{Bool, true, false, Option, Some, None, Result, Ok,
 use Rattle.name_meaning.specs.Names.{Path}
 use Rattle.text_meaning.specs.Tokens.{Span}
 use Rattle.expansion_meaning.specs.Rules.{Rule}
-use Rattle.expansion_meaning.specs.Answers.{Answer, ◌>>=◌}
+use Rattle.expansion_meaning.specs.Answers.{Answer}
+use Rattle.answer_meaning.specs.Answers.{◌>>=◌}
 
 -- A rule that is broken, where, and of what.
 pub record Refusal : Type 0 where

@@ -5,7 +5,7 @@ use Rattle.std.specs.List.{list_any}
 use Rattle.std.proofs.lemmas.Bool.{and_parts}
 use Rattle.name_meaning.specs.Names.{Name, Path, same_name}
 use Rattle.lf_term_laws.proofs.Equality.{same_name_sound, same_name_itself}
-use Rattle.log_laws.proofs.Members.{Member, any_not}
+use Rattle.list_laws.proofs.Members.{Member, any_not}
 use Rattle.library_meaning.specs.Faces.{flat_of}
 use Rattle.library_meaning.specs.Closure.{sees}
 use Rattle.library_meaning.specs.Words.{Link}

@@ -8,8 +8,8 @@ use Rattle.lf_meaning.specs.Judgements.{Fits, ValueFits, IsDeclaration, IsSignat
 use Rattle.lf_term_laws.proofs.Equality.{same_name_sound, same_name_itself}
 use Rattle.lf_typing.proofs.Declared.{declared_as}
 use Rattle.lf_typing.proofs.Growing.{signature_shrinks}
-use Rattle.log_laws.proofs.Members.{Member, in_append, append_left, append_right, in_flat_map, any_found, any_of}
-use Rattle.log_laws.proofs.Order.{among_member, member_among}
+use Rattle.list_laws.proofs.Members.{Member, in_append, append_left, append_right, in_flat_map, any_found, any_of}
+use Rattle.name_laws.proofs.Order.{among_member, member_among}
 use Rattle.lf_meaning.specs.HeadMaps.{Image, HeadMap, image_of}
 use Rattle.translation_meaning.specs.Translation.{translate_class, translate_value}
 use Rattle.translation_meaning.specs.Differ.{value_in}

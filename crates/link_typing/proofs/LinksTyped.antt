@@ -6,8 +6,8 @@ use Rattle.lf_meaning.specs.Signatures.{Class, Value, SameAs, TermValue, FamilyV
 use Rattle.lf_meaning.specs.Judgements.{IsClass, Fits, ValueFits, IsDeclaration, IsSignature}
 use Rattle.lf_term_laws.proofs.Equality.{same_name_itself}
 use Rattle.lf_typing.proofs.Growing.{signature_grows}
-use Rattle.log_laws.proofs.Members.{Member, in_append, append_left, append_right}
-use Rattle.log_laws.proofs.Places.{split_at}
+use Rattle.list_laws.proofs.Members.{Member, in_append, append_left, append_right}
+use Rattle.list_laws.proofs.Places.{split_at}
 use Rattle.lf_meaning.specs.HeadMaps.{Image, Mapping, HeadMap, image_of}
 use Rattle.translation_meaning.specs.Translation.{translate_class, translate_value}
 use Rattle.translation_meaning.specs.TypedMaps.{KeepsValue, IsTypedAt}

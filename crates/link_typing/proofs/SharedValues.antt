@@ -6,7 +6,7 @@ use Rattle.lf_meaning.specs.Signatures.{Class, Value, Declaration, Signature, cl
 use Rattle.lf_meaning.specs.Judgements.{Fits, IsDeclaration, IsSignature}
 use Rattle.lf_term_laws.proofs.Equality.{same_name_itself}
 use Rattle.lf_typing.proofs.Growing.{signature_shrinks}
-use Rattle.log_laws.proofs.Members.{Member, in_append, append_left, append_right}
+use Rattle.list_laws.proofs.Members.{Member, in_append, append_left, append_right}
 use Rattle.lf_meaning.specs.HeadMaps.{Image, HeadMap, image_of}
 use Rattle.translation_meaning.specs.Translation.{translate_class, translate_value, translate_image, compose}
 use Rattle.translation_meaning.specs.Differ.{value_in}

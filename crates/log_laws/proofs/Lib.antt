@@ -1,5 +1,2 @@
 pub mod Libraries
 pub mod Limits
-pub mod Members
-pub mod Order
-pub mod Places

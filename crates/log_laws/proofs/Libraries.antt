@@ -5,8 +5,8 @@ use Rattle.std.proofs.lemmas.Bool.{and_parts, and_from}
 use Rattle.name_meaning.specs.Names.{Name, Text, same_name, comes_before, is_among, is_ascending, with_name}
 use Rattle.log_meaning.specs.Log.{Edit, Put, Drop, edited_name, Log, Module, Library, names_of, with_module, without_module, edited, library_of, text_of, is_present, version_of, stamp_from, stamp_of}
 use Rattle.log_laws.specs.LogLaws.{left_by}
-use Rattle.log_laws.proofs.Members.{Member, in_map, map_in, in_filter, all_at, all_of}
-use Rattle.log_laws.proofs.Order.{same_sound, same_of, with_ascending}
+use Rattle.list_laws.proofs.Members.{Member, in_map, map_in, in_filter, all_at, all_of}
+use Rattle.name_laws.proofs.Order.{same_sound, same_of, with_ascending}
 
 -- ---- texts
 

@@ -9,7 +9,7 @@ use Rattle.log_meaning.specs.Log.{Edit, Put, Drop, Log, Module, Library, names_o
 use Rattle.log_meaning.specs.Append.{text_limit, module_limit, edit_limit, total_limit, Edited, Made, Same, Absent, Full, TooLong, TooMany, size_of, is_short, total_size, is_full, is_text, append_answer, log_after, appended}
 use Rattle.log_laws.specs.LogLaws.{IsWithinLimits}
 use Rattle.log_laws.proofs.Libraries.{fold_last, library_last, library_ascending, names_with, present_among}
-use Rattle.log_laws.proofs.Order.{among_member, with_present}
+use Rattle.name_laws.proofs.Order.{among_member, with_present}
 
 tested : (b : Bool) (x y : Edited) (v : ℕ) → (x ≡ Made v → ⊥) → cond b x y ≡ Made v → (b ≡ false) × (y ≡ Made v)
 tested true x y v f e = absurd (f e)

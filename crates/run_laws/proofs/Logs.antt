@@ -9,7 +9,7 @@ use Rattle.std.proofs.lemmas.List.Elements.{filter_map-append}
 use Rattle.name_meaning.specs.Names.{Name}
 use Rattle.log_meaning.specs.Log.{Edit, Log, names_of, library_of}
 use Rattle.log_meaning.specs.Append.{Edited, Made, Same, Absent, Full, TooLong, TooMany, append_answer, log_after as left_by, appended, appended_all}
-use Rattle.log_laws.proofs.Places.{take_front, take_length}
+use Rattle.list_laws.proofs.Places.{take_front, take_length}
 use Rattle.walk_meaning.specs.Walks.{Dependencies, is_grounded}
 use Rattle.run_meaning.specs.ScriptCommands.{Command, EditCommand, ReportCommand, CheckCommand, FlatCommand, CarryCommand, LogCommand, BlankCommand}
 use Rattle.run_meaning.specs.ScriptItems.{Item, Spoken, script_of}

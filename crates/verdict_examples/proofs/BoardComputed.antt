@@ -8,7 +8,8 @@ use Rattle.board_meaning.specs.Events.{log_of}
 use Rattle.board_meaning.specs.Claims.{claims_from, is_open, inputs_after, inputs_of, first_changed, has_current_claim}
 use Rattle.board_meaning.specs.Standing.{installed_claims, is_edited, is_unedited, stands}
 use Rattle.board_meaning.specs.Ready.{is_closed, dependencies_stand, is_ready, least_ready}
-use Rattle.board_meaning.specs.Machine.{answers_of, job_after, job_of, install_reply, report_reply, answers_reply, event_of, may_call, after_call}
+use Rattle.walk_meaning.specs.Subject.{answers_of}
+use Rattle.board_meaning.specs.Machine.{job_after, job_of, install_reply, report_reply, answers_reply, event_of, may_call, after_call}
 use Rattle.board_meaning.specs.Legal.{after_calls, may_make_all}
 use Rattle.verdict_examples.specs.BoardExamples.{NatCallsMayBeMade, NatEditsAreMade, NatIsClaimed, MisspelledNatIsStale, NatPutBackIsStale, NatIsPending, NatIsClaimedAgain, NatIsInstalled, NothingButNat, NatIsTold, HistoryOfNat}
 use Rattle.verdict_examples.proofs.Computed.{judging}

@@ -2,8 +2,8 @@
 use Rattle.std.proofs.Common.{◌≡◌, ℕ, zero, suc, ◌≤◌, Bool, true, false, not, cond, List, [], ◌∷◌, map, filter, Option, Some, None, is_some, option_map, refl, sym, ap, ◌∙◌, true≢false, arith}
 use Rattle.name_meaning.specs.Names.{Name, Text, is_among, same_name}
 use Rattle.log_meaning.specs.Log.{Library, text_of}
-use Rattle.log_laws.proofs.Members.{Member, in_filter}
-use Rattle.log_laws.proofs.Order.{among_member, member_among, same_sound}
+use Rattle.list_laws.proofs.Members.{Member, in_filter}
+use Rattle.name_laws.proofs.Order.{among_member, member_among, same_sound}
 use Rattle.walk_meaning.specs.Walks.{walking, is_ungrounded}
 use Rattle.walk_meaning.specs.Reach.{reach, AgreesOn}
 use Rattle.walk_laws.proofs.Walking.{present_in}

@@ -3,8 +3,8 @@ use Rattle.std.proofs.Common.{◌≡◌, ℕ, zero, suc, Bool, true, false, not,
 use Rattle.std.proofs.lemmas.Bool.{cases_Bool, or_cases, or_left, or_right}
 use Rattle.name_meaning.specs.Names.{Name, is_among, same_name}
 use Rattle.log_meaning.specs.Log.{Library}
-use Rattle.log_laws.proofs.Members.{Member, in_filter, filter_in}
-use Rattle.log_laws.proofs.Order.{among_member, member_among, same_sound, same_itself}
+use Rattle.list_laws.proofs.Members.{Member, in_filter, filter_in}
+use Rattle.name_laws.proofs.Order.{among_member, member_among, same_sound, same_itself}
 use Rattle.walk_meaning.specs.Walks.{Dependencies, direct, walking}
 use Rattle.walk_meaning.specs.Reach.{reach}
 use Rattle.walk_laws.proofs.Walking.{present_in, depends_present, walking_step, walking_less, walks_on}

@@ -3,8 +3,8 @@ use Rattle.std.proofs.Common.{◌≡◌, ℕ, zero, suc, Bool, true, false, not,
 use Rattle.std.proofs.lemmas.Bool.{cases_Bool, and_parts}
 use Rattle.name_meaning.specs.Names.{Name, Text, same_name, is_among}
 use Rattle.log_meaning.specs.Log.{Library, text_of, is_present}
-use Rattle.log_laws.proofs.Members.{Member, find_none, in_map}
-use Rattle.log_laws.proofs.Order.{among_member, member_among}
+use Rattle.list_laws.proofs.Members.{Member, find_none, in_map}
+use Rattle.name_laws.proofs.Order.{among_member, member_among}
 use Rattle.walk_meaning.specs.Walks.{of_text, direct, walking, is_ungrounded, is_grounded}
 use Rattle.walk_laws.proofs.Walking.{ungrounded_dependency}
 use Rattle.walk_laws.proofs.Agreement.{grounded_same}

@@ -6,7 +6,7 @@ use Rattle.text_meaning.specs.Trees.{Written, Module, SigModule, ViewModule, fir
 use Rattle.text_meaning.specs.Reading.{ModuleText, ModuleTree, JudgementTree, Answer, Read, Syntax, TooDeep, Unsupported}
 use Rattle.text_meaning.specs.TextAnswers.{read}
 use Rattle.expansion_meaning.specs.Rules.{Rule}
-use Rattle.expansion_meaning.specs.Answers.{◌>>=◌}
+use Rattle.answer_meaning.specs.Answers.{◌>>=◌}
 use Rattle.link_meaning.specs.Refusals.{Refusal, Outcome, refused, demand}
 use Rattle.text_meaning.specs.Dependencies.{Dependency, module_dependencies}
 use Rattle.verdict_meaning.specs.Modules.{empty_theory, declare_all, checked_view}

@@ -5,8 +5,8 @@ use Rattle.name_meaning.specs.Names.{Name}
 use Rattle.log_meaning.specs.Log.{Library, text_of, is_present}
 use Rattle.walk_meaning.specs.Walks.{Dependencies, of_text, direct, walking, is_ungrounded, is_grounded}
 use Rattle.walk_meaning.specs.Reach.{reach, AgreesOn}
-use Rattle.log_laws.proofs.Members.{Member}
-use Rattle.log_laws.proofs.Order.{member_among}
+use Rattle.list_laws.proofs.Members.{Member}
+use Rattle.name_laws.proofs.Order.{member_among}
 use Rattle.walk_laws.proofs.Walking.{present_in, in_present, walking_step, walking_next, walks_on, ungrounded_in, in_ungrounded}
 use Rattle.walk_laws.proofs.Reaching.{one_list, IsClosed, reach_closed, reach_first, reach_ascending, reach_least}
 

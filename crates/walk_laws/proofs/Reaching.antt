@@ -6,8 +6,8 @@ use Rattle.name_meaning.specs.Names.{Name, comes_before, is_among, is_ascending}
 use Rattle.log_meaning.specs.Log.{Library, names_of, is_present}
 use Rattle.walk_meaning.specs.Walks.{Dependencies, direct, IsWalk}
 use Rattle.walk_meaning.specs.Reach.{IsReached, reach_within, reach}
-use Rattle.log_laws.proofs.Members.{Member, all_not, all_at, filter_in, in_flat_map, flat_map_in}
-use Rattle.log_laws.proofs.Order.{among_member, member_among, in_with_all, with_all_new, with_all_old, with_all_ascending, before_trans, not_before_itself}
+use Rattle.list_laws.proofs.Members.{Member, all_not, all_at, filter_in, in_flat_map, flat_map_in}
+use Rattle.name_laws.proofs.Order.{among_member, member_among, in_with_all, with_all_new, with_all_old, with_all_ascending, before_trans, not_before_itself}
 use Rattle.walk_laws.proofs.Walking.{filter_shorter, filter_within, present_in, depends_present, names_count}
 
 -- ---- two lists in byte order with the same members are one

@@ -6,8 +6,8 @@ use Rattle.name_meaning.specs.Names.{Name, Text, is_among}
 use Rattle.log_meaning.specs.Log.{Library, names_of, text_of, is_present}
 use Rattle.walk_meaning.specs.Walks.{Dependencies, of_text, direct, IsWalk, Ungrounded, walking, is_ungrounded, is_grounded}
 use Rattle.walk_laws.specs.WalkLaws.{WalksOn}
-use Rattle.log_laws.proofs.Members.{Member, any_found, any_of, all_not, all_at, in_filter, filter_in}
-use Rattle.log_laws.proofs.Order.{among_member, member_among}
+use Rattle.list_laws.proofs.Members.{Member, any_found, any_of, all_not, all_at, in_filter, filter_in}
+use Rattle.name_laws.proofs.Order.{among_member, member_among}
 use Rattle.log_laws.proofs.Libraries.{present_among}
 
 -- ---- lists that a test makes shorter

@@ -8,7 +8,7 @@ use Rattle.std.proofs.lemmas.Option.{same_Some}
 use Rattle.std.proofs.lemmas.List.{length-append, append-nil}
 use Rattle.std.proofs.lemmas.Slice.Eq.{bytes_eq-Decides}
 use Rattle.std.proofs.lemmas.Bool.Decides.{nat_tests}
-use Rattle.log_laws.proofs.Places.{take_front, take_length, drop_front, take_drop}
+use Rattle.list_laws.proofs.Places.{take_front, take_length, drop_front, take_drop}
 use Rattle.printing_meaning.specs.Numbers.{is_digit, is_number}
 use Rattle.word_list_meaning.specs.WordLists.{Task, Run, default_workers, worker_part, is_folder, play_of, check_of, generate_of, task_of, with_part, without_part, part_in_front, part_at_end, first_of, run_of}
 use Rattle.word_list_meaning.specs.WordAnswers.{IsPart, Asks}

@@ -7,7 +7,7 @@ use Rattle.std.specs.Cmp.Lexicographic.{slice_cmp, nat_list_cmp_total, texts_tie
 use Rattle.std.proofs.lemmas.Slice.Eq.{bytes_eq-Decides}
 use Rattle.std.proofs.lemmas.Bool.{cases_Bool, and_parts, and_from}
 use Rattle.name_meaning.specs.Names.{Name, same_name, comes_before, is_among, is_ascending, with_name, with_names}
-use Rattle.log_laws.proofs.Members.{Member, any_found, any_of, all_at, all_of}
+use Rattle.list_laws.proofs.Members.{Member, any_found, any_of, all_at, all_of}
 
 pub same_sound : (n m : Name) → same_name n m ≡ true → n ≡ m
 same_sound n m h = (bytes_eq-Decides n m).0 h
