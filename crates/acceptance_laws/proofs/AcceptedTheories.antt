@@ -4,7 +4,6 @@ use Rattle.name_meaning.specs.Names.{Name}
 use Rattle.log_meaning.specs.Log.{Library}
 use Rattle.text_meaning.specs.Trees.{Written, Decl, Module, SigModule, first_name}
 use Rattle.library_meaning.specs.Faces.{TheoryFace, flat_signature}
-use Rattle.expansion_laws.proofs.Binding.{goes_by}
 use Rattle.verdict_meaning.specs.Modules.{empty_theory, declare_all}
 use Rattle.verdict_meaning.specs.Verdicts.{Theory, Accepted, checked}
 use Rattle.verdict_meaning.specs.Rounds.{verdict_of, known_to}
@@ -15,6 +14,7 @@ use Rattle.coherence_laws.proofs.LibrariesHold.{grounded_know_coherent}
 use Rattle.coherence_laws.proofs.AcceptedTrees.{from_declarations}
 use Rattle.acceptance_laws.proofs.AcceptedModules.{passed, accepted, one_tree}
 use Rattle.acceptance_laws.proofs.Declared.{declared_sound, declared_complete}
+use Rattle.list_laws.proofs.Answers.{goes_by}
 
 module _ (library : Library) (name : Name) where
   tree_declares : (tree : Module) (face : TheoryFace) (size : ℕ) → IsModule library name tree → checked (known_to library name) tree ≡ Ok (Theory face size) → IsAcceptedTheory library (known_to library name) name face size

@@ -6,7 +6,6 @@ use Rattle.text_meaning.specs.Trees.{Written, Assign, Module, SigModule, ViewMod
 use Rattle.lf_meaning.specs.HeadMaps.{HeadMap}
 use Rattle.library_meaning.specs.Faces.{TheoryFace, ViewFace, Environment, theory_of}
 use Rattle.library_meaning.specs.Coherence.{IsCoherent}
-use Rattle.expansion_laws.proofs.Binding.{came_by, goes_by}
 use Rattle.link_meaning.specs.Passes.{link_map}
 use Rattle.link_laws.proofs.Covered.{good_same}
 use Rattle.link_laws.proofs.Linked.{link_map_meets_equations}
@@ -17,6 +16,7 @@ use Rattle.acceptance_laws.specs.ViewLaws.{IsModule, IsViewBetween, IsAcceptedVi
 use Rattle.coherence_laws.proofs.ModulesHold.{known_by_test, theory_there}
 use Rattle.coherence_laws.proofs.LibrariesHold.{grounded_know_coherent}
 use Rattle.acceptance_laws.proofs.AcceptedModules.{test_passed, some_passes, passed, accepted, one_tree}
+use Rattle.list_laws.proofs.Answers.{came_by, goes_by}
 
 module _ (environment : Environment) (coherent : IsCoherent environment) (written domain codomain : Written) (assigns : List Assign) where
   -- ---- the tests of a view

@@ -3,8 +3,8 @@ use Rattle.std.proofs.Common.{◌≡◌, ◌↔◌, ℕ, true, not, ◌||◌, Li
 use Rattle.std.specs.Prelude.{⊤}
 use Rattle.name_meaning.specs.Names.{Name, Path, same_name}
 use Rattle.lf_meaning.specs.Signatures.{Class, Value, Declaration, Signature}
-use Rattle.lf_term_laws.proofs.Equality.{pointwise_sound, same_name_sound}
-use Rattle.list_laws.proofs.Members.{find_found}
+use Rattle.lf_term_laws.proofs.Equality.{pointwise_sound}
+use Rattle.list_laws.proofs.Members.{find_found, place_member}
 use Rattle.lf_meaning.specs.HeadMaps.{HeadMap}
 use Rattle.library_meaning.specs.Faces.{StructureFace, TheoryFace, Environment, theory_of, structure_of}
 use Rattle.library_meaning.specs.Resolution.{Scope, has_path, own_at}
@@ -12,7 +12,6 @@ use Rattle.library_meaning.specs.Coherence.{IsCoherent}
 use Rattle.text_meaning.specs.Trees.{Expr, Written, Assign, Decl, IncludeDecl, StructDecl, ConstDecl, first_name}
 use Rattle.expansion_meaning.specs.Rules.{Rule}
 use Rattle.expansion_meaning.specs.Values.{expand_class, expand_value}
-use Rattle.expansion_laws.proofs.Binding.{came_by, goes_by}
 use Rattle.expansion_laws.proofs.ValuesStand.{class_sound, class_complete, value_sound, value_complete}
 use Rattle.holding_laws.proofs.Declared.{place_of}
 use Rattle.link_meaning.specs.Refusals.{labelled}
@@ -21,13 +20,14 @@ use Rattle.link_meaning.specs.LinkMaps.{IsMapOfLink}
 use Rattle.link_laws.proofs.Covered.{good_same}
 use Rattle.link_laws.proofs.Valued.{label_came, demand_by}
 use Rattle.link_laws.proofs.Linked.{link_map_meets_equations}
-use Rattle.link_coherence_laws.proofs.Onces.{place_member}
 use Rattle.verdict_meaning.specs.Modules.{module_test, scope_in, is_used, unused_test, declared_value, structure_setting, declare, declare_all}
 use Rattle.acceptance_laws.specs.Declares.{IsNew, StandsIfWritten, Declares, DeclaresAll}
 use Rattle.acceptance_laws.specs.TheoryLaws.{TestsAnswerDeclared, OneFaceDeclared}
 use Rattle.coherence_laws.proofs.TheoriesHold.{not_at, no_structure, structure_found}
 use Rattle.coherence_laws.proofs.ModulesHold.{known_by_test, theory_there, unused_by}
 use Rattle.acceptance_laws.proofs.AcceptedModules.{some_passes}
+use Rattle.name_laws.proofs.Order.{same_sound}
+use Rattle.list_laws.proofs.Answers.{came_by, goes_by}
 
 -- ---- new names
 
@@ -39,7 +39,7 @@ nobody_at own path f = by (own_at own path) refl
     by (Some d) e =
         let m = find_found (has_path path) own d e in
         let p = place_of own d m.0 in
-        absurd (f p.0 d p.1 (pointwise_sound same_name same_name_sound d.name.path path m.1))
+        absurd (f p.0 d p.1 (pointwise_sound same_name same_sound d.name.path path m.1))
 
 no_structure_at : (structures : List StructureFace) (name : Name) → ((i : ℕ) (x : StructureFace) → slice_get structures i ≡ Some x → x.name ≡ name → ⊥) → structure_of structures name ≡ None
 no_structure_at structures name f = by (structure_of structures name) refl

@@ -43,7 +43,7 @@ unfolding log_of
 unlogged H pass None h = refl
 unlogged H pass (Some e) h = rw (h e refl) refl
 
-install_no_edit : (c : ℕ) (r : Installed) → edit_of (install_event c r) ≡ None
+pub install_no_edit : (c : ℕ) (r : Installed) → edit_of (install_event c r) ≡ None
 install_no_edit c IsInstalled = refl
 install_no_edit c (IsStale n k) = refl
 

@@ -17,14 +17,11 @@ use Rattle.list_laws.proofs.Places.{take_front, drop_front}
 use Rattle.board_machine_laws.proofs.Histories.{filter_map_last, edited_append}
 use Rattle.board_machine_laws.proofs.Claiming.{claim_within, claim_front, is_name_some, some_is_name, unedited_input, unedited_from, installed_unedited}
 use Rattle.board_laws.proofs.Standings.{Supported, stands_by, by_stands, installed_claimed, reach_now}
-
-or_none : (b : Bool) → (b || false) ≡ b
-or_none true = refl
-or_none false = refl
+use Rattle.std.proofs.Math.Bool.{or-false}
 
 edited_last : (e : Entry) (n : Name) → is_edited (e ∷ []) n ≡ is_edit_of n (edit_in e)
 unfolding is_edited
-edited_last e n = or_none (is_edit_of n (edit_in e))
+edited_last e n = or-false (is_edit_of n (edit_in e))
 
 pub installed_last : (H : History) (e : Entry) → installed_claims (H ++ e ∷ []) ≡ installed_claims H ++ option_to_list (installed_claim e.event)
 unfolding installed_claims

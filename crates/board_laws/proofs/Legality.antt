@@ -17,6 +17,8 @@ use Rattle.board_meaning.specs.Legal.{MayFollow, IsLegal, PassCall, after_calls,
 use Rattle.list_laws.proofs.Places.{place_within, get_front, get_last, get_more, take_front, take_length, take_more, take_past}
 use Rattle.board_machine_laws.proofs.Histories.{log_none, log_some}
 use Rattle.board_machine_laws.proofs.Claiming.{claim_entry}
+use Rattle.list_laws.proofs.Options.{clash}
+use Rattle.board_laws.proofs.Entries.{install_no_edit}
 
 -- ---- histories that grow
 
@@ -98,16 +100,9 @@ install_claims : (c : ℕ) (r : Installed) → claimed_name (install_event c r) 
 install_claims c IsInstalled = refl
 install_claims c (IsStale n k) = refl
 
-install_edits : (c : ℕ) (r : Installed) → edit_of (install_event c r) ≡ None
-install_edits c IsInstalled = refl
-install_edits c (IsStale n k) = refl
-
 install_installs : (c d : ℕ) (r : Installed) → installed_claim (install_event c r) ≡ Some d → (c ≡ d) × (r ≡ IsInstalled)
 install_installs c d IsInstalled h = (cc, refl)
 install_installs c d (IsStale n k) h = absurd (cc)
-
-clash : {A : Type 0} {x : A} (o : Option A) → o ≡ None → o ≡ Some x → ⊥
-clash o e f = absurd (cc)
 
 -- a claim is of the least ready name
 pub event_claim : (dependencies : Dependencies) (H : History) (call : Call) (e : Event) (m : Name) → event_of dependencies H call ≡ Some e → claimed_name e ≡ Some m → least_ready dependencies H ≡ Some m
@@ -149,7 +144,7 @@ event_edit dependencies H (EditCall x) e edit h g =
 event_edit dependencies H ClaimCall e edit h g = absurd (clash (edit_of e) (ap edit_of (claim_event (least_ready dependencies H) e h).2) g)
 event_edit dependencies H (InstallCall d) e edit h g =
     let q : install_event d (install_reply dependencies H d) ≡ e = cc in
-    absurd (clash (edit_of e) (sym (ap edit_of q) ∙ install_edits d (install_reply dependencies H d)) g)
+    absurd (clash (edit_of e) (sym (ap edit_of q) ∙ install_no_edit d (install_reply dependencies H d)) g)
 event_edit dependencies H (ReleaseCall d) e edit h g = let q : Release d ≡ e = cc in absurd (clash (edit_of e) (sym (ap edit_of q)) g)
 event_edit dependencies H CloseCall e edit h g = absurd (clash (edit_of e) (ap edit_of (close_event (is_closed H) e h).0) g)
 

@@ -7,7 +7,7 @@ use Rattle.log_meaning.specs.Log.{Library, is_present}
 use Rattle.walk_meaning.specs.Walks.{Dependencies, direct, is_grounded}
 use Rattle.walk_meaning.specs.Reach.{reach}
 use Rattle.walk_meaning.specs.Subject.{KeepsToReach}
-use Rattle.list_laws.proofs.Members.{Member, any_found, any_of, any_not, any_none, all_at}
+use Rattle.list_laws.proofs.Members.{Member, any_found, any_of, any_not, any_none, all_at, in_option, option_first, option_rest}
 use Rattle.name_laws.proofs.Order.{among_member, member_among}
 use Rattle.log_laws.proofs.Libraries.{library_ascending}
 use Rattle.walk_laws.proofs.Agreement.{reach_same, grounded_same}
@@ -36,19 +36,6 @@ installed_entry dependencies H l p c e s g = (legal_install dependencies H l p c
 
 -- ---- members of what a list gives, with their places
 
-in_option : {A : Type 0} (o : Option A) (xs : List A) (x : A) → Member x (cons_option o xs) → (o ≡ Some x) ⊎ Member x xs
-in_option None xs x m = inr m
-in_option (Some y) xs x (inl e) = inl (ap Some (sym e))
-in_option (Some y) xs x (inr m) = inr m
-
-option_in : {A : Type 0} (o : Option A) (xs : List A) (x : A) → o ≡ Some x → Member x (cons_option o xs)
-option_in None xs x e = absurd (cc)
-option_in (Some y) xs x e = inl (sym cc)
-
-option_rest : {A : Type 0} (o : Option A) (xs : List A) (x : A) → Member x xs → Member x (cons_option o xs)
-option_rest None xs x m = m
-option_rest (Some y) xs x m = inr m
-
 pub in_filter_map : {A B : Type 0} (f : A → Option B) (xs : List A) (y : B) → Member y (filter_map f xs) → (i : ℕ) × (x : A) × (slice_get xs i ≡ Some x) × (f x ≡ Some y)
 in_filter_map f [] y m = absurd m
 in_filter_map f (x ∷ xs) y m =
@@ -56,7 +43,7 @@ in_filter_map f (x ∷ xs) y m =
 
 pub filter_map_in : {A B : Type 0} (f : A → Option B) (xs : List A) (i : ℕ) (x : A) (y : B) → slice_get xs i ≡ Some x → f x ≡ Some y → Member y (filter_map f xs)
 filter_map_in f [] i x y s e = absurd (cc)
-filter_map_in f (z ∷ xs) zero x y s e = let q : z ≡ x = cc in option_in (f z) (filter_map f xs) y (ap f q ∙ e)
+filter_map_in f (z ∷ xs) zero x y s e = let q : z ≡ x = cc in option_first (f z) (filter_map f xs) y (ap f q ∙ e)
 filter_map_in f (z ∷ xs) (suc i) x y s e = option_rest (f z) (filter_map f xs) y (filter_map_in f xs i x y s e)
 
 -- ---- the test decides what it means

@@ -1,7 +1,7 @@
 -- Claims: where they stand, their inputs, and what has changed since.
 use Rattle.std.proofs.Common.{◌≡◌, ℕ, suc, ◌<◌, Bool, true, false, not, List, [], ◌∷◌, ◌++◌, map, length, take, drop, slice_get, find, Option, Some, None, option_map, option_and_then, ◌||◌, refl, sym, ap, ◌∙◌, subst, true≢false, arith, eqb-true, eq-eqb}
 use Rattle.std.specs.List.{list_any, list_all}
-use Rattle.std.proofs.lemmas.Bool.{false_from_ne_true, not_from_false}
+use Rattle.std.proofs.lemmas.Bool.{false_from_ne_true, not_from_false, not-true}
 use Rattle.name_meaning.specs.Names.{Name, same_name}
 use Rattle.log_meaning.specs.Log.{text_of}
 use Rattle.walk_meaning.specs.Walks.{Dependencies}
@@ -101,10 +101,6 @@ pub some_is_name : (n : Name) (o : Option Name) → o ≡ Some n → is_name n o
 some_is_name n None h = absurd (cc)
 some_is_name n (Some m) h = let e : m ≡ n = cc in subst (λ z. same_name n z ≡ true) (sym e) (same_itself n)
 
-not_true : (b : Bool) → not b ≡ true → b ≡ false
-not_true true h = absurd (true≢false (sym h))
-not_true false h = refl
-
 -- ---- inputs that were not edited
 
 module _ (dependencies : Dependencies) (H : History) (c : ℕ) (m : Name) (h : claim_at H c ≡ Some m) where
@@ -113,7 +109,7 @@ module _ (dependencies : Dependencies) (H : History) (c : ℕ) (m : Name) (h : c
 
   pub unedited_input : (n : Name) → is_unedited dependencies H c ≡ true → Member n (reach dependencies (library_after (take c H)) m) → is_edited_after H c n ≡ false
   unfolding is_unedited
-  unedited_input n u i = any_not (is_edited_after H c) (input_names (inputs_of dependencies H c)) n (not_true (list_any (is_edited_after H c) (input_names (inputs_of dependencies H c))) u) (subst (Member n) (sym names_are) i)
+  unedited_input n u i = any_not (is_edited_after H c) (input_names (inputs_of dependencies H c)) n (not-true (list_any (is_edited_after H c) (input_names (inputs_of dependencies H c))) u) (subst (Member n) (sym names_are) i)
 
   pub unedited_from : ((n : Name) → Member n (reach dependencies (library_after (take c H)) m) → is_edited_after H c n ≡ false) → is_unedited dependencies H c ≡ true
   unfolding is_unedited

@@ -3,7 +3,7 @@ use Rattle.std.proofs.Common.{refl}
 use Rattle.name_meaning.specs.Names.{is_among, is_ascending, with_name, with_names}
 use Rattle.log_meaning.specs.Log.{with_module, without_module, library_of, text_of, stamp_from}
 use Rattle.log_meaning.specs.Append.{append_answer}
-use Rattle.walk_meaning.specs.Walks.{direct, walking, is_ungrounded}
+use Rattle.walk_meaning.specs.Walks.{direct, walking, is_ungrounded, ungrounded_names}
 use Rattle.walk_meaning.specs.Reach.{reach_within, reach}
 use Rattle.board_meaning.specs.Events.{log_of}
 use Rattle.board_meaning.specs.Claims.{claims_from, is_open, inputs_after, inputs_of, first_changed, has_current_claim}
@@ -16,7 +16,7 @@ use Rattle.board_machine_laws.specs.Examples.{JobHasStamps, InstallIsStale, WayB
 
 -- What all examples compute with.
 abbrev machine : Unit {0}
-unfolding is_among is_ascending with_name with_names with_module without_module library_of text_of stamp_from append_answer direct walking is_ungrounded reach_within reach log_of claims_from is_open inputs_after inputs_of first_changed has_current_claim installed_claims is_edited is_unedited stands is_closed dependencies_stand is_ready least_ready answers_of job_after job_of install_reply report_reply answers_reply event_of may_call after_call after_calls may_make_all
+unfolding is_among is_ascending with_name with_names with_module without_module library_of text_of stamp_from append_answer direct walking is_ungrounded ungrounded_names reach_within reach log_of claims_from is_open inputs_after inputs_of first_changed has_current_claim installed_claims is_edited is_unedited stands is_closed dependencies_stand is_ready least_ready answers_of job_after job_of install_reply report_reply answers_reply event_of may_call after_call after_calls may_make_all
 machine = tt
 
 pub job_has_stamps : JobHasStamps

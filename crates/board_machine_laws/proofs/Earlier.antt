@@ -1,7 +1,7 @@
 -- What held of a claim at an earlier place of the history.
 use Rattle.std.proofs.Common.{◌≡◌, ℕ, zero, suc, ◌+◌, ◌<◌, ◌≤◌, Bool, true, false, not, List, [], ◌∷◌, ◌++◌, length, take, drop, slice_get, Option, Some, None, option_map, is_some, ◌&&◌, inl, inr, refl, sym, ap, ◌∙◌, subst, true≢false, arith}
 use Rattle.std.specs.List.{list_all, cons_option}
-use Rattle.std.proofs.lemmas.Bool.{or_parts, and_parts, and_from, not_from_false}
+use Rattle.std.proofs.lemmas.Bool.{or_parts, and_parts, and_from, not_from_false, not-true}
 use Rattle.std.proofs.lemmas.List.Folds.{list_any-append}
 use Rattle.name_meaning.specs.Names.{Name}
 use Rattle.walk_meaning.specs.Walks.{Dependencies}
@@ -13,10 +13,6 @@ use Rattle.board_meaning.specs.Claims.{claimed_name, claim_at, claims_from, ends
 use Rattle.board_meaning.specs.Standing.{is_edited, is_unedited}
 use Rattle.board_machine_laws.proofs.Histories.{edited_append}
 use Rattle.board_machine_laws.proofs.Claiming.{claim_entry, claim_front, some_is_name, unedited_input, unedited_from, unedited_installed, installed_unchanged}
-
-pub not_true : (b : Bool) → not b ≡ true → b ≡ false
-not_true true h = absurd (true≢false (sym h))
-not_true false h = refl
 
 option_in : {X : Type 0} (o : Option X) (x k : ℕ) (xs : List ℕ) (y : X) → o ≡ Some y → x ≡ k → Member x (cons_option (option_map (λ (z : X). k) o) xs)
 option_in None x k xs y e h = absurd (cc)
@@ -67,7 +63,7 @@ module _ (dependencies : Dependencies) where
         (not_from_false (is_ended (take d H) c)
         (or_parts (is_ended (take d H) c) (is_ended (drop d (take p H)) c)
         (sym (list_any-append (λ (entry : Entry). ends_claim c entry.event) (take d H) (drop d (take p H))) ∙ ap (λ z. is_ended z c) parts
-        ∙ not_true (is_ended (take p H) c) (and_parts (is_some (claim_at (take p H) c)) (not (is_ended (take p H) c)) o).1)).0)
+        ∙ not-true (is_ended (take p H) c) (and_parts (is_some (claim_at (take p H) c)) (not (is_ended (take p H) c)) o).1)).0)
       where
         parts : take d H ++ drop d (take p H) ≡ take p H
         parts = ap (λ z. z ++ drop d (take p H)) (sym (take_take H d p w)) ∙ take_drop (take p H) d

@@ -8,25 +8,22 @@ use Rattle.log_laws.specs.LogLaws.{left_by}
 use Rattle.log_laws.proofs.Libraries.{text_last, stamp_after_last, stamp_past}
 use Rattle.board_meaning.specs.Events.{Entry, History, edit_in, log_of, library_after, version_after, stamp_after}
 use Rattle.board_meaning.specs.Standing.{is_edit_of, is_edited}
+use Rattle.std.proofs.lemmas.List.Elements.{filter_map-append}
 
 cons_append : {A : Type 0} (o : Option A) (xs ys : List A) → cons_option o (xs ++ ys) ≡ cons_option o xs ++ ys
 cons_append None xs ys = refl
 cons_append (Some x) xs ys = refl
-
-pub filter_map_append : {A B : Type 0} (f : A → Option B) (xs ys : List A) → filter_map f (xs ++ ys) ≡ filter_map f xs ++ filter_map f ys
-filter_map_append f [] ys = refl
-filter_map_append f (x ∷ xs) ys = ap (cons_option (f x)) (filter_map_append f xs ys) ∙ cons_append (f x) (filter_map f xs) (filter_map f ys)
 
 one_option : {A : Type 0} (o : Option A) → cons_option o [] ≡ option_to_list o
 one_option None = refl
 one_option (Some x) = refl
 
 pub filter_map_last : {A B : Type 0} (f : A → Option B) (xs : List A) (x : A) → filter_map f (xs ++ x ∷ []) ≡ filter_map f xs ++ option_to_list (f x)
-filter_map_last f xs x = filter_map_append f xs (x ∷ []) ∙ ap (λ z. filter_map f xs ++ z) (one_option (f x))
+filter_map_last f xs x = filter_map-append f xs (x ∷ []) ∙ ap (λ z. filter_map f xs ++ z) (one_option (f x))
 
 pub log_append : (H K : History) → log_of (H ++ K) ≡ log_of H ++ log_of K
 unfolding log_of
-log_append H K = filter_map_append edit_in H K
+log_append H K = filter_map-append edit_in H K
 
 pub log_last : (H : History) (e : Entry) → log_of (H ++ e ∷ []) ≡ log_of H ++ option_to_list (edit_in e)
 unfolding log_of

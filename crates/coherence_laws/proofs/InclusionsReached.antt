@@ -15,7 +15,6 @@ use Rattle.library_meaning.specs.Closure.{sees, with_inclusion, closure_of}
 use Rattle.library_laws.specs.ClosureLaws.{Brings}
 use Rattle.library_laws.proofs.ClosureMembers.{closure_member, closure_new, closure_same}
 use Rattle.expansion_meaning.specs.Values.{expand_class}
-use Rattle.expansion_laws.proofs.Binding.{came_by}
 use Rattle.link_meaning.specs.Refusals.{labelled}
 use Rattle.link_meaning.specs.Passes.{link_map}
 use Rattle.link_laws.proofs.Covered.{good_same}
@@ -31,6 +30,7 @@ use Rattle.coherence_laws.proofs.ModulesHold.{known_by_test, theory_there}
 use Rattle.coherence_laws.proofs.Transfer.{theory_same}
 use Rattle.coherence_laws.proofs.LibrariesHold.{told, sound, tells_more, accepted_theory, library_coherent}
 use Rattle.coherence_laws.proofs.AcceptedTrees.{FromDeclarations, from_declarations, FromLibrary, from_library, theory_verdict}
+use Rattle.list_laws.proofs.Answers.{came_by}
 
 -- ---- one module
 

@@ -14,8 +14,9 @@ use Rattle.expansion_meaning.specs.NameHeads.{Level, Objects, Families, level_of
 use Rattle.expansion_meaning.specs.Expansion.{span_of, lambda_at, domain_of, object_at, expand_object, expand_head, expand_arguments, expand_family, expand_kind}
 use Rattle.translation_meaning.specs.AtomicFamilies.{IsAtomicFamily}
 use Rattle.expansion_meaning.specs.Stands.{StandsObject, StandsHead, StandsArguments, StandsFamily, StandsKind}
-use Rattle.expansion_laws.proofs.Binding.{goes_by, must_by, there_by}
+use Rattle.expansion_laws.proofs.Binding.{must_by, there_by}
 use Rattle.expansion_laws.proofs.NamesStand.{level_kept, name_complete}
+use Rattle.list_laws.proofs.Answers.{goes_by}
 
 pub object_at_complete : (span : Span) (family : Family) (object : Object) → IsAtomicFamily family → object_at span family (ObjectHead object family) ≡ Ok object
 object_at_complete span (Pi domain codomain) object a = absurd a

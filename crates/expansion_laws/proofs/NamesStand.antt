@@ -12,7 +12,9 @@ use Rattle.answer_meaning.specs.Answers.{◌>>=◌}
 use Rattle.expansion_meaning.specs.Locals.{Locals, variables_of, family_at}
 use Rattle.expansion_meaning.specs.NameHeads.{Level, Objects, Families, level_of, same_level, variable_head, resolved_head, name_head}
 use Rattle.expansion_meaning.specs.Stands.{BeginsAs, NameStands}
-use Rattle.expansion_laws.proofs.Binding.{came_by, goes_by, ok_same, some_same, must_holds, must_by}
+use Rattle.expansion_laws.proofs.Binding.{must_holds, must_by}
+use Rattle.std.proofs.lemmas.Option.{same_Some}
+use Rattle.list_laws.proofs.Answers.{came_by, goes_by, ok_same}
 
 pub same_level_sound : (level other : Level) → same_level level other ≡ true → level ≡ other
 same_level_sound Objects Objects h = refl
@@ -78,7 +80,7 @@ name_complete level scope locals span path head n l =
 
 -- a name begins as one head, of whichever level
 begins_once : (locals : Locals) (resolved : Resolved) (head other : Head) → BeginsAs locals resolved head → BeginsAs locals resolved other → head ≡ other
-begins_once locals (Variable index) head other b c = b.2 ∙ ap (ObjectHead (At (Var index))) (some_same (sym b.1 ∙ c.1)) ∙ sym c.2
+begins_once locals (Variable index) head other b c = b.2 ∙ ap (ObjectHead (At (Var index))) (same_Some _ _ (sym b.1 ∙ c.1)) ∙ sym c.2
 begins_once locals (Declared declaration) head other b c = b ∙ sym c
 begins_once locals Unknown head other b c = absurd b
 begins_once locals Ambiguous head other b c = absurd b

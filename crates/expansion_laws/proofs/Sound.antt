@@ -14,8 +14,9 @@ use Rattle.expansion_meaning.specs.NameHeads.{Level, Objects, Families, level_of
 use Rattle.expansion_meaning.specs.Expansion.{span_of, lambda_at, domain_of, object_at, family_at_type, expand_object, expand_head, expand_arguments, expand_family, expand_kind}
 use Rattle.translation_meaning.specs.AtomicFamilies.{IsAtomicFamily}
 use Rattle.expansion_meaning.specs.Stands.{StandsObject, StandsHead, StandsArguments, StandsFamily, StandsKind}
-use Rattle.expansion_laws.proofs.Binding.{came_by, ok_same, must_holds, there}
+use Rattle.expansion_laws.proofs.Binding.{must_holds, there}
 use Rattle.expansion_laws.proofs.NamesStand.{level_kept, name_sound}
+use Rattle.list_laws.proofs.Answers.{came_by, ok_same}
 
 -- a head that is answered as an object, or as a family
 pub record ObjectAt (family : Family) (head : Head) (object : Object) : Type 0 where

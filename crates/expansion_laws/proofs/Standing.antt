@@ -6,11 +6,11 @@ use Rattle.text_meaning.specs.Trees.{Expr, TypeExpr, NameExpr, AppExpr, PiExpr, 
 use Rattle.expansion_meaning.specs.Locals.{Locals}
 use Rattle.expansion_meaning.specs.Stands.{StandsHead, StandsArguments}
 use Rattle.expansion_laws.specs.ExpansionLaws.{ObjectsStand, HeadsStand, ArgumentsStand, FamiliesStand, KindsStand, ClassesStand, FamilyValuesStand, ValuesStand, OneObject, OneHead, OneHeadTaken, OneFamily, OneKind, OneClass, OneFamilyValue, OneValue}
-use Rattle.expansion_laws.proofs.Binding.{ok_same}
 use Rattle.expansion_laws.proofs.NamesStand.{one_name}
 use Rattle.expansion_laws.proofs.Sound.{object_sound, head_sound, arguments_sound, family_sound, kind_sound}
 use Rattle.expansion_laws.proofs.Complete.{object_complete, head_complete, arguments_complete, family_complete, kind_complete}
 use Rattle.expansion_laws.proofs.ValuesStand.{class_sound, class_complete, family_value_sound, family_value_complete, value_sound, value_complete}
+use Rattle.list_laws.proofs.Answers.{ok_same}
 
 pub objects_stand : ObjectsStand
 objects_stand scope locals e family object = (object_sound e scope locals family object, object_complete e scope locals family object)

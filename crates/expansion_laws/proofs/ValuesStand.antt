@@ -18,10 +18,11 @@ use Rattle.expansion_meaning.specs.NameHeads.{Families, same_level, name_head}
 use Rattle.expansion_meaning.specs.Expansion.{span_of, expand_head, expand_arguments, expand_object, expand_family, expand_kind}
 use Rattle.expansion_meaning.specs.Values.{ends_in_type, class_by, expand_class, lambda_at_kind, family_at_kind, expand_family_value, class_level, resolved_declaration, named_value, built_value, expand_value}
 use Rattle.expansion_meaning.specs.Stands.{StandsHead, StandsArguments, StandsClass, StandsFamily, StandsFamilyValue, NameGives, BuildsValue, StandsValue}
-use Rattle.expansion_laws.proofs.Binding.{came_by, goes_by, ok_same, must_holds, must_by}
+use Rattle.expansion_laws.proofs.Binding.{must_holds, must_by}
 use Rattle.expansion_laws.proofs.NamesStand.{same_level_itself, name_sound, name_complete}
 use Rattle.expansion_laws.proofs.Sound.{FamilyAt, family_at_sound, object_sound, head_sound, arguments_sound, family_sound, kind_sound}
 use Rattle.expansion_laws.proofs.Complete.{object_complete, head_complete, arguments_complete, arguments_keep, family_complete, kind_complete}
+use Rattle.list_laws.proofs.Answers.{came_by, goes_by, ok_same}
 
 -- ---- classes
 

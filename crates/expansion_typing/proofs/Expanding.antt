@@ -20,7 +20,6 @@ use Rattle.expansion_meaning.specs.Locals.{Local, Locals, with_local, variables_
 use Rattle.expansion_meaning.specs.NameHeads.{class_head}
 use Rattle.translation_meaning.specs.AtomicFamilies.{IsAtomicFamily}
 use Rattle.expansion_meaning.specs.Stands.{BeginsAs, NameStands, StandsObject, StandsHead, StandsArguments, StandsFamily, StandsKind, StandsClass, StandsFamilyValue, NameGives, BuildsValue, StandsValue}
-use Rattle.expansion_laws.proofs.Binding.{some_same}
 use Rattle.holding_laws.specs.HoldingLaws.{Grows}
 use Rattle.holding_laws.specs.ExpansionHolds.{scope_signature}
 use Rattle.holding_laws.proofs.Declared.{place_of, class_in}
@@ -32,18 +31,19 @@ use Rattle.translation_typing.proofs.TypedHeads.{family_whole}
 use Rattle.translation_typing.proofs.Grown.{declaration_more}
 use Rattle.expansion_typing.specs.TypingOfHeads.{HeadTyped}
 use Rattle.expansion_typing.proofs.HeadsTyped.{object_checks, head_taken, domain_typed}
+use Rattle.std.proofs.lemmas.Option.{same_Some}
 
 local_there : (locals : Locals) (index : ℕ) (family : Family) → family_at locals index ≡ Some family → (own : Family) × (slice_get (context_of locals) index ≡ Some own) × (family ≡ raise_family (suc index) 0 own)
 local_there locals index family h = by locals index (slice_get locals index) refl h
   where
     at : (xs : Locals) (i : ℕ) (own : Local) → slice_get xs i ≡ Some own → slice_get (context_of xs) i ≡ Some own.family
     at [] i own e = absurd (cc)
-    at (x ∷ xs) zero own e = ap (λ (z : Local). Some z.family) (some_same e)
+    at (x ∷ xs) zero own e = ap (λ (z : Local). Some z.family) (same_Some _ _ e)
     at (x ∷ xs) (suc i) own e = at xs i own e
 
     by : (xs : Locals) (i : ℕ) (o : Option Local) → slice_get xs i ≡ o → option_map (λ (own : Local). raise_family (suc index) 0 own.family) o ≡ Some family → (own : Family) × (slice_get (context_of xs) i ≡ Some own) × (family ≡ raise_family (suc index) 0 own)
     by xs i None e g = absurd (cc)
-    by xs i (Some own) e g = (own.family, at xs i own e, some_same (sym g))
+    by xs i (Some own) e g = (own.family, at xs i own e, same_Some _ _ (sym g))
 
 -- what a signature knows of a declaration
 pub record DeclaredTyped (sig : Signature) (d : Declaration) : Type 0 where

@@ -10,7 +10,6 @@ use Rattle.library_meaning.specs.Faces.{StructureFace, TheoryFace, ViewFace, IsA
 use Rattle.library_meaning.specs.Coherence.{IsCoherentTheory, IsCoherent}
 use Rattle.text_meaning.specs.Trees.{Expr, Written, Assign, Decl, IncludeDecl, StructDecl, ConstDecl, first_name}
 use Rattle.expansion_meaning.specs.Values.{expand_class, expand_value}
-use Rattle.expansion_laws.proofs.Binding.{came_by, some_same}
 use Rattle.expansion_laws.proofs.ValuesStand.{class_sound, value_sound}
 use Rattle.expansion_typing.specs.TypingOfExpansion.{IsTypedScope}
 use Rattle.expansion_typing.proofs.Expanding.{standing_class_is_class, standing_value_fits}
@@ -29,6 +28,8 @@ use Rattle.row_typing.specs.TypedLinks.{HereTyped}
 use Rattle.link_typing.proofs.LinkInterface.{LinksAreTyped}
 use Rattle.link_typing.proofs.BetweenTyped.{between_typed}
 use Rattle.face_typing.proofs.TheoriesTyped.{inclusion_typed, constant_typed, structure_typed}
+use Rattle.std.proofs.lemmas.Option.{same_Some}
+use Rattle.list_laws.proofs.Answers.{came_by}
 
 module _ (links : LinksAreTyped) (environment : Environment) (coherent : IsCoherent environment) (typed : IsTypedEnvironment environment) where
   -- ---- a theory
@@ -37,8 +38,8 @@ module _ (links : LinksAreTyped) (environment : Environment) (coherent : IsCoher
     here_typed : HereTyped environment (Some here)
     here_typed =
         record {
-          signature = λ face e. subst (λ (z : TheoryFace). IsSignature (flat_signature environment z)) (some_same e) t.signature;
-          structures = λ face e. subst (λ (z : TheoryFace). (i : ℕ) (x : StructureFace) → slice_get z.structures i ≡ Some x → IsTypedMap (flat_of environment x.domain) (flat_signature environment z) x.map) (some_same e) t.maps;
+          signature = λ face e. subst (λ (z : TheoryFace). IsSignature (flat_signature environment z)) (same_Some _ _ e) t.signature;
+          structures = λ face e. subst (λ (z : TheoryFace). (i : ℕ) (x : StructureFace) → slice_get z.structures i ≡ Some x → IsTypedMap (flat_of environment x.domain) (flat_signature environment z) x.map) (same_Some _ _ e) t.maps;
         }
 
     scope_typed : IsTypedScope (scope_in environment here)

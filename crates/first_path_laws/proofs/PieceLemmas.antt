@@ -5,6 +5,7 @@ use Rattle.std.specs.List.{list_all}
 use Rattle.std.proofs.lemmas.Bool.Decides.{nat_tests}
 use Rattle.name_meaning.specs.Characters.{is_white_space, is_special, is_identifier_byte}
 use Rattle.first_path_meaning.specs.Pieces.{Piece, is_run_piece, onto_run, pieces_from}
+use Rattle.list_laws.proofs.Booleans.{neither}
 
 -- every byte is one of an identifier
 abbrev pub AllIdentifier : List ℕ → Type 0
@@ -19,11 +20,6 @@ pub AllIdentifier-from_list_all : (bs : List ℕ) → list_all is_identifier_byt
 AllIdentifier-from_list_all [] e = tt
 AllIdentifier-from_list_all (b ∷ bs) e =
     let both = both_true (is_identifier_byte b) (list_all is_identifier_byte bs) e in (both.0, AllIdentifier-from_list_all bs both.1)
-
-neither : (a b : Bool) → not (a || b) ≡ true → (a ≡ false) × (b ≡ false)
-neither true b e = absurd cc
-neither false true e = absurd cc
-neither false false e = (refl, refl)
 
 -- the first piece begins at the place or behind it
 abbrev StartsFrom : ℕ → List Piece → Type 0

@@ -90,10 +90,6 @@ module _ (signature : Signature) (f : ℕ → Object → Object) (Place : ℕ �
   kind_map Ty n v w p h = tt
   kind_map (PiKind domain kind) n v w p h = (family_map domain n v w p h.0, kind_map kind (suc n) (suc v) (suc w) (under n v w p) h.1)
 
-pub domains_map : (f : ℕ → Object → Object) (n : ℕ) (k : Kind) → domain_count (map_kind f n k) ≡ domain_count k
-domains_map f n Ty = refl
-domains_map f n (PiKind domain kind) = ap suc (domains_map f (suc n) kind)
-
 -- ---- substitution
 
 -- outside the variable stand so many others

@@ -4,7 +4,7 @@ use Rattle.std.specs.Str.{is_utf8, chars}
 use Rattle.std.specs.Str.Lossy.{utf8_valid_len}
 use Rattle.name_meaning.specs.Names.{is_among, with_name, with_names, is_ascending}
 use Rattle.log_meaning.specs.Log.{with_module, without_module, text_of, library_of}
-use Rattle.walk_meaning.specs.Walks.{direct, walking, is_ungrounded}
+use Rattle.walk_meaning.specs.Walks.{direct, walking, is_ungrounded, ungrounded_names}
 use Rattle.walk_meaning.specs.Reach.{reach_within, reach}
 use Rattle.lf_meaning.specs.HeadMaps.{image_of}
 use Rattle.translation_meaning.specs.Translation.{translate_object, translate_head, translate_family, translate_kind, translate_value, compose}
@@ -25,7 +25,7 @@ use Rattle.link_meaning.specs.Passes.{rest_behind, reached_by, map_all, assigned
 use Rattle.text_meaning.specs.Dependencies.{dependencies}
 use Rattle.verdict_meaning.specs.Modules.{declare_all}
 use Rattle.verdict_meaning.specs.Verdicts.{judge}
-use Rattle.verdict_meaning.specs.Rounds.{verdict_under, others_reached, ungrounded_names, rounds, verdicts, verdict_of}
+use Rattle.verdict_meaning.specs.Rounds.{verdict_under, others_reached, rounds, verdicts, verdict_of}
 use Rattle.std.specs.Fmt.{digits}
 use lib.Utf8.{encode}
 use Rattle.output_meaning.specs.Lines.{lines_of}

@@ -6,6 +6,7 @@ use Rattle.name_meaning.specs.Names.{Name, same_name}
 use Rattle.lf_meaning.specs.Terms.{Constant, Object, Lam, At, Atomic, Var, Con, App, Family, Pi, AtFamily, AtomicFamily, FamilyCon, FamilyApp, Kind, Ty, PiKind}
 use Rattle.lf_meaning.specs.Signatures.{same_constant, Class, FamilyClass, KindClass, Value, SameAs, TermValue, FamilyValue}
 use Rattle.lf_meaning.specs.Equality.{same_object, same_atomic, same_atomic_family, same_family, same_kind, same_class, same_value}
+use Rattle.name_laws.proofs.Order.{same_sound, same_itself}
 
 module _ {A : Type 0} (test : A → A → Bool) where
   pub pointwise_sound : ((x y : A) → test x y ≡ true → x ≡ y) → (xs ys : List A) → pointwise test xs ys ≡ true → xs ≡ ys
@@ -18,19 +19,13 @@ module _ {A : Type 0} (test : A → A → Bool) where
   pointwise_itself f [] = refl
   pointwise_itself f (x ∷ xs) = and_from (test x x) (pointwise test xs xs) (f x) (pointwise_itself f xs)
 
-pub same_name_sound : (n m : Name) → same_name n m ≡ true → n ≡ m
-same_name_sound = pointwise_sound nat_eq eqb-true
-
-pub same_name_itself : (n : Name) → same_name n n ≡ true
-same_name_itself = pointwise_itself nat_eq (λ x. eq-eqb x x refl)
-
 pub same_constant_sound : (c d : Constant) → same_constant c d ≡ true → c ≡ d
 same_constant_sound c d h =
     let p = and_parts (same_name c.theory d.theory) (pointwise same_name c.path d.path) h in
-    ap₂ (λ t q. record { theory = t; path = q }) (same_name_sound c.theory d.theory p.0) (pointwise_sound same_name same_name_sound c.path d.path p.1)
+    ap₂ (λ t q. record { theory = t; path = q }) (same_sound c.theory d.theory p.0) (pointwise_sound same_name same_sound c.path d.path p.1)
 
 pub same_constant_itself : (c : Constant) → same_constant c c ≡ true
-same_constant_itself c = and_from (same_name c.theory c.theory) (pointwise same_name c.path c.path) (same_name_itself c.theory) (pointwise_itself same_name same_name_itself c.path)
+same_constant_itself c = and_from (same_name c.theory c.theory) (pointwise same_name c.path c.path) (same_itself c.theory) (pointwise_itself same_name same_itself c.path)
 
 mutual
   pub same_object_sound : (m n : Object) → same_object m n ≡ true → m ≡ n

@@ -3,3 +3,4 @@ pub mod Lookups
 pub mod SpineSynthesis
 pub mod Spines
 pub mod Substituted
+pub mod Declarations

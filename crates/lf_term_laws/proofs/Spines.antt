@@ -1,7 +1,7 @@
 -- A row of arguments taken at once is the arguments taken one by one.
 use Rattle.std.proofs.Common.{◌≡◌, ℕ, suc, ◌+◌, ◌<◌, ◌≤◌, List, [], ◌∷◌, ◌++◌, length, map, refl, ap, ◌∙◌, arith}
-use Rattle.lf_meaning.specs.Terms.{Constant, Object, Lam, At, Atomic, Var, Con, App, AtomicFamily, FamilyApp, Simple, Base, Arrow, apply_all, family_apply_all, argument_count, family_argument_count}
-use Rattle.lf_meaning.specs.Raising.{raise, raise_atomic, map_atomic_family}
+use Rattle.lf_meaning.specs.Terms.{Constant, Object, Lam, At, Atomic, Var, Con, App, AtomicFamily, FamilyApp, Kind, Ty, PiKind, Simple, Base, Arrow, apply_all, family_apply_all, argument_count, family_argument_count, domain_count}
+use Rattle.lf_meaning.specs.Raising.{raise, raise_atomic, map_atomic_family, map_kind}
 use Rattle.lf_meaning.specs.Erasure.{head_constant}
 use Rattle.lf_meaning.specs.Replacement.{Headed, Kept, Replaced, object_of, takes, takes_all, Replacement, replace, replace_head}
 use Rattle.lf_meaning.specs.Substitution.{substitution, action, substitute, Typed, app, reduce_typed, reduce}
@@ -91,3 +91,8 @@ argument_count_applied r (m ∷ ms) = argument_count_applied (App r m) ms ∙ om
 pub family_argument_count_applied : (p : AtomicFamily) (ms : List Object) → family_argument_count (family_apply_all p ms) ≡ family_argument_count p + length ms
 family_argument_count_applied p [] = omega arith
 family_argument_count_applied p (m ∷ ms) = family_argument_count_applied (FamilyApp p m) ms ∙ omega arith
+
+-- a function on the objects of a kind leaves its domains as many
+pub domains_map : (f : ℕ → Object → Object) (n : ℕ) (k : Kind) → domain_count (map_kind f n k) ≡ domain_count k
+domains_map f n Ty = refl
+domains_map f n (PiKind domain kind) = ap suc (domains_map f (suc n) kind)

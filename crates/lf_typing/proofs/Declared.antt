@@ -3,15 +3,11 @@ use Rattle.std.proofs.Common.{◌≡◌, [], ◌∷◌, ◌++◌, Option, Some, 
 use Rattle.lf_meaning.specs.Terms.{Constant}
 use Rattle.lf_meaning.specs.Signatures.{Class, Value, Declaration, Signature, same_constant, declaration_of, undefined_class, declared_class, class_of}
 use Rattle.lf_meaning.specs.Judgements.{IsClass, IsSignature}
+use Rattle.lf_term_laws.proofs.Declarations.{undefined_is, declaration_front}
 
 keep_found : (b : Bool) (d e : Declaration) (x y : Option Declaration) → (x ≡ Some e → y ≡ Some e) → cond b (Some d) x ≡ Some e → cond b (Some d) y ≡ Some e
 keep_found true d e x y f h = h
 keep_found false d e x y f h = f h
-
--- a declaration is found too where more are behind
-pub declaration_more : (sig more : Signature) (c : Constant) (d : Declaration) → declaration_of sig c ≡ Some d → declaration_of (sig ++ more) c ≡ Some d
-declaration_more [] more c d h = absurd (cc)
-declaration_more (e ∷ sig) more c d h = keep_found (same_constant e.name c) e d (declaration_of sig c) (declaration_of (sig ++ more) c) (declaration_more sig more c d) h
 
 -- a found declaration with what stands before and behind it
 pub record FoundIn (sig : Signature) (d : Declaration) : Type 0 where
@@ -47,11 +43,7 @@ declared_as sig c k h = declared_by sig c k (declaration_of sig c) refl h
 pub class_more : (sig more : Signature) (c : Constant) (k : Class) → class_of sig c ≡ Some k → class_of (sig ++ more) c ≡ Some k
 class_more sig more c k h =
     let d : DeclaredAs sig c k = declared_as sig c k h in
-    ap declared_class (declaration_more sig more c d.declaration d.found) ∙ d.classified
-
-undefined_is : (v : Option Value) (class k : Class) → undefined_class v class ≡ Some k → class ≡ k
-undefined_is None class k h = cc
-undefined_is (Some v) class k h = absurd (cc)
+    ap declared_class (declaration_front sig more c d.declaration d.found) ∙ d.classified
 
 -- In a well-typed signature the classifier of a constant is one over declarations that come first.
 pub record ClassIn (sig : Signature) (k : Class) : Type 0 where

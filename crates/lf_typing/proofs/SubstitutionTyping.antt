@@ -19,13 +19,11 @@ use Rattle.lf_typing.proofs.Closed.{substitute_class_family, substitute_class_ki
 use Rattle.lf_typing.proofs.Weakening.{raise_checks, length_map_context, MappedAt, mapped_at, same_tail}
 use Rattle.lf_typing.proofs.Regular.{IsSortedContext, context_sorted, synthesised_sorted, synthesised_kind_sorted, erase_split, length_erased, erase_mapped, substitute_sorted_context}
 use Rattle.lf_substitution_laws.proofs.SortedFamilies.{substitute_keeps_sorted}
+use Rattle.std.proofs.lemmas.Option.{same_Some}
 
 -- substitution at the simple type keeps typing
 abbrev pub KeepsTyping : Simple → Type 0
 KeepsTyping s = (sig : Signature) → IsSignature sig → (after before : Context) (v : Object) (a : Family) (m : Object) (b : Family) → erase a ≡ s → IsSortedContext (sorts_of sig) (after ++ (a ∷ before)) → Checks sig before v a → IsSortedFamily (sorts_of sig) (erase_context (after ++ (a ∷ before))) b → Checks sig (after ++ (a ∷ before)) m b → Checks sig (substitute_context v s after ++ before) (substitute v s (length after) m) (substitute_family v s (length after) b)
-
-some_is : {A : Type 0} {x y : A} → Some x ≡ Some y → x ≡ y
-some_is e = cc
 
 -- A headed result at a family: a kept head synthesises it; a value checks against it and does at
 -- its arguments what the family's erasure says, with substitution at each of its domains keeping
@@ -92,7 +90,7 @@ module _ (sig : Signature) (typed : IsSignature sig) (before : Context) (v : Obj
     variable_at : (after : Context) (b : Family) → VariableHas (whole after) (length after) b → HeadedTyped sig (done after) (Replaced (raise (length after) 0 v) (action s)) (substitute_family v s (length after) b)
     variable_at after b h =
         let n : ℕ = length after in
-        let same : a ≡ h.family = some_is (sym (get_at after before a) ∙ h.found) in
+        let same : a ≡ h.family = same_Some _ _ (sym (get_at after before a) ∙ h.found) in
         let is : substitute_family v s n b ≡ raise_family n 0 a = ap (substitute_family v s n) (h.is ∙ ap (raise_family (suc n) 0) (sym same)) ∙ substitute_raised_family n v s n 0 a (omega arith) (omega arith) in
         let sort_is : s ≡ erase (raise_family n 0 a) = sym erased ∙ sym (erase_map (raise n) 0 a) in
         let checks : Checks sig (done after) (raise n 0 v) (raise_family n 0 a) = subst (λ k. Checks sig (done after) (raise k 0 v) (raise_family k 0 a)) (length_map_context (substitute v s) after) (raise_checks sig typed (substitute_context v s after) before [] v a value) in

@@ -8,6 +8,7 @@ use Rattle.library_meaning.specs.Faces.{own_part}
 use Rattle.library_meaning.specs.Closure.{sees}
 use Rattle.library_meaning.specs.Resolution.{Scope, Variables, is_variable, variable_from, bound_variable, own_at, qualified, included_at, the_only, Resolved, Variable, Declared, Unknown, Ambiguous, or_variable, or_declared, resolve}
 use Rattle.library_meaning.specs.StandsFor.{IsBound, IsOwn, IsQualified, IsIncluded, IsOnly, AreTwo, NoneHas, IsElsewhere, ByOwn, ByQualified, ByIncluded, StandsFor}
+use Rattle.list_laws.proofs.Options.{clash}
 
 -- ---- the first element that gives something
 
@@ -209,9 +210,6 @@ module _ (scope : Scope) (path : Path) where
 
 -- ---- all four cases
 
-clash_some : {X : Type 0} {x : X} (o : Option X) → o ≡ None → o ≡ Some x → ⊥
-clash_some o h g = absurd (cc)
-
 module _ (scope : Scope) (variables : Variables) (path : Path) where
   Answers : Resolved → Type 0
   Answers r = StandsFor scope variables path r × ((other : Resolved) → StandsFor scope variables path other → other ≡ r)
@@ -257,7 +255,7 @@ module _ (scope : Scope) (variables : Variables) (path : Path) where
       f = bound_none variables path h
 
       not_own : NoneHas (IsOwn scope path)
-      not_own e p = clash_some (own_at scope.own path) n p
+      not_own e p = clash (own_at scope.own path) n p
 
       q : IsQualified scope path d
       q = qualified_some scope path d o
@@ -278,7 +276,7 @@ module _ (scope : Scope) (variables : Variables) (path : Path) where
   by_included h n m list e = by list e
     where
       elsewhere : IsElsewhere scope variables path
-      elsewhere = record { free = bound_none variables path h; not_own = λ d p. clash_some (own_at scope.own path) n p; not_qualified = λ d p. clash_some (qualified scope path) m (qualified_is scope path d p) }
+      elsewhere = record { free = bound_none variables path h; not_own = λ d p. clash (own_at scope.own path) n p; not_qualified = λ d p. clash (qualified scope path) m (qualified_is scope path d p) }
 
       not_variable : (r : Resolved) → ((d : Declaration) → IsOnly scope path d → Declared d ≡ r) → (((place : ℕ) → NoneHas (IsIncluded scope path place)) → Unknown ≡ r) → (AreTwo scope path → Ambiguous ≡ r) → (other : Resolved) → StandsFor scope variables path other → other ≡ r
       not_variable r a b c (Variable i) s = absurd (elsewhere.free i s)

@@ -5,19 +5,20 @@ use Rattle.std.specs.Prelude.{⊤}
 use Rattle.name_meaning.specs.Names.{Name}
 use Rattle.lf_meaning.specs.Signatures.{Value, Declaration, Signature}
 use Rattle.lf_term_laws.proofs.Equality.{same_value_sound, same_value_itself}
-use Rattle.list_laws.proofs.Members.{Member, find_none}
+use Rattle.list_laws.proofs.Members.{Member, find_none, in_option, option_first, option_rest}
 use Rattle.lf_meaning.specs.HeadMaps.{HeadMap}
 use Rattle.translation_meaning.specs.Differ.{value_in, agree, agree_on, differ_from, differ}
 use Rattle.library_meaning.specs.Faces.{own_part}
 use Rattle.library_meaning.specs.Words.{Link}
 use Rattle.text_meaning.specs.Tokens.{Span}
 use Rattle.expansion_meaning.specs.Rules.{Rule}
-use Rattle.expansion_laws.proofs.Binding.{came_by, goes_by, some_same}
 use Rattle.link_meaning.specs.Refusals.{Outcome, or_refused}
 use Rattle.link_meaning.specs.Assignments.{Setting, is_or_includes, Assigned, Covering, Sharing, Giving}
 use Rattle.link_meaning.specs.Coverings.{Cover, cover_if, cover_by, covers_of, is_identity_covering, identity_on, first_map, covering_by, first_covering, disagrees, none_disagrees, covered_test, value_by, covered_value}
 use Rattle.link_meaning.specs.Equations.{IsCovering, ByIdentity, ByAssignment, CoveringsGive}
 use Rattle.link_laws.proofs.Listing.{placed, member_at}
+use Rattle.std.proofs.lemmas.Option.{same_Some}
+use Rattle.list_laws.proofs.Answers.{came_by, goes_by}
 
 -- ---- outcomes
 
@@ -63,18 +64,6 @@ all_agree place a b (c ∷ ds) h = ap (λ t. cond t (differ_from (suc place) a b
 
 -- ---- members of what is filtered and mapped
 
-in_option : {B : Type 0} (o : Option B) (ys : List B) (y : B) → Member y (cons_option o ys) → (o ≡ Some y) ⊎ Member y ys
-in_option None ys y m = inr m
-in_option (Some x) ys y (inl e) = inl (ap Some (sym e))
-in_option (Some x) ys y (inr m) = inr m
-
-option_first : {B : Type 0} (o : Option B) (ys : List B) (y : B) → o ≡ Some y → Member y (cons_option o ys)
-option_first o ys y e = subst (λ z. Member y (cons_option z ys)) (sym e) (inl refl)
-
-option_rest : {B : Type 0} (o : Option B) (ys : List B) (y : B) → Member y ys → Member y (cons_option o ys)
-option_rest None ys y m = m
-option_rest (Some x) ys y m = inr m
-
 pub in_filter_map : {A B : Type 0} (f : A → Option B) (xs : List A) (y : B) → Member y (filter_map f xs) → (x : A) × Member x xs × (f x ≡ Some y)
 in_filter_map f [] y m = absurd m
 in_filter_map f (x ∷ xs) y m = by (in_option (f x) (filter_map f xs) y m) (in_filter_map f xs y)
@@ -90,7 +79,7 @@ filter_map_in f (z ∷ xs) x y (inr m) e = option_rest (f z) (filter_map f xs) y
 
 module _ (setting : Setting) (assigned : List Assigned) (theory : Name) where
   cover_if_is : (b : Bool) (first : Span) (along : HeadMap) (cover : Cover) → cover_if b first along ≡ Some cover → (b ≡ true) × (cover.map ≡ along)
-  cover_if_is true first along cover h = (refl, ap (λ z. z.map) (sym (some_same h)))
+  cover_if_is true first along cover h = (refl, ap (λ z. z.map) (sym (same_Some _ _ h)))
   cover_if_is false first along cover h = absurd (cc)
 
   by_assigned : (a : Assigned) (place : ℕ) (cover : Cover) → slice_get assigned place ≡ Some a → cover_by setting.environment theory a ≡ Some cover → IsCovering setting assigned theory cover.map
@@ -113,14 +102,14 @@ module _ (setting : Setting) (assigned : List Assigned) (theory : Name) where
 
   first_map_is : (covers : List Cover) (along : HeadMap) → first_map covers ≡ Some along → (cover : Cover) × Member cover covers × (cover.map ≡ along)
   first_map_is [] along h = absurd (cc)
-  first_map_is (cover ∷ covers) along h = (cover, inl refl, some_same h)
+  first_map_is (cover ∷ covers) along h = (cover, inl refl, same_Some _ _ h)
 
   first_map_some : (covers : List Cover) (cover : Cover) → Member cover covers → (along : HeadMap) × (first_map covers ≡ Some along)
   first_map_some [] cover m = absurd m
   first_map_some (x ∷ covers) cover m = (x.map, refl)
 
   first_by : (b : Bool) (along : HeadMap) → is_identity_covering setting assigned theory ≡ b → covering_by setting assigned theory b ≡ Some along → IsCovering setting assigned theory along
-  first_by true along e h = ByIdentity e (sym (some_same h))
+  first_by true along e h = ByIdentity e (sym (same_Some _ _ h))
   first_by false along e h =
       let f = first_map_is (covers_of setting assigned theory) along h in
       subst (IsCovering setting assigned theory) f.2 (cover_is_covering f.0 f.1)

@@ -6,11 +6,12 @@ use Rattle.list_laws.proofs.Places.{take_front, take_length}
 use Rattle.lf_meaning.specs.HeadMaps.{Mapping, HeadMap}
 use Rattle.translation_meaning.specs.Translation.{translate_class}
 use Rattle.library_meaning.specs.Coherence.{declared_names, mapped_names, DeclarationsHold}
-use Rattle.expansion_laws.proofs.Binding.{came_by, goes_by, ok_same, some_same}
 use Rattle.link_meaning.specs.Assignments.{Setting, Assigned}
 use Rattle.link_meaning.specs.Passes.{is_own, image_by, image_value, mapping_to, map_all}
 use Rattle.link_laws.proofs.Agreeing.{AgreeOn, classes_alike, definitions_alike}
 use Rattle.link_laws.proofs.Listing.{images_stay, first_name_same, rest_names_same}
+use Rattle.std.proofs.lemmas.Option.{same_Some}
+use Rattle.list_laws.proofs.Answers.{came_by, goes_by, ok_same}
 
 module _ (setting : Setting) (assigned : List Assigned) where
   -- the images `rest` follow, one after another, from the map so far
@@ -98,13 +99,13 @@ module _ (setting : Setting) (assigned : List Assigned) where
     where
       classes_at : (value : Value) (more : HeadMap) → Local so_far (so_far ++ rest) d → Meets (so_far ++ rest) ds more → (j : ℕ) (x : Mapping) (c : Declaration)
           → slice_get (mapping_to so_far d value ∷ more) j ≡ Some x → slice_get (d ∷ ds) j ≡ Some c → x.image.class ≡ translate_class (so_far ++ rest) c.class
-      classes_at value more l i zero x c h g = ap (λ z. z.image.class) (sym (some_same h)) ∙ l.class ∙ ap (λ z. translate_class (so_far ++ rest) z.class) (some_same g)
+      classes_at value more l i zero x c h g = ap (λ z. z.image.class) (sym (same_Some _ _ h)) ∙ l.class ∙ ap (λ z. translate_class (so_far ++ rest) z.class) (same_Some _ _ g)
       classes_at value more l i (suc j) x c h g = i.classes j x c h g
 
       values_at : (value : Value) (more : HeadMap) → image_value setting assigned so_far d ≡ Ok value → Local so_far (so_far ++ rest) d → Meets (so_far ++ rest) ds more → (j : ℕ) (x : Mapping) (c : Declaration)
           → slice_get (mapping_to so_far d value ∷ more) j ≡ Some x → slice_get (d ∷ ds) j ≡ Some c → image_value setting assigned (so_far ++ rest) c ≡ Ok x.image.value
       values_at value more is l i zero x c h g =
-          ap (image_value setting assigned (so_far ++ rest)) (sym (some_same g)) ∙ sym l.value ∙ is ∙ ap (λ z. Ok z.image.value) (some_same h)
+          ap (image_value setting assigned (so_far ++ rest)) (sym (same_Some _ _ g)) ∙ sym l.value ∙ is ∙ ap (λ z. Ok z.image.value) (same_Some _ _ h)
       values_at value more is l i (suc j) x c h g = i.values j x c h g
 
   pub meets_follows : (ds done : Signature) (so_far rest : HeadMap) → DeclarationsHold (done ++ ds) → mapped_names so_far ≡ declared_names done → Meets (so_far ++ rest) ds rest → Follows ds so_far rest

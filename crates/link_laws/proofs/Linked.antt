@@ -3,9 +3,8 @@ use Rattle.std.proofs.Common.{◌≡◌, ◌≢◌, Bool, true, false, List, [],
 use Rattle.std.specs.List.{list_all}
 use Rattle.name_meaning.specs.Names.{Name, Path, same_name}
 use Rattle.lf_meaning.specs.Signatures.{Class, Value, Declaration, Signature}
-use Rattle.lf_term_laws.proofs.Equality.{same_name_sound, same_name_itself}
 use Rattle.list_laws.proofs.Members.{Member, all_at, all_of, in_append, append_left, in_flat_map, flat_map_in}
-use Rattle.name_laws.proofs.Order.{among_member, member_among}
+use Rattle.name_laws.proofs.Order.{among_member, member_among, same_sound, same_itself}
 use Rattle.lf_meaning.specs.HeadMaps.{HeadMap}
 use Rattle.translation_meaning.specs.Translation.{translate_class, translate_value}
 use Rattle.translation_meaning.specs.Differ.{value_in, agree}
@@ -15,7 +14,6 @@ use Rattle.library_meaning.specs.Coherence.{IsCoherent, DeclarationsHold}
 use Rattle.library_meaning.specs.Words.{Link}
 use Rattle.text_meaning.specs.Tokens.{Span}
 use Rattle.expansion_meaning.specs.Rules.{Rule}
-use Rattle.expansion_laws.proofs.Binding.{came_by, goes_by, some_same}
 use Rattle.link_meaning.specs.Refusals.{or_refused, each}
 use Rattle.link_meaning.specs.Assignments.{Setting, included_theories, Assigned, Covering, Sharing, Giving, label_along, read_assigns}
 use Rattle.link_meaning.specs.Coverings.{Cover, covers_of, first_covering, covered_test, covered_tests, covered_value}
@@ -28,16 +26,18 @@ use Rattle.link_laws.proofs.Listing.{placed, member_at, each_passed, each_passes
 use Rattle.link_laws.proofs.Following.{Meets, walk_follows, follows_walk, follows_meets, meets_follows}
 use Rattle.link_laws.proofs.Covered.{good_same, there_refused, agree_sound, agree_by, cover_is_covering, first_is_covering, some_first, Tested, test_gives, test_by, coverings_give, given_covered}
 use Rattle.link_laws.proofs.Valued.{demand_holds, demand_by, own_sound, own_complete}
+use Rattle.std.proofs.lemmas.Option.{same_Some}
+use Rattle.list_laws.proofs.Answers.{came_by, goes_by}
 
 -- ---- what coherence says of a domain
 
 pub known_theory : (known : Known) (face : TheoryFace) → theory_face known ≡ Some face → known ≡ IsTheory face
 known_theory IsAbsent face h = absurd (cc)
 known_theory IsRefused face h = absurd (cc)
-known_theory (IsTheory found) face h = ap IsTheory (some_same h)
+known_theory (IsTheory found) face h = ap IsTheory (same_Some _ _ h)
 known_theory (IsView found) face h = absurd (cc)
 
-some_theory : (o : Option TheoryFace) → is_some o ≡ true → (face : TheoryFace) × (o ≡ Some face)
+pub some_theory : (o : Option TheoryFace) → is_some o ≡ true → (face : TheoryFace) × (o ≡ Some face)
 some_theory None h = absurd (true≢false (sym h))
 some_theory (Some face) h = (face, refl)
 
@@ -73,7 +73,7 @@ module _ (setting : Setting) (assigned : List Assigned) (settled : IsSettled set
   own_by d theory e n = by (is_own setting d) refl
     where
       by : (b : Bool) → is_own setting d ≡ b → b ≡ false
-      by true h = absurd (n (sym e ∙ same_name_sound d.name.theory setting.domain h))
+      by true h = absurd (n (sym e ∙ same_sound d.name.theory setting.domain h))
       by false h = refl
 
   -- a constant that is not the domain's own is one of an included theory
@@ -89,7 +89,7 @@ module _ (setting : Setting) (assigned : List Assigned) (settled : IsSettled set
       from_own : Member d (own_part setting.environment setting.domain) → Member d.name.theory (included_theories setting) × Member d (own_part setting.environment d.name.theory)
       from_own n =
           let e : d.name.theory ≡ setting.domain = own_named setting.environment settled.coherent setting.domain d n in
-          absurd (true≢false (sym (ap (λ t. same_name t setting.domain) e ∙ same_name_itself setting.domain) ∙ o))
+          absurd (true≢false (sym (ap (λ t. same_name t setting.domain) e ∙ same_itself setting.domain) ∙ o))
 
   -- ---- values
 
@@ -108,7 +108,7 @@ module _ (setting : Setting) (assigned : List Assigned) (settled : IsSettled set
 
   mapped_value : (f : Value → Value) (o : Option Value) (w : Value) → option_map f o ≡ Some w → (v : Value) × (o ≡ Some v) × (w ≡ f v)
   mapped_value f None w h = absurd (cc)
-  mapped_value f (Some v) w h = (v, refl, sym (some_same h))
+  mapped_value f (Some v) w h = (v, refl, sym (same_Some _ _ h))
 
   shares_sound : (along : HeadMap) (structure by : Link) (d : Declaration) → shares along structure by d ≡ true → IsShared along structure by d
   shares_sound along structure by d h =

@@ -6,8 +6,11 @@ use Rattle.lf_meaning.specs.Signatures.{Class, Declaration, Signature, same_cons
 use Rattle.list_laws.proofs.Members.{Member}
 use Rattle.lf_meaning.specs.HeadMaps.{Image, Mapping, HeadMap, image_of}
 use Rattle.library_meaning.specs.Coherence.{declared_names, mapped_names}
-use Rattle.expansion_laws.proofs.Binding.{came_by, goes_by, some_same}
 use Rattle.link_meaning.specs.Refusals.{Outcome, each}
+use Rattle.std.proofs.lemmas.Option.{same_Some}
+use Rattle.list_laws.proofs.Lists.{first_same, rest_same}
+use Rattle.lf_term_laws.proofs.Declarations.{declared_some, image_front}
+use Rattle.list_laws.proofs.Answers.{came_by, goes_by}
 
 module _ {A : Type 0} where
   pub placed : (xs : List A) (x : A) → Member x xs → (i : ℕ) × (slice_get xs i ≡ Some x)
@@ -17,7 +20,7 @@ module _ {A : Type 0} where
 
   pub member_at : (xs : List A) (i : ℕ) (x : A) → slice_get xs i ≡ Some x → Member x xs
   member_at [] i x h = absurd (cc)
-  member_at (y ∷ ys) zero x h = inl (sym (some_same h))
+  member_at (y ∷ ys) zero x h = inl (sym (same_Some _ _ h))
   member_at (y ∷ ys) (suc i) x h = inr (member_at ys i x h)
 
   pub each_passed : (test : A → Outcome ⊤) (xs : List A) (done : ⊤) → each test xs ≡ Ok done → (x : A) → Member x xs → test x ≡ Ok tt
@@ -28,12 +31,6 @@ module _ {A : Type 0} where
   pub each_passes : (test : A → Outcome ⊤) (xs : List A) → ((x : A) → Member x xs → test x ≡ Ok tt) → each test xs ≡ Ok tt
   each_passes test [] h = refl
   each_passes test (y ∷ ys) h = goes_by (test y) _ tt tt (h y (inl refl)) (each_passes test ys (λ x m. h x (inr m)))
-
-first_same : {A : Type 0} {x y : A} {xs ys : List A} → x ∷ xs ≡ y ∷ ys → x ≡ y
-first_same h = cc
-
-rest_same : {A : Type 0} {x y : A} {xs ys : List A} → x ∷ xs ≡ y ∷ ys → xs ≡ ys
-rest_same h = cc
 
 -- a declaration that stands at a place has its mapping there
 pub mapping_there : (along : HeadMap) (declarations : Signature) → mapped_names along ≡ declared_names declarations → (i : ℕ) (d : Declaration) → slice_get declarations i ≡ Some d → (m : Mapping) × (slice_get along i ≡ Some m)
@@ -54,11 +51,6 @@ front_by : (b : Bool) (x : Image) (o q : Option Image) (image : Image) → cond 
 front_by true x o q image h f = h
 front_by false x o q image h f = f h
 
-pub image_front : (a rest : HeadMap) (c : Constant) (image : Image) → image_of a c ≡ Some image → image_of (a ++ rest) c ≡ Some image
-unfolding image_of
-image_front [] rest c image h = absurd (cc)
-image_front (m ∷ ms) rest c image h = front_by (same_constant m.name c) m.image (image_of ms c) (image_of (ms ++ rest) c) image h (image_front ms rest c image)
-
 found_by : (b : Bool) (x : Image) (d e : Declaration) (o : Option Image) (q : Option Declaration) → cond b (Some d) q ≡ Some e → (q ≡ Some e → (image : Image) × (o ≡ Some image)) → (image : Image) × (cond b (Some x) o ≡ Some image)
 found_by true x d e o q h f = (x, refl)
 found_by false x d e o q h f = f h
@@ -70,10 +62,6 @@ declared_mapped (x ∷ xs) [] e c d h = absurd (cc)
 declared_mapped (x ∷ xs) (m ∷ ms) e c d h =
     let n : m.name ≡ x.name = first_same e in
     found_by (same_constant m.name c) m.image x d (image_of ms c) (declaration_of xs c) (ap (λ z. cond (same_constant z c) (Some x) (declaration_of xs c)) n ∙ h) (declared_mapped xs ms (rest_same e) c d)
-
-declared_some : (o : Option Declaration) (class : Class) → declared_class o ≡ Some class → (d : Declaration) × (o ≡ Some d)
-declared_some None class h = absurd (cc)
-declared_some (Some d) class h = (d, refl)
 
 -- more images leave those of the declared constants
 pub images_stay : (done : Signature) (a rest : HeadMap) → mapped_names a ≡ declared_names done → (c : Constant) (class : Class) → class_of done c ≡ Some class → image_of a c ≡ image_of (a ++ rest) c

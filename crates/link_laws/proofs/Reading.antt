@@ -6,13 +6,13 @@ use Rattle.library_meaning.specs.Resolution.{own_at}
 use Rattle.library_meaning.specs.Words.{Link, RowMeaning, RowMeans, RowFaulty, row_meaning}
 use Rattle.text_meaning.specs.Trees.{Written, Assign, IncludeAssign, StructAssign, ConstAssign}
 use Rattle.expansion_meaning.specs.Rules.{Rule}
-use Rattle.expansion_laws.proofs.Binding.{came_by, goes_by}
 use Rattle.link_meaning.specs.Refusals.{demand, or_refused}
 use Rattle.link_meaning.specs.Assignments.{Setting, Assigned, label_along, word_place, or_word_fault, paths_of, link_of, structure_at, covering_ends, sharing_ends, is_free, read_assign, with_target, read_assigns}
 use Rattle.link_meaning.specs.AssignmentsRead.{AssignReads, AssignsRead}
 use Rattle.link_laws.specs.LinkLaws.{AssignmentsAreRead}
 use Rattle.link_laws.proofs.Covered.{good_same, there_refused}
 use Rattle.link_laws.proofs.Valued.{demand_holds, demand_by}
+use Rattle.list_laws.proofs.Answers.{came_by, goes_by}
 
 row_means : (words : List Written) (label : Path) (row : RowMeaning) (by : Link) → or_word_fault words label row ≡ Ok by → row ≡ RowMeans by
 row_means words label (RowMeans link) by h = ap RowMeans (good_same h)

@@ -12,13 +12,13 @@ use Rattle.expansion_meaning.specs.Answers.{Answer}
 use Rattle.expansion_meaning.specs.Expansion.{span_of}
 use Rattle.expansion_meaning.specs.Values.{expand_value}
 use Rattle.expansion_meaning.specs.Stands.{StandsValue}
-use Rattle.expansion_laws.proofs.Binding.{came_by, goes_by}
 use Rattle.expansion_laws.proofs.ValuesStand.{value_sound, value_complete}
 use Rattle.link_meaning.specs.Refusals.{labelled, demand, or_refused}
 use Rattle.link_meaning.specs.Assignments.{Setting, label_along}
 use Rattle.link_meaning.specs.Passes.{Reached, ByNone, ByValue, ByStructure, is_definition, copied_value, unassigned_value, constant_in, own_image}
 use Rattle.link_meaning.specs.Equations.{IsDefinition, IsCopied, IsUnassigned, OwnHasValue}
 use Rattle.link_laws.proofs.Covered.{good_same, there_refused}
+use Rattle.list_laws.proofs.Answers.{came_by, goes_by}
 
 pub label_came : {A : Type 0} (label : Path) (a : Answer A) (value : A) → labelled label a ≡ Ok value → a ≡ Ok value
 label_came label (Ok x) value h = ap Ok (good_same h)

@@ -1,6 +1,8 @@
 -- Members of lists, and what a test of a whole list says of them.
 use Rattle.std.proofs.Common.{◌≡◌, Bool, true, false, List, [], ◌∷◌, ◌++◌, map, filter, find, flat_map, Option, Some, None, is_some, ◌&&◌, cond, ◌⊎◌, inl, inr, ⊎_elim, refl, sym, ap, ◌∙◌, subst, true≢false}
-use Rattle.std.specs.List.{list_any, list_all}
+use Rattle.std.specs.Prelude.{ℕ, zero, suc, slice_get}
+use Rattle.std.specs.List.{list_any, list_all, cons_option}
+use Rattle.std.proofs.lemmas.Option.{same_Some}
 use Rattle.std.proofs.lemmas.Bool.{cases_Bool, or_cases, or_left, or_right, and_from, and_parts}
 
 module _ {A : Type 0} where
@@ -122,3 +124,20 @@ module _ {A B : Type 0} where
   flat_map_in f [] x y m n = absurd m
   flat_map_in f (z ∷ zs) x y (inl e) n = append_left (f z) (flat_map f zs) y (subst (λ w. Member y (f w)) e n)
   flat_map_in f (z ∷ zs) x y (inr m) n = append_right (f z) (flat_map f zs) y (flat_map_in f zs x y m n)
+
+pub place_member : {A : Type 0} (xs : List A) (i : ℕ) (x : A) → slice_get xs i ≡ Some x → Member x xs
+place_member [] i x h = absurd (cc)
+place_member (y ∷ ys) zero x h = inl (sym (same_Some _ _ h))
+place_member (y ∷ ys) (suc i) x h = inr (place_member ys i x h)
+
+pub in_option : {A : Type 0} (o : Option A) (xs : List A) (x : A) → Member x (cons_option o xs) → (o ≡ Some x) ⊎ Member x xs
+in_option None xs x m = inr m
+in_option (Some y) xs x (inl e) = inl (ap Some (sym e))
+in_option (Some y) xs x (inr m) = inr m
+
+pub option_first : {A : Type 0} (o : Option A) (xs : List A) (x : A) → o ≡ Some x → Member x (cons_option o xs)
+option_first o xs x e = subst (λ z. Member x (cons_option z xs)) (sym e) (inl refl)
+
+pub option_rest : {A : Type 0} (o : Option A) (xs : List A) (x : A) → Member x xs → Member x (cons_option o xs)
+option_rest None xs x m = m
+option_rest (Some y) xs x m = inr m

@@ -7,6 +7,7 @@ use Rattle.std.proofs.lemmas.Bool.Decides.{nat_tests}
 use Rattle.std.proofs.lemmas.Slice.Eq.{bytes_eq-Decides}
 use Rattle.output_meaning.specs.Lines.{onto_first, lines_of, NoFeed, without_line_feed, content_of}
 use Rattle.output_meaning.specs.ScriptLines.{is_end_line, text_before}
+use Rattle.std.proofs.lemmas.Bool.{false_from_ne_true}
 
 -- the first line begins with the piece
 pub record FirstBegins (piece rest : List ℕ) : Type 0 where
@@ -37,13 +38,9 @@ without_feed-long line = without_one (slice_index line (length line - 1) == 10) 
 without_return-long : (line : List ℕ) → length line ≤ length (strip_carriage_return line) + 1
 without_return-long line = without_one (slice_index line (length line - 1) == 13) line
 
-false_unless : (b : Bool) → (b ≡ true → ⊥) → b ≡ false
-false_unless true never = absurd (never refl)
-false_unless false never = refl
-
 -- an end line has seven bytes at most
 pub is_end_line-long : (line : List ℕ) → 8 ≤ length line → is_end_line line ≡ false
-is_end_line-long line long = false_unless (is_end_line line) (λ e.
+is_end_line-long line long = false_from_ne_true (is_end_line line) (λ e.
     let same : strip_carriage_return (without_line_feed line) ≡ codes "%%end" = grind (arith, bytes_eq-Decides, e) in
     omega (arith, without_feed-long line, without_return-long (without_line_feed line), ap (λ (bs : List ℕ). length bs) same))
 

@@ -17,10 +17,6 @@ use Rattle.print_laws.proofs.SpelledExpressions.{forms}
 abbrev span_at : ℕ → ℕ → Span
 span_at at count = record { from = at; to = at + count }
 
-map_last : {A B : Type 0} (f : A → B) (xs : List A) (x : A) → map f (xs ++ (x ∷ [])) ≡ map f xs ++ (f x ∷ [])
-map_last f [] x = refl
-map_last f (y ∷ ys) x = ap (λ zs. f y ∷ zs) (map_last f ys x)
-
 -- items, and one more at their end
 tokens_last : (at : ℕ) (xs : List Item) (x : Item) → tokens_of at (xs ++ (x ∷ [])) ≡ tokens_of at xs ++ (token (end_of at xs) (end_of at xs + length x.bytes) x.kind ∷ [])
 unfolding tokens_of

@@ -7,6 +7,7 @@ use Rattle.std.proofs.lemmas.List.Sums.{sum_by-cons}
 use Rattle.name_meaning.specs.Names.{Name, Path}
 use Rattle.lf_meaning.specs.Signatures.{Declaration, Signature}
 use Rattle.printing_meaning.specs.Prefixes.{marks, prefix_with, begins_with_digit, is_numbered, clashes, is_taken, free_from, length_of_path, enough, prefix_of}
+use Rattle.list_laws.proofs.Booleans.{and_second}
 
 length-marks : (count : ℕ) → length (marks count) ≡ count
 unfolding marks
@@ -17,10 +18,6 @@ length-marks (suc count) = ap suc (length-marks count)
 with_digit : (bytes : List ℕ) → begins_with_digit bytes ≡ true → 0 < length bytes
 with_digit [] h = absurd cc
 with_digit (byte ∷ bytes) h = omega arith
-
-and_second : (a b : Bool) → (a && b) ≡ true → b ≡ true
-and_second true b h = h
-and_second false b h = absurd cc
 
 -- a name that clashes with a prefix is longer than it
 numbered_longer : (prefix : List ℕ) (name : Name) → is_numbered prefix name ≡ true → length prefix < length name

@@ -19,9 +19,7 @@ use Rattle.translation_sort_laws.proofs.Known.{ObjectKnown, AtomicKnown, HeadKno
 use Rattle.translation_typing.proofs.Proper.{proper_object, proper_body}
 use Rattle.translation_typing.proofs.DeclaredTyped.{declared_typed}
 use Rattle.library_meaning.specs.Words.{own_value, identity_mapping, identity_map}
-
-some_is : {A : Type 0} {x y : A} → Some x ≡ Some y → x ≡ y
-some_is e = cc
+use Rattle.std.proofs.lemmas.Option.{same_Some}
 
 -- each constant has itself as its image
 abbrev pub IsIdentityOn : Signature → HeadMap → Type 0
@@ -92,7 +90,7 @@ identity_image [] c = refl
 identity_image (d ∷ sig) c = identity_by (same_constant d.name c) d (declaration_of sig c) (image_of (identity_map sig) c) (identity_image sig c)
 
 named_by : (b : Bool) (e d : Declaration) (c : Constant) (o : Option Declaration) → same_constant e.name c ≡ b → (o ≡ Some d → d.name ≡ c) → cond b (Some e) o ≡ Some d → d.name ≡ c
-named_by true e d c o f g h = ap (λ (z : Declaration). z.name) (some_is (sym h)) ∙ same_constant_sound e.name c f
+named_by true e d c o f g h = ap (λ (z : Declaration). z.name) (same_Some _ _ (sym h)) ∙ same_constant_sound e.name c f
 named_by false e d c o f g h = g h
 
 pub declared_name : (sig : Signature) (c : Constant) (d : Declaration) → declaration_of sig c ≡ Some d → d.name ≡ c
@@ -100,7 +98,7 @@ declared_name [] c d h = absurd (cc)
 declared_name (e ∷ sig) c d h = named_by (same_constant e.name c) e d c (declaration_of sig c) refl (declared_name sig c d) h
 
 undefined_is : (o : Option Value) (class found : Class) → undefined_class o class ≡ Some found → (o ≡ None) × (class ≡ found)
-undefined_is None class found h = (refl, some_is h)
+undefined_is None class found h = (refl, same_Some _ _ h)
 undefined_is (Some v) class found h = absurd (cc)
 
 pub identity_on : (sig : Signature) → IsIdentityOn sig (identity_map sig)

@@ -5,9 +5,7 @@ use Rattle.lf_term_laws.proofs.Equality.{same_value_sound, same_value_itself}
 use Rattle.lf_meaning.specs.HeadMaps.{HeadMap}
 use Rattle.translation_meaning.specs.Differ.{value_in, agree, agree_on, differ_from, differ}
 use Rattle.translation_laws.specs.TranslationLaws.{IsFirstDifference, IsDifference, DifferenceIsFirst, AgreeIsOneValue}
-
-some_same : {A : Type 0} {x y : A} → Some x ≡ Some y → x ≡ y
-some_same h = cc
+use Rattle.std.proofs.lemmas.Option.{same_Some}
 
 module _ (first second : HeadMap) where
   -- the answer, with places counted from one on
@@ -19,14 +17,14 @@ module _ (first second : HeadMap) where
   one_more start d names None e h = all
     where
       all : (i : ℕ) (x : Declaration) → slice_get (d ∷ names) i ≡ Some x → agree_on first second x ≡ true
-      all zero x q = ap (agree_on first second) (some_same (sym q)) ∙ e
+      all zero x q = ap (agree_on first second) (same_Some _ _ (sym q)) ∙ e
       all (suc i) x q = h i x q
   one_more start d names (Some place) e h =
       let q = h.1 in
       (suc h.0, omega (arith, q), record { declaration = (h.2).declaration; found = (h.2).found; differs = (h.2).differs; before = earlier })
     where
       earlier : (i : ℕ) (x : Declaration) → i < suc h.0 → slice_get (d ∷ names) i ≡ Some x → agree_on first second x ≡ true
-      earlier zero x l q = ap (agree_on first second) (some_same (sym q)) ∙ e
+      earlier zero x l q = ap (agree_on first second) (same_Some _ _ (sym q)) ∙ e
       earlier (suc i) x l q = (h.2).before i x (omega (arith, l)) q
 
   step : (b : Bool) (start : ℕ) (d : Declaration) (names : Signature) (o : Option ℕ) → agree_on first second d ≡ b → From (suc start) names o → From start (d ∷ names) (cond b o (Some start))

@@ -7,6 +7,7 @@ use Rattle.lf_term_laws.proofs.Spines.{replace_applied}
 use Rattle.translation_meaning.specs.Heads.{head_takes_all}
 use Rattle.lf_meaning.specs.HeadMaps.{HeadMap, image_of}
 use Rattle.translation_meaning.specs.Translation.{headed_image, translate_object, translate_head, translate_image, compose}
+use Rattle.list_laws.proofs.Options.{mapped_by}
 
 pub spine_taken : (along : HeadMap) (c : Constant) (arguments : List Object) → translate_object along (At (apply_all (Con c) arguments)) ≡ object_of (takes_all (headed_image c (image_of along c)) (map (translate_object along) arguments))
 unfolding translate_object
@@ -16,10 +17,6 @@ pub family_spine_taken : (along : HeadMap) (p : AtomicFamily) (arguments : List 
 unfolding translate_head head_takes_all
 family_spine_taken along p [] = refl
 family_spine_taken along p (m ∷ ms) = family_spine_taken along (FamilyApp p m) ms
-
-mapped_by : {X Y : Type 0} (f : X → Y) (b : Bool) (x : X) (o : Option X) (q : Option Y) → q ≡ option_map f o → cond b (Some (f x)) q ≡ option_map f (cond b (Some x) o)
-mapped_by f true x o q e = refl
-mapped_by f false x o q e = e
 
 pub composed : (first second : HeadMap) (c : Constant) → image_of (compose first second) c ≡ option_map (translate_image second) (image_of first c)
 unfolding image_of compose

@@ -17,6 +17,8 @@ use Rattle.translation_sort_laws.proofs.KindDomains.{domains_of, domains_of_map,
 use Rattle.translation_sort_laws.proofs.Kinded.{class_domains, HasDomains}
 use Rattle.translation_sort_laws.proofs.Bases.{bases, renamed, erase_translated}
 use Rattle.translation_sort_laws.proofs.Images.{IsMap, by_images, sorted_map}
+use Rattle.std.proofs.lemmas.Option.{same_Some}
+use Rattle.list_laws.proofs.Lists.{first_same, rest_same}
 
 -- arguments go on the spine, or for the binders, of which there are as many as domains
 pub data BodyFits (sig : Signature) (context : SimpleContext) (rest : List Simple) (binders : ℕ) (p : AtomicFamily) : Type 0 where
@@ -27,15 +29,6 @@ abbrev pub HeadFits : Signature → SimpleContext → List Simple → Head → T
 HeadFits sig context rest (ObjectHead object classifier) = ⊥
 HeadFits sig context rest (FamilyHead binders (Pi a b) kind) = ⊥
 HeadFits sig context rest (FamilyHead binders (AtFamily p) kind) = (domains_of kind ≡ rest) × IsSortedKind (sorts_of sig) context kind × BodyFits sig context rest binders p
-
-first_of : {A : Type 0} {x y : A} {xs ys : List A} → x ∷ xs ≡ y ∷ ys → x ≡ y
-first_of e = cc
-
-rest_of : {A : Type 0} {x y : A} {xs ys : List A} → x ∷ xs ≡ y ∷ ys → xs ≡ ys
-rest_of e = cc
-
-some_is : {A : Type 0} {x y : A} → Some x ≡ Some y → x ≡ y
-some_is e = cc
 
 module _ (sig : Signature) (context : SimpleContext) where
   -- the outermost binder is taken
@@ -55,13 +48,13 @@ module _ (sig : Signature) (context : SimpleContext) where
   fits_taken (FamilyHead binders (AtFamily p) (PiKind a k)) m s rest h g = by binders h.2
     where
       domain : erase a ≡ s
-      domain = first_of h.0
+      domain = first_same h.0
 
       argument : HasSort (sorts_of sig) context m (erase a)
       argument = subst (HasSort (sorts_of sig) context m) (sym domain) g
 
       left : domains_of (substitute_kind m (erase a) 0 k) ≡ rest
-      left = domains_of_map (substitute m (erase a)) 0 k ∙ rest_of h.0
+      left = domains_of_map (substitute m (erase a)) 0 k ∙ rest_same h.0
 
       kind_left : IsSortedKind (sorts_of sig) context (substitute_kind m (erase a) 0 k)
       kind_left = substitute_keeps_sorted_kind (sorts_of sig) m (erase a) context argument [] k (h.1).1
@@ -100,7 +93,7 @@ module _ (from to : Signature) (along : HeadMap) (map_is : IsMap from to along) 
       let fits : Fits to i.image.value (KindClass (translate_kind along k)) = subst (Fits to i.image.value) i.class_is i.fits in
       let at : HeadFits to context (domains_of (translate_kind along k)) (family_image c (KindClass (translate_kind along k)) i.image.value) = image_fits context c (translate_kind along k) i.image.value is (map_is.atomic c i.image i.mapped) fits in
       let there : HeadFits to context (domains_of (translate_kind along k)) (family_head_image c (Some i.image)) = subst (λ z. HeadFits to context (domains_of (translate_kind along k)) (family_image c z i.image.value)) (sym i.class_is) at in
-      subst (λ ss. HeadFits to context ss (family_head_image c (image_of along c))) (kind_domains_translated k ∙ ap (map (renamed along)) (some_is h))
+      subst (λ ss. HeadFits to context ss (family_head_image c (image_of along c))) (kind_domains_translated k ∙ ap (map (renamed along)) (same_Some _ _ h))
       (subst (λ z. HeadFits to context (domains_of (translate_kind along k)) (family_head_image c z)) (sym i.mapped) there)
 
   pub object_sorted : (context : SimpleContext) (m : Object) (t : Simple) → HasSort (sorts_of from) context m t → HasSort (sorts_of to) (map (renamed along) context) (translate_object along m) (renamed along t)

@@ -15,9 +15,7 @@ use Rattle.lf_meaning.specs.HeadMaps.{Image, HeadMap, image_of}
 use Rattle.translation_meaning.specs.Translation.{object_image, headed_image, translate_family, translate_class}
 use Rattle.translation_sort_laws.specs.AtomicBodies.{BodiesAreAtomic}
 use Rattle.translation_sort_laws.proofs.Bases.{bases, renamed, erase_translated}
-
-some_is : {A : Type 0} {x y : A} → Some x ≡ Some y → x ≡ y
-some_is e = cc
+use Rattle.std.proofs.lemmas.Option.{same_Some}
 
 pub record TypedImage (to : Signature) (along : HeadMap) (c : Constant) (class : Class) : Type 0 where
   pub image : Image
@@ -59,7 +57,7 @@ module _ (from to : Signature) (along : HeadMap) (map : IsMap from to along) whe
   image_fits c image e =
       let d = map.declared c image e in
       let t = map.images c d.0 d.1 in
-      subst (λ (z : Image). Fits to z.value z.class) (some_is (sym t.mapped ∙ e)) t.fits
+      subst (λ (z : Image). Fits to z.value z.class) (same_Some _ _ (sym t.mapped ∙ e)) t.fits
 
   headed_image_closed : (k p : ℕ) (c : Constant) (o : Option Image) → image_of along c ≡ o → raise_headed k p (headed_image c o) ≡ headed_image c o
   headed_image_closed k p c None e = refl
@@ -80,7 +78,7 @@ module _ (from to : Signature) (along : HeadMap) (map : IsMap from to along) whe
       let fits : Fits to i.image.value (FamilyClass (translate_family along a)) = subst (Fits to i.image.value) i.class_is i.fits in
       let sorted : HeadedHasSort (sorts_of to) [] (object_image c (FamilyClass (translate_family along a)) i.image.value) (erase (translate_family along a)) = object_image_sorted c (translate_family along a) i.image.value fits in
       let at : HeadedHasSort (sorts_of to) [] (object_image c i.image.class i.image.value) (renamed along t) =
-      subst (λ s. HeadedHasSort (sorts_of to) [] (object_image c i.image.class i.image.value) s) (erase_translated along map.atomic a ∙ ap (renamed along) (some_is h))
+      subst (λ s. HeadedHasSort (sorts_of to) [] (object_image c i.image.class i.image.value) s) (erase_translated along map.atomic a ∙ ap (renamed along) (same_Some _ _ h))
       (subst (λ z. HeadedHasSort (sorts_of to) [] (object_image c z i.image.value) (erase (translate_family along a))) (sym i.class_is) sorted) in
       subst (λ z. HeadedHasSort (sorts_of to) [] (headed_image c z) (renamed along t)) (sym i.mapped) at
 

@@ -19,10 +19,6 @@ pub domains_map : (f : ℕ → Object → Object) (k : Kind) (xs : Context) → 
 domains_map f Ty xs = refl
 domains_map f (PiKind a k) xs = domains_map f k (a ∷ xs)
 
-pub domains_count : (f : ℕ → Object → Object) (n : ℕ) (k : Kind) → domain_count (map_kind f n k) ≡ domain_count k
-domains_count f n Ty = refl
-domains_count f n (PiKind a k) = ap suc (domains_count f (suc n) k)
-
 -- ---- as simple types
 
 abbrev pub domains_of : Kind → List Simple

@@ -13,6 +13,7 @@ use Rattle.translation_meaning.specs.Heads.{Head, ObjectHead, FamilyHead, head_t
 use Rattle.translation_meaning.specs.Translation.{family_of}
 use Rattle.translation_sort_laws.proofs.KindDomains.{with_simples, simples_append, simples_length}
 use Rattle.translation_sort_laws.proofs.HeadSorts.{BodyFits, OnSpine, ForBinders, HeadFits}
+use Rattle.list_laws.proofs.Lists.{first_same}
 
 -- so many binders further in
 abbrev pub inside : ℕ → ℕ → ℕ
@@ -30,9 +31,6 @@ map_head f n (FamilyHead binders family kind) = FamilyHead binders (map_family f
 
 same_head : {b : ℕ} {x y : Family} {k l : Kind} → x ≡ y → k ≡ l → FamilyHead b x k ≡ FamilyHead b y l
 same_head {b = b} e f = ap₂ (FamilyHead b) e f
-
-first_of : {A : Type 0} {x y : A} {xs ys : List A} → x ∷ xs ≡ y ∷ ys → x ≡ y
-first_of e = cc
 
 -- with no binder left the family is mapped where the head stands
 pub family_of_map : (f : ℕ → Object → Object) (sig : Signature) (context : SimpleContext) (n : ℕ) (head : Head) (p q : AtomicFamily) → HeadFits sig context [] head → family_of (map_head f n head) q ≡ map_family f n (family_of head p)
@@ -77,7 +75,7 @@ module _ (sig : Signature) (after before : SimpleContext) (v : Object) (u : Simp
   substitute_taken rest s n (FamilyHead binders (AtFamily p) (PiKind a l)) m c h g = by binders h.2
     where
       domain : erase a ≡ s
-      domain = first_of h.0
+      domain = first_same h.0
 
       argument : HasSort (sorts_of sig) whole m (erase a)
       argument = subst (HasSort (sorts_of sig) whole m) (sym domain) g

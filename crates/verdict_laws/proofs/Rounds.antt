@@ -4,7 +4,7 @@ use Rattle.name_meaning.specs.Names.{Name, Text, is_among, same_name}
 use Rattle.log_meaning.specs.Log.{Library, text_of}
 use Rattle.list_laws.proofs.Members.{Member, in_filter}
 use Rattle.name_laws.proofs.Order.{among_member, member_among, same_sound}
-use Rattle.walk_meaning.specs.Walks.{walking, is_ungrounded}
+use Rattle.walk_meaning.specs.Walks.{walking, is_ungrounded, ungrounded_names}
 use Rattle.walk_meaning.specs.Reach.{reach, AgreesOn}
 use Rattle.walk_laws.proofs.Walking.{present_in}
 use Rattle.walk_laws.proofs.Reaching.{reach_first}
@@ -14,14 +14,10 @@ use Rattle.text_meaning.specs.TextAnswers.{read}
 use Rattle.library_meaning.specs.Faces.{IsAbsent, Environment}
 use Rattle.text_meaning.specs.Dependencies.{dependencies}
 use Rattle.verdict_meaning.specs.Verdicts.{Verdict, verdict_by, judge_tree, judge_answer, judge}
-use Rattle.verdict_meaning.specs.Rounds.{Judged, verdict_under, known_if, known_of, others_reached, ungrounded_names, judge_module, rounds}
+use Rattle.verdict_meaning.specs.Rounds.{Judged, verdict_under, known_if, known_of, others_reached, judge_module, rounds}
 use Rattle.verdict_laws.proofs.Shortness.{Short, short_grounded, short_reached, reach_within_reach}
 
 -- ---- one round
-
-option_by : {A B : Type 0} (f : A → B) (b : Bool) (x : A) (o : Option A) (q : Option B) → q ≡ option_map f o → cond b (Some (f x)) q ≡ option_map f (cond b (Some x) o)
-option_by f true x o q e = refl
-option_by f false x o q e = e
 
 -- a module judged under this name
 unfoldable pub judged_under : Library → List Name → List Judged → Name → Text → Verdict
@@ -107,31 +103,31 @@ module _ (library other : Library) where
       by (Some text) e = absurd (s (present_in dependencies library name (ap is_some e)))
 
   judged_alike : (n k l : ℕ) (name : Name) → AgreesOn library other (reach dependencies library name) → Short dependencies library (suc n) name
-      → ((x : Name) → AgreesOn library other (reach dependencies library x) → Short dependencies library n x → verdict_under (rounds library (ungrounded_names library) k) x ≡ verdict_under (rounds other (ungrounded_names other) l) x)
-      → (text : Text) → judged_under library (ungrounded_names library) (rounds library (ungrounded_names library) k) name text ≡ judged_under other (ungrounded_names other) (rounds other (ungrounded_names other) l) name text
+      → ((x : Name) → AgreesOn library other (reach dependencies library x) → Short dependencies library n x → verdict_under (rounds library (ungrounded_names dependencies library) k) x ≡ verdict_under (rounds other (ungrounded_names dependencies other) l) x)
+      → (text : Text) → judged_under library (ungrounded_names dependencies library) (rounds library (ungrounded_names dependencies library) k) name text ≡ judged_under other (ungrounded_names dependencies other) (rounds other (ungrounded_names dependencies other) l) name text
   unfolding judged_under ungrounded_names is_ungrounded
   judged_alike n k l name a s h text =
       let e = others_same library other name (reach_same dependencies library other name a) in
-      judge_alike (known_of (others_reached library name) (rounds library (ungrounded_names library) k)) (known_of (others_reached other name) (rounds other (ungrounded_names other) l))
-      (is_among (ungrounded_names library)) (is_among (ungrounded_names other)) name text
-      (λ x. known_alike (others_reached library name) (rounds library (ungrounded_names library) k) (rounds other (ungrounded_names other) l) x
+      judge_alike (known_of (others_reached library name) (rounds library (ungrounded_names dependencies library) k)) (known_of (others_reached other name) (rounds other (ungrounded_names dependencies other) l))
+      (is_among (ungrounded_names dependencies library)) (is_among (ungrounded_names dependencies other)) name text
+      (λ x. known_alike (others_reached library name) (rounds library (ungrounded_names dependencies library) k) (rounds other (ungrounded_names dependencies other) l) x
       (λ m. let r = in_others library name x m in
       h x (λ y g. a y (member_among (reach dependencies library name) y (reach_within_reach dependencies library name x r.0 y (among_member (reach dependencies library x) y g)))) (short_reached dependencies library n name x s r.0 r.1))
-      ∙ ap (λ names. known_of names (rounds other (ungrounded_names other) l) x) (sym e))
+      ∙ ap (λ names. known_of names (rounds other (ungrounded_names dependencies other) l) x) (sym e))
       (short_grounded dependencies library (suc n) name s)
       (ungrounded_agrees dependencies library other name a ∙ short_grounded dependencies library (suc n) name s)
 
   pub rounds_agree : (n : ℕ) (name : Name) → AgreesOn library other (reach dependencies library name) → Short dependencies library n name → (k l : ℕ) → n ≤ k → n ≤ l
-      → verdict_under (rounds library (ungrounded_names library) k) name ≡ verdict_under (rounds other (ungrounded_names other) l) name
+      → verdict_under (rounds library (ungrounded_names dependencies library) k) name ≡ verdict_under (rounds other (ungrounded_names dependencies other) l) name
   rounds_agree zero name a s k l p q =
       let e = absent name s in
-      absent_none library (ungrounded_names library) k name e
-      ∙ sym (absent_none other (ungrounded_names other) l name (sym (a name (member_among (reach dependencies library name) name (reach_first dependencies library name))) ∙ e))
+      absent_none library (ungrounded_names dependencies library) k name e
+      ∙ sym (absent_none other (ungrounded_names dependencies other) l name (sym (a name (member_among (reach dependencies library name) name (reach_first dependencies library name))) ∙ e))
   rounds_agree (suc n) name a s zero l p q = absurd (omega (arith, p))
   rounds_agree (suc n) name a s (suc k) zero p q = absurd (omega (arith, q))
   rounds_agree (suc n) name a s (suc k) (suc l) p q =
-      round_gives library (ungrounded_names library) k name
-      ∙ mapped_alike (judged_under library (ungrounded_names library) (rounds library (ungrounded_names library) k) name) (judged_under other (ungrounded_names other) (rounds other (ungrounded_names other) l) name)
+      round_gives library (ungrounded_names dependencies library) k name
+      ∙ mapped_alike (judged_under library (ungrounded_names dependencies library) (rounds library (ungrounded_names dependencies library) k) name) (judged_under other (ungrounded_names dependencies other) (rounds other (ungrounded_names dependencies other) l) name)
       (text_of library name) (text_of other name) (a name (member_among (reach dependencies library name) name (reach_first dependencies library name)))
       (judged_alike n k l name a s (λ x b t. rounds_agree n x b t k l (omega (arith, p)) (omega (arith, q))))
-      ∙ sym (round_gives other (ungrounded_names other) l name)
+      ∙ sym (round_gives other (ungrounded_names dependencies other) l name)

@@ -1,9 +1,9 @@
 -- Laws of verdicts (this profile).
-use Rattle.verdict_meaning.specs.Rounds.{known_to, known_of, others_reached, ungrounded_names, verdicts, verdict_of, modules}
+use Rattle.verdict_meaning.specs.Rounds.{known_to, known_of, others_reached, verdicts, verdict_of, modules}
 use Rattle.std.specs.Prelude.{◌≡◌, ℕ, ◌<◌, true, false, slice_get, Some}
 use Rattle.name_meaning.specs.Names.{Name, Text, is_among}
 use Rattle.log_meaning.specs.Log.{Library, text_of}
-use Rattle.walk_meaning.specs.Walks.{is_ungrounded, is_grounded}
+use Rattle.walk_meaning.specs.Walks.{is_ungrounded, is_grounded, ungrounded_names}
 use Rattle.walk_meaning.specs.Reach.{reach}
 use Rattle.walk_meaning.specs.Subject.{AnswersPresent, KeepsToReach}
 use Rattle.text_meaning.specs.Trees.{Module}
@@ -22,7 +22,7 @@ PresentNamesHaveVerdicts = AnswersPresent modules
 abbrev pub VerdictIsJudged : Type 0
 VerdictIsJudged =
     (library : Library) (name : Name) (text : Text) → text_of library name ≡ Some text
-    → verdict_of library name ≡ Some (judge (known_to library name) (is_among (ungrounded_names library)) name text)
+    → verdict_of library name ≡ Some (judge (known_to library name) (is_among (ungrounded_names dependencies library)) name text)
 
 -- The verdict on a grounded name is equal in any two libraries that agree on its reach.
 abbrev pub VerdictKeepsToReach : Type 0

@@ -5,7 +5,7 @@ use Rattle.name_meaning.specs.Names.{Name, same_name, is_among}
 use Rattle.log_meaning.specs.Log.{Library, Module}
 use Rattle.library_meaning.specs.Faces.{Environment, Known, IsAbsent}
 use Rattle.std.specs.Prelude.{ℕ, zero, suc, List, [], ◌∷◌, map, filter, not, length, Option, Some, None, if◌then◌else◌}
-use Rattle.walk_meaning.specs.Walks.{walking}
+use Rattle.walk_meaning.specs.Walks.{walking, ungrounded_names}
 use Rattle.walk_meaning.specs.Reach.{reach}
 use Rattle.walk_meaning.specs.Subject.{Subject}
 use Rattle.text_meaning.specs.Dependencies.{dependencies}
@@ -34,10 +34,6 @@ known_of names judged name = if is_among names name then known_if (verdict_under
 unfoldable pub others_reached : Library → Name → List Name
 others_reached library name = filter (λ (other : Name). not (same_name name other)) (reach dependencies library name)
 
--- The present names that are ungrounded.
-unfoldable pub ungrounded_names : Library → List Name
-ungrounded_names library = walking dependencies library (length library)
-
 -- A module judged over the verdicts of a round.
 abbrev pub judge_module : Library → List Name → List Judged → Module → Judged
 judge_module library ungrounded judged own =
@@ -50,7 +46,7 @@ rounds library ungrounded (suc before) = map (judge_module library ungrounded (r
 
 -- The verdicts of a library, in the order of its names: as many rounds as it has names, and one more.
 unfoldable pub verdicts : Library → List Judged
-verdicts library = rounds library (ungrounded_names library) (suc (length library))
+verdicts library = rounds library (ungrounded_names dependencies library) (suc (length library))
 
 -- The verdict of a present name.
 unfoldable pub verdict_of : Library → Name → Option Verdict

@@ -4,7 +4,7 @@ use Rattle.std.specs.List.{list_any, list_all}
 use Rattle.std.proofs.lemmas.Bool.{cases_Bool, and_parts, and_from, not_from_false, false_from_ne_true}
 use Rattle.name_meaning.specs.Names.{Name, Text, is_among}
 use Rattle.log_meaning.specs.Log.{Library, names_of, text_of, is_present}
-use Rattle.walk_meaning.specs.Walks.{Dependencies, of_text, direct, IsWalk, Ungrounded, walking, is_ungrounded, is_grounded}
+use Rattle.walk_meaning.specs.Walks.{Dependencies, of_text, direct, IsWalk, Ungrounded, walking, is_ungrounded, is_grounded, ungrounded_names}
 use Rattle.walk_laws.specs.WalkLaws.{WalksOn}
 use Rattle.list_laws.proofs.Members.{Member, any_found, any_of, all_not, all_at, in_filter, filter_in}
 use Rattle.name_laws.proofs.Order.{among_member, member_among}
@@ -119,7 +119,7 @@ module _ (dependencies : Dependencies) (library : Library) where
   )
 
   pub ungrounded_decides : (n : Name) → Decides (is_ungrounded dependencies library n) (Ungrounded dependencies library n)
-  unfolding is_ungrounded
+  unfolding is_ungrounded ungrounded_names
   ungrounded_decides n = (
     λ e. let w = walk_of (length library) n (among_member (walking dependencies library (length library)) n e) in
         record { rest = w.0; walk = w.1; longer = omega (arith, w.2) },
@@ -185,11 +185,11 @@ module _ (dependencies : Dependencies) (library : Library) where
   walks_on n w k = walking_down (length library) k n (subst (λ z. Member n (walking dependencies library z)) (omega arith) (steady_on k (length library) steady n w))
 
   pub ungrounded_in : (n : Name) → is_ungrounded dependencies library n ≡ true → Member n (walking dependencies library (length library))
-  unfolding is_ungrounded
+  unfolding is_ungrounded ungrounded_names
   ungrounded_in n h = among_member (walking dependencies library (length library)) n h
 
   pub in_ungrounded : (n : Name) → Member n (walking dependencies library (length library)) → is_ungrounded dependencies library n ≡ true
-  unfolding is_ungrounded
+  unfolding is_ungrounded ungrounded_names
   in_ungrounded n w = member_among (walking dependencies library (length library)) n w
 
   pub ungrounded_dependency : (n : Name) → is_ungrounded dependencies library n ≡ true → (d : Name) × (is_among (direct dependencies library n) d ≡ true) × (is_ungrounded dependencies library d ≡ true)

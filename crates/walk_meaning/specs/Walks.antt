@@ -40,9 +40,13 @@ unfoldable pub walking : Dependencies → Library → ℕ → List Name
 walking dependencies library zero = names_of library
 walking dependencies library (suc more) = depending_on dependencies library (walking dependencies library more)
 
--- The name is present, and a walk with more names than the library begins at it.
+-- The present names at which a walk with more names than the library begins.
+unfoldable pub ungrounded_names : Dependencies → Library → List Name
+ungrounded_names dependencies library = walking dependencies library (length library)
+
+-- The name is one of these.
 unfoldable pub is_ungrounded : Dependencies → Library → Name → Bool
-is_ungrounded dependencies library name = is_among (walking dependencies library (length library)) name
+is_ungrounded dependencies library name = is_among (ungrounded_names dependencies library) name
 
 -- The name is present, and not ungrounded.
 abbrev pub is_grounded : Dependencies → Library → Name → Bool
