@@ -2,7 +2,8 @@
 use Rattle.std.proofs.Common.{◌≡◌, ℕ, zero, suc, ◌≤◌, ◌<◌, Bool, true, false, cond, List, [], ◌∷◌, length, refl, ap, arith}
 use Rattle.std.specs.Prelude.{Option, Some, None, nat_lt}
 use Rattle.output_meaning.specs.Lines.{content_of}
-use Rattle.first_path_meaning.specs.Commands.{Said, nothing, puts, reports, wrong, said_by, text_limit, Command, Next, ends, gives, bad, unended, ended, put_of, next_by, next_of}
+use Rattle.first_path_meaning.specs.Commands.{Said, nothing, puts, reports, wrong, said_by, Command, Next, ends, gives, bad, unended, ended, put_of, next_by, next_of}
+use Rattle.name_meaning.specs.Limits.{text_limit}
 use Rattle.output_meaning.specs.ScriptLines.{text_before, behind_end, line_after}
 use Rattle.output_laws.proofs.TextLemmas.{behind_end-shorter}
 use Rattle.first_path_meaning.specs.Script.{Item, command, may_put_after, items_by, items_within, items_of}

@@ -3,7 +3,7 @@ use Rattle.std.proofs.Common.{◌≡◌, ℕ, ◌≤◌, true, List, length, ref
 use Rattle.std.specs.Prelude.{nat_lt}
 use Rattle.std.proofs.lemmas.Bool.Decides.{nat_tests}
 use Rattle.output_meaning.specs.Lines.{content_of}
-use Rattle.output_meaning.specs.ScriptLines.{line_limit}
+use Rattle.name_meaning.specs.Limits.{line_limit}
 use Rattle.first_path_meaning.specs.Commands.{said_by, wrong}
 use Rattle.output_laws.proofs.LongLines.{content_of-long}
 

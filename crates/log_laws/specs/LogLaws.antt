@@ -3,7 +3,8 @@ use Rattle.std.specs.Prelude.{◌≡◌, true, suc, ◌≤◌, [], ◌∷◌, �
 use Rattle.std.specs.List.{list_all}
 use Rattle.name_meaning.specs.Names.{Name, Text, same_name, is_among}
 use Rattle.log_meaning.specs.Log.{Edit, Put, Drop, edited_name, Log, Library, names_of, library_of, text_of, is_present, version_of, stamp_of, IsLibrary}
-use Rattle.log_meaning.specs.Append.{module_limit, edit_limit, total_limit, is_short, total_size, appended}
+use Rattle.name_meaning.specs.Limits.{module_limit, edit_limit, total_limit}
+use Rattle.log_meaning.specs.Append.{is_short, total_size, appended}
 
 -- What an edit leaves of its name.
 abbrev pub left_by : Edit → Option Text

@@ -1,24 +1,9 @@
 -- Which edits a log takes, and what it answers (this profile).
+use Rattle.name_meaning.specs.Limits.{total_limit, edit_limit, module_limit, text_limit}
 use Rattle.std.specs.Prelude.{ℕ, suc, Bool, false, List, [], ◌∷◌, ◌++◌, ◌+◌, ◌^◌, ◌&&◌, ◌||◌, not, length, sum_by, fold, nat_lt, nat_le, Option, Some, None, if◌then◌else◌}
 use Rattle.std.specs.Str.{bytes_eq}
 use Rattle.name_meaning.specs.Names.{Text}
 use Rattle.log_meaning.specs.Log.{Edit, Put, Drop, Log, library_of, text_of, is_present, version_of}
-
--- The greatest length of a text.
-abbrev pub text_limit : ℕ
-text_limit = 2 ^ 20
-
--- The greatest number of modules in a library.
-abbrev pub module_limit : ℕ
-module_limit = 4096
-
--- The greatest number of edits made.
-abbrev pub edit_limit : ℕ
-edit_limit = 2 ^ 16
-
--- The greatest sum of the lengths of all texts ever put.
-abbrev pub total_limit : ℕ
-total_limit = 2 ^ 28
 
 -- The edit was made; the library has the name with an equal text; the library lacks the name that is to be
 -- dropped: each with the version afterwards. Or the edit is refused.

@@ -11,7 +11,7 @@ use Rattle.script_reader.specs.declared.fault.ScriptFault.{ScriptFault as Fault}
 use Rattle.script_reader.specs.declared.fault.ScriptFault.TheVariants.{Bad, Unended, Failed, Spent, Memory as OutOfMemory}
 use Rattle.script_reader.specs.declared.command.Command.{Command}
 use Rattle.script_reader.specs.declared.command.Command.TheVariants as spoken
-use Rattle.mmt_top.specs.declared.answer.Theory.{Theory}
+use Rattle.mmt_top.specs.declared.first_answer.Theory.{Theory}
 use Rattle.mmt_top.specs.declared.status.Status.{Status}
 use Rattle.mmt_top.specs.declared.status.Status.TheVariants.{Done, Refused, Usage, ReadFault, WriteFault, Memory, ScriptFault}
 

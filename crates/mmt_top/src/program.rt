@@ -7,7 +7,7 @@ ghost use Rattle.first_path_meaning.specs.Words as meant;
 ghost use Rattle.mmt_top.specs.Session.{EndsAs, FlushesAt, IsSessionStatus};
 ghost use Rattle.mmt_top.specs.Runs.{IsUsage};
 
-use crate::lines::USAGE;
+use crate::first_lines::USAGE;
 use crate::session::{play, write_last};
 use crate::status::Status;
 use crate::words::is_accepted;

@@ -1,3 +1,4 @@
 pub mod Characters
 pub mod Identifiers
 pub mod Names
+pub mod Limits

@@ -12,10 +12,6 @@ use Rattle.name_meaning.specs.Identifiers.{is_identifier}
 abbrev pub line_after : ℕ → List (List ℕ) → List (List ℕ) → ℕ
 line_after line lines rest = min (line + (length lines - length rest)) (2 ^ 64 - 1)
 
--- The greatest length of a line outside the text of a `put`, its line end not counted.
-abbrev pub line_limit : ℕ
-line_limit = 1024
-
 -- The bytes are a name.
 abbrev pub is_name : List ℕ → Bool
 is_name bytes = is_utf8 bytes && is_identifier bytes

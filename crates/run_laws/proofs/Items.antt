@@ -6,7 +6,8 @@ use Rattle.output_meaning.specs.Lines.{content_of}
 use Rattle.output_meaning.specs.ScriptLines.{text_before, behind_end, line_after}
 use Rattle.output_laws.proofs.TextLemmas.{behind_end-shorter}
 use Rattle.log_meaning.specs.Log.{Put}
-use Rattle.run_meaning.specs.ScriptCommands.{kept, Command, EditCommand, Said, Puts, Says, Wrong, said_by, put_limit, Next, Ends, Gives, Bad, Unended, ended, put_of, next_by, next_of}
+use Rattle.run_meaning.specs.ScriptCommands.{kept, Command, EditCommand, Said, Puts, Says, Wrong, said_by, Next, Ends, Gives, Bad, Unended, ended, put_of, next_by, next_of}
+use Rattle.name_meaning.specs.Limits.{put_limit}
 use Rattle.run_meaning.specs.ScriptItems.{Item, Spoken, items_by, items_within, items_of}
 use Rattle.run_meaning.specs.ScriptOutput.{has_fault}
 use Rattle.run_laws.specs.RunLaws.{Fault, BadLine, UnendedText, fault_items}

@@ -3,7 +3,8 @@ use Rattle.std.specs.Prelude.{◌≡◌, ℕ, ◌≤◌, Bool, true, false, List
 use Rattle.std.specs.List.{list_all}
 use Rattle.name_meaning.specs.Names.{Name, Text}
 use Rattle.log_meaning.specs.Log.{Put, Log}
-use Rattle.log_meaning.specs.Append.{text_limit, append_answer, appended, appended_all}
+use Rattle.name_meaning.specs.Limits.{text_limit}
+use Rattle.log_meaning.specs.Append.{append_answer, appended, appended_all}
 use Rattle.walk_meaning.specs.Walks.{Dependencies}
 use Rattle.output_meaning.specs.Printed.{bad_line, unended_line}
 use Rattle.run_meaning.specs.Judging.{Judging}

@@ -1,4 +1,5 @@
 -- The files of a folder, and how they are loaded (this profile).
+use Rattle.name_meaning.specs.Limits.{file_limit}
 use Rattle.text_meaning.specs.Trees.{first_name}
 use Rattle.std.specs.Prelude.{ℕ, Bool, List, [], ◌∷◌, ◌++◌, ◌-◌, ◌^◌, length, take, drop, nat_eq, nat_lt, filter, fold, Option, Some, None, if◌then◌else◌, codes}
 use Rattle.std.specs.List.{ends_with}
@@ -33,10 +34,6 @@ is_module_file file = ends_with nat_eq file.name (codes ".elf")
 -- The files of a folder that are loaded, in order.
 unfoldable pub module_files : List File → List File
 module_files files = filter is_module_file (in_order files)
-
--- The greatest length of a file.
-abbrev pub file_limit : ℕ
-file_limit = 2 ^ 26
 
 -- Where a loaded module came from: its file, and the place of its first byte there.
 pub record Origin : Type 0 where

@@ -1,16 +1,12 @@
 -- How the lines of a script are cut into commands, all of them (this profile).
+use Rattle.name_meaning.specs.Limits.{put_limit, line_limit, text_limit}
 use Rattle.std.specs.Prelude.{ℕ, suc, List, [], ◌∷◌, ◌==◌, ◌^◌, length, take, drop, nat_eq, nat_lt, Option, Some, None, option_map, if◌then◌else◌, codes}
 use Rattle.std.specs.List.{starts_with}
 use Rattle.std.specs.Str.{bytes_eq}
 use Rattle.output_meaning.specs.Lines.{content_of}
-use Rattle.output_meaning.specs.ScriptLines.{line_limit, is_name, is_silent, text_before, behind_end}
+use Rattle.output_meaning.specs.ScriptLines.{is_name, is_silent, text_before, behind_end}
 use Rattle.name_meaning.specs.Names.{Name, Text}
 use Rattle.log_meaning.specs.Log.{Edit, Put, Drop}
-use Rattle.log_meaning.specs.Append.{text_limit}
-
--- The greatest number of bytes between a `put` line and its end line, or the end of the input.
-abbrev pub put_limit : ℕ
-put_limit = 2 ^ 26
 
 -- What is kept of a text that is put: all of it, or as many bytes as show that it is longer than the limit of a text.
 abbrev pub kept : Text → Text

@@ -6,7 +6,7 @@ use Rattle.std.proofs.lemmas.List.{append-nil, length-append}
 use Rattle.mmt_outside.specs.Bytes.{preceded}
 use Rattle.output_meaning.specs.Lines.{lines_of, NoFeed}
 use Rattle.output_meaning.specs.ScriptLines.{is_end_line, text_before, behind_end, line_after}
-use Rattle.first_path_meaning.specs.Commands.{text_limit}
+use Rattle.name_meaning.specs.Limits.{text_limit}
 use Rattle.output_laws.proofs.LineLemmas.{lines_of-last}
 use Rattle.output_laws.proofs.TextLemmas.{IsTextSoFar, IsTextSoFar-nil, IsTextSoFar-more, EndsText, text_ends, RunsOut, text_runs_out, text_longer, first_line-feed}
 use Rattle.output_laws.proofs.LongLines.{text_before-long}

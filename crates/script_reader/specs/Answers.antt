@@ -4,7 +4,8 @@ use Rattle.std.specs.declared.option.Option.{Option}
 use Rattle.mmt_outside.specs.Faults.{Rose}
 use Rattle.output_meaning.specs.Lines.{lines_of}
 use Rattle.first_path_meaning.specs.Commands as meant
-use Rattle.output_meaning.specs.ScriptLines.{line_limit, line_after}
+use Rattle.name_meaning.specs.Limits.{text_limit, line_limit}
+use Rattle.output_meaning.specs.ScriptLines.{line_after}
 use Rattle.script_reader.specs.Texts.{StaysTold}
 use Rattle.script_reader.specs.declared.command.Command.{Command}
 use Rattle.script_reader.specs.declared.command.Command.TheVariants as commands
@@ -53,7 +54,7 @@ IsAnswer (Err fault) next lines after first line now = IsFault fault next first
 
 -- The names and texts of a command have no more bytes than a line may have, and a text that is put no more than a text may have.
 abbrev pub IsShort : Command → Type 0
-IsShort (commands.Put name text) = (length name ≤ line_limit) × (length text ≤ meant.text_limit)
+IsShort (commands.Put name text) = (length name ≤ line_limit) × (length text ≤ text_limit)
 IsShort (commands.Drop name) = length name ≤ line_limit
 IsShort (commands.Report name) = length name ≤ line_limit
 IsShort commands.Check = Unit {0}

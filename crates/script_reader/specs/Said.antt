@@ -1,7 +1,7 @@
 -- What the reader takes a line to say, as the definitions say it.
 use Rattle.std.specs.Prelude.{◌≤◌, length}
 use Rattle.first_path_meaning.specs.Commands as meant
-use Rattle.output_meaning.specs.ScriptLines.{line_limit}
+use Rattle.name_meaning.specs.Limits.{line_limit}
 use Rattle.script_reader.specs.declared.said.Said.{Said}
 use Rattle.script_reader.specs.declared.said.Said.TheVariants.{Nothing, Puts, Reports, Wrong}
 

@@ -4,7 +4,7 @@ use Rattle.std.specs.declared.option.Option.{Option}
 use Rattle.mmt_outside.specs.Bytes.{preceded}
 use Rattle.output_meaning.specs.Lines.{lines_of, NoFeed}
 use Rattle.output_meaning.specs.ScriptLines.{is_end_line, text_before, behind_end, line_after}
-use Rattle.first_path_meaning.specs.Commands.{text_limit}
+use Rattle.name_meaning.specs.Limits.{text_limit}
 use Rattle.script_reader.specs.Pieces.{EndsInFeed}
 use Rattle.script_reader.specs.declared.text.TextLine.{TextLine}
 use Rattle.script_reader.specs.declared.text.TextLine.TheVariants.{Text, End, Last, Long}

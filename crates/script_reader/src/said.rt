@@ -4,7 +4,8 @@ ghost use Rattle.std.specs.List.{list_all};
 ghost use Rattle.std.specs.Str.Lines.{strip_carriage_return};
 ghost use Rattle.output_meaning.specs.Lines as lines;
 ghost use Rattle.first_path_meaning.specs.Commands as commands;
-ghost use Rattle.output_meaning.specs.ScriptLines.{line_limit, is_name, is_silent, is_end_line};
+ghost use Rattle.name_meaning.specs.Limits.{line_limit};
+ghost use Rattle.output_meaning.specs.ScriptLines.{is_name, is_silent, is_end_line};
 ghost use Rattle.name_meaning.specs.Characters as characters;
 ghost use Rattle.script_reader.specs.Said.{meaning_of, IsWithin};
 

@@ -11,9 +11,10 @@ use Rattle.token_laws.proofs.CutFollows.{and_front, or_front, or_back}
 use Rattle.twelf_lexer.specs.Scans.{IsFront}
 use Rattle.twelf_lexer.specs.Rows.{IsRow, IsLongestRow, row_goes_on}
 use Rattle.twelf_lexer.proofs.Fronts.{here_and_on}
-use Rattle.twelf_lexer.proofs.Places.{Stands, begins_at, begins_in, front_length, front_parts, ends_row_begins}
+use Rattle.twelf_lexer.proofs.Places.{Stands, begins_at, begins_in, front_length, front_parts}
 use Rattle.twelf_lexer.proofs.RowSteps.{row_is_over, one_run, row_begins, row_grows}
 use Rattle.list_laws.proofs.Booleans.{and_second}
+use Rattle.token_laws.proofs.Bytes.{ends_row_begins}
 
 -- ---- to the end of the row
 

@@ -15,8 +15,9 @@ use Rattle.twelf_lexer.specs.Scans.{IsFront}
 use Rattle.twelf_lexer.specs.Rows.{IsRow, row_goes_on}
 use Rattle.twelf_lexer.specs.Steps.{Advances}
 use Rattle.twelf_lexer.proofs.Fronts.{here_and_on}
-use Rattle.twelf_lexer.proofs.Places.{Stands, begins_at, front_length, front_parts, boundary_before, ends_row_begins}
+use Rattle.twelf_lexer.proofs.Places.{Stands, begins_at, front_length, front_parts, boundary_before}
 use Rattle.list_laws.proofs.Booleans.{and_second}
+use Rattle.token_laws.proofs.Bytes.{ends_row_begins}
 
 -- ---- whether a row goes on
 

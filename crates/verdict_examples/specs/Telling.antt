@@ -6,6 +6,7 @@ use Rattle.log_meaning.specs.Log.{Module, Library, with_module, without_module}
 use Rattle.expansion_meaning.specs.Rules.{Rule}
 use Rattle.verdict_meaning.specs.Verdicts.{Verdict, Accepted, Refused, Theory, View}
 use Rattle.verdict_meaning.specs.Rounds.{verdict_of}
+use Rattle.text_meaning.specs.Places.{line_at, column_at}
 
 -- What is told of a verdict: a number of declarations; a number of constants; or a line and a column, counted from 1, a
 -- rule and a label.
@@ -14,19 +15,6 @@ pub data Told : Type 0 where
   ViewOf : ℕ → Told
   RefusedAt : (line column : ℕ) → Rule → List Name → Told
   Absent : Told
-
--- The line of a place.
-abbrev pub line_at : Text → ℕ → ℕ
-line_at text at = suc (length (filter (λ byte. byte == 10) (take at text)))
-
--- How many bytes stand behind the last line feed.
-abbrev pub behind_feed : ℕ → Text → ℕ
-behind_feed count [] = count
-behind_feed count (byte ∷ text) = behind_feed (if byte == 10 then 0 else (count + 1)) text
-
--- The column of a place, counted from 1.
-abbrev pub column_at : Text → ℕ → ℕ
-column_at text at = suc (behind_feed 0 (take at text))
 
 -- What is told of a verdict on this text.
 abbrev pub told : Text → Option Verdict → Told
