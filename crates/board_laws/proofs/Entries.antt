@@ -17,7 +17,7 @@ use Rattle.board_meaning.specs.Legal.{IsLegal}
 use Rattle.board_laws.specs.HistoryLaws.{is_edit_call}
 use Rattle.list_laws.proofs.Places.{get_take}
 use Rattle.board_machine_laws.proofs.Histories.{log_append}
-use Rattle.board_laws.proofs.Legality.{follows_event, edit_event_edit, close_event, claim_event, least_is_ready}
+use Rattle.board_laws.proofs.Legality.{follows_event, edit_event_edit, close_event, claim_event, least_is_ready, install_no_edit}
 use Rattle.board_laws.proofs.Standings.{ready_parts}
 use Rattle.board_laws.proofs.Pointing.{ending_call, by_within}
 
@@ -42,10 +42,6 @@ unlogged : (H : History) (pass : ℕ) (o : Option Event) → ((e : Event) → o 
 unfolding log_of
 unlogged H pass None h = refl
 unlogged H pass (Some e) h = rw (h e refl) refl
-
-pub install_no_edit : (c : ℕ) (r : Installed) → edit_of (install_event c r) ≡ None
-install_no_edit c IsInstalled = refl
-install_no_edit c (IsStale n k) = refl
 
 no_edit : (dependencies : Dependencies) (H : History) (call : Call) → is_edit_call call ≡ false → (e : Event) → event_of dependencies H call ≡ Some e → edit_of e ≡ None
 unfolding event_of

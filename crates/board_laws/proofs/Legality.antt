@@ -18,7 +18,6 @@ use Rattle.list_laws.proofs.Places.{place_within, get_front, get_last, get_more,
 use Rattle.board_machine_laws.proofs.Histories.{log_none, log_some}
 use Rattle.board_machine_laws.proofs.Claiming.{claim_entry}
 use Rattle.list_laws.proofs.Options.{clash}
-use Rattle.board_laws.proofs.Entries.{install_no_edit}
 
 -- ---- histories that grow
 
@@ -128,6 +127,10 @@ event_install dependencies H (InstallCall d) e c h g =
     (ap InstallCall r.0, ap (install_reply dependencies H) (sym r.0) ∙ r.1)
 event_install dependencies H (ReleaseCall d) e c h g = let q : Release d ≡ e = cc in absurd (clash (installed_claim e) (sym (ap installed_claim q)) g)
 event_install dependencies H CloseCall e c h g = absurd (clash (installed_claim e) (ap installed_claim (close_event (is_closed H) e h).0) g)
+
+pub install_no_edit : (c : ℕ) (r : Installed) → edit_of (install_event c r) ≡ None
+install_no_edit c IsInstalled = refl
+install_no_edit c (IsStale n k) = refl
 
 -- an edit is the call of that edit, which the log takes
 pub event_edit : (dependencies : Dependencies) (H : History) (call : Call) (e : Event) (edit : Edit) → event_of dependencies H call ≡ Some e → edit_of e ≡ Some edit

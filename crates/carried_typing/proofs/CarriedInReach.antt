@@ -23,8 +23,7 @@ use Rattle.acceptance_laws.proofs.StandsAlike.{object_alike, family_alike}
 use Rattle.row_typing.specs.TypedFaces.{IsTypedEnvironment}
 use Rattle.link_typing.proofs.LinksTyped.{links_are_typed}
 use Rattle.face_typing.proofs.LibrariesTyped.{closed_are_typed}
-use Rattle.printing_meaning.specs.CarriedLines.{Carries}
-use Rattle.judged_meaning.specs.Carrying.{carry}
+use Rattle.judged_meaning.specs.Carrying.{CarriedTo, carry}
 use Rattle.judged_laws.specs.CarryingLaws.{IsTranslated}
 use Rattle.judged_laws.proofs.Translated.{carry_is_translation}
 use Rattle.carried_typing.specs.CarriedTyping.{IsCarried, HaveReachOf, FacesCarryTyping, FacesCarryAlike}
@@ -141,7 +140,7 @@ module _ (library : Library) (name : Name) where
 
   -- what is carried in the one is carried in the other
   carried_too : (first second : Environment) → ((x : Name) → reached x ≡ true → of_reach x ≡ first x) → ((x : Name) → reached x ≡ true → of_reach x ≡ second x)
-      → (text : Text) (object : Object) (family : Family) → carry first name text ≡ Carries object family → carry second name text ≡ Carries object family
+      → (text : Text) (object : Object) (family : Family) → carry first name text ≡ CarriedTo object family → carry second name text ≡ CarriedTo object family
   carried_too first second f g text object family h =
       (carry_is_translation second name text object family).1
       (from_reach second g text object family (in_reach first f text object family ((carry_is_translation first name text object family).0 h)))

@@ -10,8 +10,7 @@ use Rattle.library_meaning.specs.Coherence.{IsCoherent}
 use Rattle.text_meaning.specs.Dependencies.{dependencies}
 use Rattle.verdict_meaning.specs.Rounds.{known_of, verdicts, told_by}
 use Rattle.row_typing.specs.TypedFaces.{IsTypedEnvironment}
-use Rattle.printing_meaning.specs.CarriedLines.{Carries}
-use Rattle.judged_meaning.specs.Carrying.{carry}
+use Rattle.judged_meaning.specs.Carrying.{CarriedTo, carry}
 use Rattle.judged_laws.specs.CarryingLaws.{IsTranslated}
 
 -- The object and the family are the translation, along the view of the name, of what the text stands for over the view's
@@ -26,13 +25,13 @@ abbrev pub CarriedIsTyping : Type 0
 CarriedIsTyping =
     (environment : Environment) (name : Name) (text : Text) (object : Object) (family : Family)
     → IsCoherent environment → IsTypedEnvironment environment
-    → carry environment name text ≡ Carries object family → IsCarried environment name text object family
+    → carry environment name text ≡ CarriedTo object family → IsCarried environment name text object family
 
 -- So it is over the verdicts of a library.
 abbrev pub LibrariesCarryTyping : Type 0
 LibrariesCarryTyping =
     (library : Library) (name : Name) (text : Text) (object : Object) (family : Family)
-    → carry (told_by library) name text ≡ Carries object family → IsCarried (told_by library) name text object family
+    → carry (told_by library) name text ≡ CarriedTo object family → IsCarried (told_by library) name text object family
 
 -- These are names with every present name of the reach of this one.
 abbrev pub HaveReachOf : Library → List Name → Name → Type 0
@@ -44,10 +43,10 @@ HaveReachOf library names name =
 abbrev pub FacesCarryTyping : Type 0
 FacesCarryTyping =
     (library : Library) (names : List Name) (name : Name) (text : Text) (object : Object) (family : Family) → HaveReachOf library names name
-    → carry (known_of names (verdicts library)) name text ≡ Carries object family → IsCarried (known_of names (verdicts library)) name text object family
+    → carry (known_of names (verdicts library)) name text ≡ CarriedTo object family → IsCarried (known_of names (verdicts library)) name text object family
 
 -- What is carried over such names is what is carried over all that the verdicts tell.
 abbrev pub FacesCarryAlike : Type 0
 FacesCarryAlike =
     (library : Library) (names : List Name) (name : Name) (text : Text) (object : Object) (family : Family) → HaveReachOf library names name
-    → (carry (known_of names (verdicts library)) name text ≡ Carries object family) ↔ (carry (told_by library) name text ≡ Carries object family)
+    → (carry (known_of names (verdicts library)) name text ≡ CarriedTo object family) ↔ (carry (told_by library) name text ≡ CarriedTo object family)

@@ -14,7 +14,7 @@ use Rattle.holding_laws.specs.HoldingLaws.{Grows}
 use Rattle.holding_laws.specs.HeadsHold.{PartlyHolds, UnderBinders, OnSpine, HeadHolds}
 use Rattle.holding_laws.proofs.Growing.{object_grows, family_grows, kind_grows}
 use Rattle.holding_laws.proofs.Replaced.{substitute_family_holds, substitute_kind_holds, app_holds}
-use Rattle.lf_term_laws.proofs.Spines.{domains_map}
+use Rattle.lf_term_laws.proofs.Spines.{domain_count_map}
 
 module _ (signature : Signature) where
   atomic_kept : (f : ℕ → Object → Object) (n : ℕ) (a : Family) → IsAtomicFamily a → IsAtomicFamily (map_family f n a)
@@ -40,9 +40,9 @@ module _ (signature : Signature) where
   family_head_taken : (v binders : ℕ) (family domain : Family) (kind : Kind) (m : Object) → PartlyHolds signature v binders (suc (domain_count kind)) family → FamilyHolds signature v domain → KindHolds signature (suc v) kind → ObjectHolds signature v m
       → HeadHolds signature v (family_head_takes binders family domain kind m)
   family_head_taken v zero family domain kind m p d k g =
-      (taken_on_spine v (domain_count (substitute_kind m (erase domain) 0 kind)) (domain_count kind) family m (domains_map (substitute m (erase domain)) 0 kind) p g, kind_taken v domain kind m k g)
+      (taken_on_spine v (domain_count (substitute_kind m (erase domain) 0 kind)) (domain_count kind) family m (domain_count_map (substitute m (erase domain)) 0 kind) p g, kind_taken v domain kind m k g)
   family_head_taken v (suc binders) family domain kind m p d k g =
-      (taken_by_binder v (domain_count (substitute_kind m (erase domain) 0 kind)) (domain_count kind) binders family domain m (domains_map (substitute m (erase domain)) 0 kind) p g, kind_taken v domain kind m k g)
+      (taken_by_binder v (domain_count (substitute_kind m (erase domain) 0 kind)) (domain_count kind) binders family domain m (domain_count_map (substitute m (erase domain)) 0 kind) p g, kind_taken v domain kind m k g)
 
   pub head_taken : (v : ℕ) (head : Head) (m : Object) (domain : Family) → domain_of head ≡ Some domain → HeadHolds signature v head → ObjectHolds signature v m → HeadHolds signature v (head_takes head m)
   head_taken v (ObjectHead object (Pi a b)) m domain e h g =

@@ -18,7 +18,7 @@ use Rattle.holding_laws.specs.HeadsHold.{PartlyHolds, HeadHolds}
 use Rattle.holding_laws.proofs.Heads.{head_taken, whole_holds, whole_atomic, object_anywhere, kind_anywhere, family_value_partly, constant_partly}
 use Rattle.std.proofs.lemmas.Option.{same_Some}
 use Rattle.list_laws.proofs.Lists.{first_same, rest_same}
-use Rattle.lf_term_laws.proofs.Spines.{domains_map}
+use Rattle.lf_term_laws.proofs.Spines.{domain_count_map}
 
 -- ---- values
 
@@ -106,7 +106,7 @@ module _ (from to : Signature) (along : HeadMap) (into : MapsInto from to along)
   takes_still v rest (ObjectHead object classifier) m h g = absurd h
   takes_still v rest (FamilyHead binders family Ty) m h g = absurd (let e = h.1 in omega (arith, e))
   takes_still v rest (FamilyHead binders family (PiKind a k)) m h g =
-      by binders (head_taken to v (FamilyHead binders family (PiKind a k)) m a refl h.0 g) (let e = h.1 in domains_map (substitute m (erase a)) 0 k ∙ omega (arith, e))
+      by binders (head_taken to v (FamilyHead binders family (PiKind a k)) m a refl h.0 g) (let e = h.1 in domain_count_map (substitute m (erase a)) 0 k ∙ omega (arith, e))
     where
       by : (b : ℕ) → HeadHolds to v (family_head_takes b family a k m) → domain_count (substitute_kind m (erase a) 0 k) ≡ rest → MissesStill v rest (family_head_takes b family a k m)
       by zero q e = (q, e)

@@ -9,7 +9,8 @@ use Rattle.verdict_meaning.specs.Verdicts as verdicts
 use Rattle.verdict_meaning.specs.Rounds.{verdict_of, told_by}
 use Rattle.printing_meaning.specs.VerdictLines.{Refusal, Judged, Refused, AcceptedTheory, AcceptedView}
 use Rattle.run_meaning.specs.Judging.{Judging}
-use Rattle.judged_meaning.specs.Carrying.{carry}
+use Rattle.printing_meaning.specs.CarriedLines.{Carried, Carries, NoView, Ill}
+use Rattle.judged_meaning.specs.Carrying.{Carriage, CarriedTo, NoSuchView, IllBy, carry}
 
 -- A refusal, as it is printed: the place where it begins, the rule's word and the label.
 abbrev pub printed_refusal : refusals.Refusal → Refusal
@@ -25,10 +26,16 @@ abbrev pub judged_if : Option verdicts.Verdict → Judged
 judged_if None = Refused (record { at = 0; rule = []; label = [] })
 judged_if (Some verdict) = judged_by verdict
 
+-- What carrying comes to, as it is printed: a broken rule with the place where it begins, and the rule's word.
+abbrev pub printed_carriage : Carriage → Carried
+printed_carriage (CarriedTo object family) = Carries object family
+printed_carriage NoSuchView = NoView
+printed_carriage (IllBy fault) = Ill fault.span.from (word_of fault.rule)
+
 -- The judging of the rules.
 abbrev pub rules : Judging
 rules = record {
   dependencies = dependencies;
   judged = λ (library : Library) (name : Name). judged_if (verdict_of library name);
-  carried = λ (library : Library) (view : Name) (text : Text). carry (told_by library) view text;
+  carried = λ (library : Library) (view : Name) (text : Text). printed_carriage (carry (told_by library) view text);
 }

@@ -93,6 +93,6 @@ family_argument_count_applied p [] = omega arith
 family_argument_count_applied p (m ∷ ms) = family_argument_count_applied (FamilyApp p m) ms ∙ omega arith
 
 -- a function on the objects of a kind leaves its domains as many
-pub domains_map : (f : ℕ → Object → Object) (n : ℕ) (k : Kind) → domain_count (map_kind f n k) ≡ domain_count k
-domains_map f n Ty = refl
-domains_map f n (PiKind domain kind) = ap suc (domains_map f (suc n) kind)
+pub domain_count_map : (f : ℕ → Object → Object) (n : ℕ) (k : Kind) → domain_count (map_kind f n k) ≡ domain_count k
+domain_count_map f n Ty = refl
+domain_count_map f n (PiKind domain kind) = ap suc (domain_count_map f (suc n) kind)

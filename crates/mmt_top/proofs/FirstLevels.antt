@@ -9,16 +9,16 @@ use Rattle.first_path_meaning.specs.Declared as meant
 use Rattle.first_path_meaning.specs.Verdicts as verdicts
 use Rattle.std.specs.BTreeMap.{BTreeMap, IsEmpty}
 use Rattle.std.specs.Borrow.{Bor}
-use Rattle.mmt_top.specs.FirstVerdicts.{level_in, levels_at, row_fault_by, verdict_of_fault}
+use Rattle.mmt_top.specs.FirstVerdicts.{read_level, levels_at, row_fault_by, verdict_of_fault}
 use Rattle.std.proofs.Math.Seq.{drop-cons}
 use Rattle.std.proofs.Math.ListN.{drop_of_length-le}
-use Rattle.mmt_top.specs.FirstPieces.{piece_of}
-use Rattle.mmt_top.specs.FirstForms.{row_in, declaration_in, declarations_in}
+use Rattle.mmt_top.specs.FirstPieces.{read_piece}
+use Rattle.mmt_top.specs.FirstForms.{read_names_row, read_declared, read_declarations}
 use Rattle.mmt_top.specs.declared.first_form.Declaration.{Declaration}
 use Rattle.mmt_top.specs.declared.first_verdict.Level.{Level}
 
 pub map_update : (b : Bool) (level : Level) (old : Option Level)
-    → option_map level_in (if b then Some level else old) ≡ (if b then Some (level_in level) else option_map level_in old)
+    → option_map read_level (if b then Some level else old) ≡ (if b then Some (read_level level) else option_map read_level old)
 map_update true level old = refl
 map_update false level old = refl
 
@@ -34,8 +34,8 @@ row_fault-by levels above same label (name ∷ others) =
 pub record Tested (levels : List ℕ → Option meant.Level) (fault : Option meant.Refusal) (declarations : List Declaration) (i : ℕ) : Type 0 where
   pub above : List form.Declaration
   pub table : (name : List ℕ) → levels name ≡ meant.declared above name
-  pub distinct : meant.are_distinct above (declarations_in (drop i declarations)) ≡ meant.are_distinct [] (declarations_in declarations)
-  pub faults : meant.or_else fault (meant.first_fault above (declarations_in (drop i declarations))) ≡ meant.first_fault [] (declarations_in declarations)
+  pub distinct : meant.are_distinct above (read_declarations (drop i declarations)) ≡ meant.are_distinct [] (read_declarations declarations)
+  pub faults : meant.or_else fault (meant.first_fault above (read_declarations (drop i declarations))) ≡ meant.first_fault [] (read_declarations declarations)
 
 pub Tested-nil : (levels : List ℕ → Option meant.Level) (fault : Option meant.Refusal) (declarations : List Declaration)
     → ((name : List ℕ) → levels name ≡ None) → fault ≡ None → Tested levels fault declarations 0
@@ -44,7 +44,7 @@ Tested-nil levels fault declarations empty none = record {
   above = [];
   table = empty;
   distinct = refl;
-  faults = ap (λ (o : Option meant.Refusal). meant.or_else o (meant.first_fault [] (declarations_in declarations))) none;
+  faults = ap (λ (o : Option meant.Refusal). meant.or_else o (meant.first_fault [] (read_declarations declarations))) none;
 }
 
 or_else-assoc : (a b c : Option meant.Refusal) → meant.or_else (meant.or_else a b) c ≡ meant.or_else a (meant.or_else b c)
@@ -53,19 +53,19 @@ or_else-assoc (Some x) b c = refl
 
 -- the next declaration
 next_is : (declarations : List Declaration) (i : ℕ) (item : Declaration) → i < length declarations → item ≡ get_or declarations i item
-    → declarations_in (drop i declarations) ≡ declaration_in item ∷ declarations_in (drop (i + 1) declarations)
+    → read_declarations (drop i declarations) ≡ read_declared item ∷ read_declarations (drop (i + 1) declarations)
 next_is declarations i item lt is =
-    ap (λ (ds : List Declaration). declarations_in ds) (drop-cons declarations i item lt ∙ ap (λ (n : ℕ). get_or declarations i item ∷ drop n declarations) (sym (add-one i))
+    ap (λ (ds : List Declaration). read_declarations ds) (drop-cons declarations i item lt ∙ ap (λ (n : ℕ). get_or declarations i item ∷ drop n declarations) (sym (add-one i))
     ∙ ap (λ (d : Declaration). d ∷ drop (i + 1) declarations) (sym is))
 
 -- a name that is there already
 pub tested_twice : (levels : List ℕ → Option meant.Level) (fault : Option meant.Refusal) (declarations : List Declaration) (i : ℕ) (item : Declaration)
-    → i < length declarations → item ≡ get_or declarations i item → Tested levels fault declarations i → is_none (levels (piece_of item.name).bytes) ≡ false
-    → meant.are_distinct [] (declarations_in declarations) ≡ false
+    → i < length declarations → item ≡ get_or declarations i item → Tested levels fault declarations i → is_none (levels (read_piece item.name).bytes) ≡ false
+    → meant.are_distinct [] (read_declarations declarations) ≡ false
 unfolding meant.are_distinct
 tested_twice levels fault declarations i item lt is tested found =
     sym tested.distinct ∙ ap (λ (ds : List form.Declaration). meant.are_distinct tested.above ds) (next_is declarations i item lt is)
-    ∙ rw (sym (tested.table (piece_of item.name).bytes), found) refl
+    ∙ rw (sym (tested.table (read_piece item.name).bytes), found) refl
 
 declared-more : (levels new : List ℕ → Option meant.Level) (above : List form.Declaration) (declaration : form.Declaration)
     → ((name : List ℕ) → levels name ≡ meant.declared above name)
@@ -76,24 +76,24 @@ declared-more levels new above declaration same grows name =
     grows name ∙ ap (λ (o : Option meant.Level). if bytes_eq declaration.name.bytes name then Some (meant.level_of declaration.row) else o) (same name)
 
 pub tested_more : (levels new : List ℕ → Option meant.Level) (fault found : Option meant.Refusal) (declarations : List Declaration) (i : ℕ) (item : Declaration)
-    → i < length declarations → item ≡ get_or declarations i item → Tested levels fault declarations i → is_none (levels (piece_of item.name).bytes) ≡ true
-    → found ≡ meant.or_else fault (row_fault_by levels (piece_of item.name).bytes (meant.names_in (row_in item.row)))
-    → ((other : List ℕ) → new other ≡ (if bytes_eq (piece_of item.name).bytes other then Some (meant.level_of (row_in item.row)) else levels other))
+    → i < length declarations → item ≡ get_or declarations i item → Tested levels fault declarations i → is_none (levels (read_piece item.name).bytes) ≡ true
+    → found ≡ meant.or_else fault (row_fault_by levels (read_piece item.name).bytes (meant.names_in (read_names_row item.row)))
+    → ((other : List ℕ) → new other ≡ (if bytes_eq (read_piece item.name).bytes other then Some (meant.level_of (read_names_row item.row)) else levels other))
     → Tested new found declarations (i + 1)
 unfolding meant.are_distinct meant.first_fault
 tested_more levels new fault found declarations i item lt is tested fresh faults grows = record {
-  above = declaration_in item ∷ tested.above;
-  table = declared-more levels new tested.above (declaration_in item) tested.table grows;
+  above = read_declared item ∷ tested.above;
+  table = declared-more levels new tested.above (read_declared item) tested.table grows;
   distinct =
-      ap (λ (b : Bool). b && meant.are_distinct (declaration_in item ∷ tested.above) (declarations_in (drop (i + 1) declarations)))
-      (sym (ap (λ (o : Option meant.Level). is_none o) (sym (tested.table (piece_of item.name).bytes)) ∙ fresh))
+      ap (λ (b : Bool). b && meant.are_distinct (read_declared item ∷ tested.above) (read_declarations (drop (i + 1) declarations)))
+      (sym (ap (λ (o : Option meant.Level). is_none o) (sym (tested.table (read_piece item.name).bytes)) ∙ fresh))
       ∙ sym (ap (λ (ds : List form.Declaration). meant.are_distinct tested.above ds) (next_is declarations i item lt is)) ∙ tested.distinct;
   faults =
-      ap (λ (o : Option meant.Refusal). meant.or_else o (meant.first_fault (declaration_in item ∷ tested.above) (declarations_in (drop (i + 1) declarations))))
+      ap (λ (o : Option meant.Refusal). meant.or_else o (meant.first_fault (read_declared item ∷ tested.above) (read_declarations (drop (i + 1) declarations))))
       (faults ∙ ap (λ (o : Option meant.Refusal). meant.or_else fault o)
-      (row_fault-by levels tested.above tested.table (piece_of item.name).bytes (meant.names_in (row_in item.row))))
-      ∙ or_else-assoc fault (meant.row_fault tested.above (piece_of item.name).bytes (meant.names_in (row_in item.row)))
-      (meant.first_fault (declaration_in item ∷ tested.above) (declarations_in (drop (i + 1) declarations)))
+      (row_fault-by levels tested.above tested.table (read_piece item.name).bytes (meant.names_in (read_names_row item.row))))
+      ∙ or_else-assoc fault (meant.row_fault tested.above (read_piece item.name).bytes (meant.names_in (read_names_row item.row)))
+      (meant.first_fault (read_declared item ∷ tested.above) (read_declarations (drop (i + 1) declarations)))
       ∙ ap (λ (ds : List form.Declaration). meant.or_else fault (meant.first_fault tested.above ds)) (sym (next_is declarations i item lt is)) ∙ tested.faults;
 }
 
@@ -104,19 +104,19 @@ or_else-none (Some x) = refl
 -- all were tested
 pub tested_all : (levels : List ℕ → Option meant.Level) (fault : Option meant.Refusal) (declarations : List Declaration) (i : ℕ)
     → length declarations ≤ i → Tested levels fault declarations i
-    → (meant.are_distinct [] (declarations_in declarations) ≡ true) × (meant.first_fault [] (declarations_in declarations) ≡ fault)
+    → (meant.are_distinct [] (read_declarations declarations) ≡ true) × (meant.first_fault [] (read_declarations declarations) ≡ fault)
 unfolding meant.are_distinct meant.first_fault
 tested_all levels fault declarations i past tested =
     let none : drop i declarations ≡ [] = drop_of_length-le declarations past in (
-      sym tested.distinct ∙ ap (λ (ds : List Declaration). meant.are_distinct tested.above (declarations_in ds)) none,
-      sym tested.faults ∙ ap (λ (ds : List Declaration). meant.or_else fault (meant.first_fault tested.above (declarations_in ds))) none ∙ or_else-none fault,
+      sym tested.distinct ∙ ap (λ (ds : List Declaration). meant.are_distinct tested.above (read_declarations ds)) none,
+      sym tested.faults ∙ ap (λ (ds : List Declaration). meant.or_else fault (meant.first_fault tested.above (read_declarations ds))) none ∙ or_else-none fault,
     )
 
-pub found_some : (o : Option Level) (b : Bool) → b ≡ is_some o → b ≡ true → is_none (option_map level_in o) ≡ false
+pub found_some : (o : Option Level) (b : Bool) → b ≡ is_some o → b ≡ true → is_none (option_map read_level o) ≡ false
 found_some None b is holds = absurd cc
 found_some (Some level) b is holds = refl
 
-pub found_none : (o : Option Level) (b : Bool) → b ≡ is_some o → b ≡ false → is_none (option_map level_in o) ≡ true
+pub found_none : (o : Option Level) (b : Bool) → b ≡ is_some o → b ≡ false → is_none (option_map read_level o) ≡ true
 found_none None b is fails = refl
 found_none (Some level) b is fails = absurd cc
 
@@ -133,11 +133,11 @@ verdict_twice name declarations verdict is twice = rw twice is
 pub empty_levels : (levels : BTreeMap (Bor (List ℕ)) Level) (name : List ℕ) → IsEmpty levels → levels_at levels name ≡ None
 empty_levels levels name empty = rw empty refl
 
-length-declarations_in : (declarations : List Declaration) → length (declarations_in declarations) ≡ length declarations
+length-declarations_in : (declarations : List Declaration) → length (read_declarations declarations) ≡ length declarations
 length-declarations_in [] = refl
 length-declarations_in (d ∷ ds) = ap (λ (n : ℕ). suc n) (length-declarations_in ds)
 
 pub fault_by : (declarations : List Declaration) (fault : Option meant.Refusal)
-    → verdict_of_fault (length declarations) fault ≡ verdicts.verdict_by (declarations_in declarations) fault
+    → verdict_of_fault (length declarations) fault ≡ verdicts.verdict_by (read_declarations declarations) fault
 fault_by declarations None = ap (λ (n : ℕ). verdicts.accepted n) (sym (length-declarations_in declarations))
 fault_by declarations (Some refusal) = refl

@@ -18,7 +18,7 @@ use Rattle.script_reader.specs.declared.fault.ScriptFault.{ScriptFault as Fault}
 use Rattle.script_reader.specs.declared.fault.ScriptFault.TheVariants as faults
 use Rattle.mmt_top.specs.declared.status.Status.{Status}
 use Rattle.mmt_top.specs.declared.status.Status.TheVariants.{Done, Refused, Usage, ReadFault, WriteFault, Memory, ScriptFault}
-use Rattle.mmt_top.specs.Session.{command_in, items_to_come, output_to_come, GoesOn, EndsAs, SpokenTells, FaultTells, TurnTells}
+use Rattle.mmt_top.specs.Session.{read_command, items_to_come, output_to_come, GoesOn, EndsAs, SpokenTells, FaultTells, TurnTells}
 
 -- ---- what the bytes to come hold
 
@@ -38,7 +38,7 @@ items_command reading later bytes rest c is line may_put =
     ∙ ap (λ (n : ℕ). meant.command c ∷ meant.items_of n (meant.may_put_after reading.may_put c) (lines_of rest)) (sym line)
     ∙ ap (λ (b : Bool). meant.command c ∷ meant.items_of later.line b (lines_of rest)) (sym may_put)
 
-may_put_is : (may_put : Bool) (command : Command) → meant.may_put_after may_put (command_in command) ≡ may_put_next may_put command
+may_put_is : (may_put : Bool) (command : Command) → meant.may_put_after may_put (read_command command) ≡ may_put_next may_put command
 may_put_is may_put (spoken.Put name text) = refl
 may_put_is may_put (spoken.Drop name) = refl
 may_put_is may_put (spoken.Report name) = refl
@@ -51,7 +51,7 @@ may_put_is may_put spoken.End = refl
 
 -- the command that was given, when it is not the end
 leaves_of : (command : Command) (next : commands.Next) (lines : List (List ℕ)) (after : Option (List ℕ)) (line now : ℕ)
-    → IsGiven command → (command ≡ spoken.End → ⊥) → IsNext command next lines after line now → Leaves next (command_in command) lines after line now
+    → IsGiven command → (command ≡ spoken.End → ⊥) → IsNext command next lines after line now → Leaves next (read_command command) lines after line now
 leaves_of (spoken.Put name text) next lines after line now given other is = is
 leaves_of (spoken.Drop name) next lines after line now given other is = absurd given
 leaves_of (spoken.Report name) next lines after line now given other is = is
@@ -74,24 +74,24 @@ fault_command c items = refl
 -- ---- a command
 
 goes_on : (reading later : Reading) (bytes rest : List ℕ) (theory next : Option meant.Put) (before now : Option Taken) (command : Command)
-    → (commands.next_of reading.may_put (lines_of bytes) ≡ commands.gives (command_in command) (lines_of rest))
+    → (commands.next_of reading.may_put (lines_of bytes) ≡ commands.gives (read_command command) (lines_of rest))
     × (later.line ≡ line_after reading.line (lines_of bytes) (lines_of rest))
     → later.may_put ≡ may_put_next reading.may_put command
-    → SpokenTells None before now theory next (command_in command) → GoesOn before now bytes theory next reading later rest
+    → SpokenTells None before now theory next (read_command command) → GoesOn before now bytes theory next reading later rest
 goes_on reading later bytes rest theory next before now command leaves may_put tells =
-    let items = items_command reading later bytes rest (command_in command) leaves.0 leaves.1 (may_put ∙ sym (may_put_is reading.may_put command)) in
+    let items = items_command reading later bytes rest (read_command command) leaves.0 leaves.1 (may_put ∙ sym (may_put_is reading.may_put command)) in
     record {
-      written = meant.command_lines theory (command_in command);
+      written = meant.command_lines theory (read_command command);
       took = tells.0;
-      output = ap (λ (is : List meant.Item). meant.output_from theory is) items ∙ output_command theory (command_in command) (items_to_come later rest)
-          ∙ ap (λ (p : Option meant.Put). meant.command_lines theory (command_in command) ++ meant.output_from p (items_to_come later rest)) (sym tells.1);
-      faults = ap (λ (is : List meant.Item). meant.has_fault is) items ∙ fault_command (command_in command) (items_to_come later rest);
+      output = ap (λ (is : List meant.Item). meant.output_from theory is) items ∙ output_command theory (read_command command) (items_to_come later rest)
+          ∙ ap (λ (p : Option meant.Put). meant.command_lines theory (read_command command) ++ meant.output_from p (items_to_come later rest)) (sym tells.1);
+      faults = ap (λ (is : List meant.Item). meant.has_fault is) items ∙ fault_command (read_command command) (items_to_come later rest);
     }
 
 goes_on_by : (reading later : Reading) (bytes : List ℕ) (after : Option (List ℕ)) (theory next : Option meant.Put) (before now : Option Taken) (command : Command)
-    → Leaves (commands.next_of reading.may_put (lines_of bytes)) (command_in command) (lines_of bytes) after reading.line later.line
+    → Leaves (commands.next_of reading.may_put (lines_of bytes)) (read_command command) (lines_of bytes) after reading.line later.line
     → later.may_put ≡ may_put_next reading.may_put command
-    → SpokenTells None before now theory next (command_in command) → IfSome after (λ rest. GoesOn before now bytes theory next reading later rest)
+    → SpokenTells None before now theory next (read_command command) → IfSome after (λ rest. GoesOn before now bytes theory next reading later rest)
 goes_on_by reading later bytes None theory next before now command leaves may_put tells = tt
 goes_on_by reading later bytes (Some rest) theory next before now command leaves may_put tells =
     goes_on reading later bytes rest theory next before now command leaves may_put tells
@@ -110,9 +110,9 @@ cut_short ScriptFault before now lines more fault ends other = absurd (false_tru
     false_true e = cc
 
 ends_by : (status : Status) (reading later : Reading) (bytes : List ℕ) (after : Option (List ℕ)) (theory next : Option meant.Put) (before now : Option Taken) (command : Command)
-    → Leaves (commands.next_of reading.may_put (lines_of bytes)) (command_in command) (lines_of bytes) after reading.line later.line
+    → Leaves (commands.next_of reading.may_put (lines_of bytes)) (read_command command) (lines_of bytes) after reading.line later.line
     → IsSome after → later.may_put ≡ may_put_next reading.may_put command
-    → EndsAs status before now (meant.command_lines theory (command_in command)) false → (status ≡ Done → ⊥)
+    → EndsAs status before now (meant.command_lines theory (read_command command)) false → (status ≡ Done → ⊥)
     → EndsAs status before now (output_to_come theory reading bytes) (meant.has_fault (items_to_come reading bytes))
 ends_by status reading later bytes None theory next before now command leaves told may_put ends other = absurd (not_told told)
   where
@@ -120,18 +120,18 @@ ends_by status reading later bytes None theory next before now command leaves to
     not_told t = cc
 ends_by status reading later bytes (Some rest) theory next before now command leaves told may_put ends other =
     subst (λ (is : List meant.Item). EndsAs status before now (meant.output_from theory is) (meant.has_fault is))
-    (sym (items_command reading later bytes rest (command_in command) leaves.0 leaves.1 (may_put ∙ sym (may_put_is reading.may_put command))))
-    (subst (λ (output : List ℕ). EndsAs status before now output (meant.has_fault (meant.command (command_in command) ∷ items_to_come later rest)))
-    (sym (output_command theory (command_in command) (items_to_come later rest)))
-    (cut_short status before now (meant.command_lines theory (command_in command)) (meant.output_from (meant.put_after theory (command_in command)) (items_to_come later rest))
-    (meant.has_fault (meant.command (command_in command) ∷ items_to_come later rest)) ends other))
+    (sym (items_command reading later bytes rest (read_command command) leaves.0 leaves.1 (may_put ∙ sym (may_put_is reading.may_put command))))
+    (subst (λ (output : List ℕ). EndsAs status before now output (meant.has_fault (meant.command (read_command command) ∷ items_to_come later rest)))
+    (sym (output_command theory (read_command command) (items_to_come later rest)))
+    (cut_short status before now (meant.command_lines theory (read_command command)) (meant.output_from (meant.put_after theory (read_command command)) (items_to_come later rest))
+    (meant.has_fault (meant.command (read_command command) ∷ items_to_come later rest)) ends other))
 
 -- a turn that answered a command
 pub turn_spoken : (result : Option Status) (reading later : Reading) (bytes : List ℕ) (after : Option (List ℕ)) (theory next : Option meant.Put) (before now : Option Taken) (command : Command)
     → IsGiven command → (command ≡ spoken.End → ⊥)
     → IsNext command (commands.next_of reading.may_put (lines_of bytes)) (lines_of bytes) after reading.line later.line
     → IsSome after → later.may_put ≡ may_put_next reading.may_put command
-    → SpokenTells result before now theory next (command_in command)
+    → SpokenTells result before now theory next (read_command command)
     → TurnTells result before now bytes after theory next reading later
 turn_spoken None reading later bytes after theory next before now command given other is told may_put tells = (
   goes_on_by reading later bytes after theory next before now command
@@ -240,7 +240,7 @@ pub told_spoken : (result : Option Status) (reading later : Reading) (come after
     → reading.is_spent ≡ false → IsGiven command → (command ≡ spoken.End → ⊥)
     → IfSome come (λ bytes. reading.is_spent ≡ false → IsNext command (commands.next_of reading.may_put (lines_of bytes)) (lines_of bytes) after reading.line later.line)
     → StaysTold come after → later.may_put ≡ may_put_next reading.may_put command
-    → SpokenTells result before now theory next (command_in command)
+    → SpokenTells result before now theory next (read_command command)
     → IfSome come (λ bytes. TurnTells result before now bytes after theory next reading later)
 told_spoken result reading later None after theory next before now command fresh given other is told may_put tells = tt
 told_spoken result reading later (Some bytes) after theory next before now command fresh given other is told may_put tells =

@@ -7,20 +7,20 @@ use Rattle.mmt_top.specs.declared.first_form.Row.{Row}
 use Rattle.mmt_top.specs.declared.first_form.Row.TheVariants.{Kind, Names}
 use Rattle.mmt_top.specs.declared.first_form.Declaration.{Declaration}
 use Rattle.mmt_top.specs.declared.first_pieces.Piece.{Piece}
-use Rattle.mmt_top.specs.FirstPieces.{piece_of, pieces_in}
+use Rattle.mmt_top.specs.FirstPieces.{read_piece, read_pieces}
 
-abbrev pub row_in : Row → meant.Row
-row_in Kind = meant.kind
-row_in (Names names) = meant.names (pieces_in names.items)
+abbrev pub read_names_row : Row → meant.Row
+read_names_row Kind = meant.kind
+read_names_row (Names names) = meant.names (read_pieces names.items)
 
-abbrev pub declaration_in : Declaration → meant.Declaration
-declaration_in declaration = record { name = piece_of declaration.name; row = row_in declaration.row }
+abbrev pub read_declared : Declaration → meant.Declaration
+read_declared declaration = record { name = read_piece declaration.name; row = read_names_row declaration.row }
 
-abbrev pub declarations_in : List Declaration → List meant.Declaration
-declarations_in declarations = map declaration_in declarations
+abbrev pub read_declarations : List Declaration → List meant.Declaration
+read_declarations declarations = map read_declared declarations
 
 -- No piece is a dot; or the first dot stands at this index.
 abbrev pub IsDotAt : List Piece → Option ℕ → Type 0
-IsDotAt pieces None = NoDot (pieces_in pieces)
+IsDotAt pieces None = NoDot (read_pieces pieces)
 IsDotAt pieces (Some i) =
-    (i < length pieces) × NoDot (pieces_in (take i pieces)) × ((d : Piece) → is_text (codes ".") (piece_of (slice_index_or pieces i d)) ≡ true)
+    (i < length pieces) × NoDot (read_pieces (take i pieces)) × ((d : Piece) → is_text (codes ".") (read_piece (slice_index_or pieces i d)) ≡ true)

@@ -3,11 +3,11 @@ use Rattle.std.specs.Prelude.{◌≡◌, ◌<◌, ◌≤◌, ◌+◌, ℕ, List,
 use Rattle.first_path_meaning.specs.Pieces as meant
 use Rattle.mmt_top.specs.declared.first_pieces.Piece.{Piece}
 
-abbrev pub piece_of : Piece → meant.Piece
-piece_of piece = record { at = piece.at; bytes = piece.bytes.now }
+abbrev pub read_piece : Piece → meant.Piece
+read_piece piece = record { at = piece.at; bytes = piece.bytes.now }
 
-abbrev pub pieces_in : List Piece → List meant.Piece
-pieces_in pieces = map piece_of pieces
+abbrev pub read_pieces : List Piece → List meant.Piece
+read_pieces pieces = map read_piece pieces
 
 -- The piece is the first of those of the text from the place on, and the others follow it.
 pub record BeginsWith (text : List ℕ) (at : ℕ) (piece : meant.Piece) : Type 0 where

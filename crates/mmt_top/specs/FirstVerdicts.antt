@@ -16,25 +16,25 @@ use Rattle.mmt_top.specs.declared.first_verdict.Refusal.{Refusal}
 use Rattle.mmt_top.specs.declared.first_verdict.Verdict.{Verdict}
 use Rattle.mmt_top.specs.declared.first_verdict.Verdict.TheVariants.{Accepted, Refused}
 
-abbrev pub level_in : Level → meant.Level
-level_in Family = meant.family
-level_in Object = meant.object
+abbrev pub read_level : Level → meant.Level
+read_level Family = meant.family
+read_level Object = meant.object
 
-abbrev pub rule_in : Rule → meant.Rule
-rule_in rules.UnknownName = meant.unknown_name
-rule_in rules.Level = meant.level
-rule_in rules.Unsupported = meant.unsupported
+abbrev pub read_rule : Rule → meant.Rule
+read_rule rules.UnknownName = meant.unknown_name
+read_rule rules.Level = meant.level
+read_rule rules.Unsupported = meant.unsupported
 
-abbrev pub refusal_in : Refusal → meant.Refusal
-refusal_in refusal = record { at = refusal.at; rule = rule_in refusal.rule; label = refusal.label.now }
+abbrev pub read_refusal : Refusal → meant.Refusal
+read_refusal refusal = record { at = refusal.at; rule = read_rule refusal.rule; label = refusal.label.now }
 
-abbrev pub verdict_in : Verdict → verdicts.Verdict
-verdict_in (Accepted size) = verdicts.accepted size
-verdict_in (Refused refusal) = verdicts.refused (refusal_in refusal)
+abbrev pub read_verdict : Verdict → verdicts.Verdict
+read_verdict (Accepted size) = verdicts.accepted size
+read_verdict (Refused refusal) = verdicts.refused (read_refusal refusal)
 
 -- The level of a name in the table.
 abbrev pub levels_at : BTreeMap (Bor (List ℕ)) Level → List ℕ → Option meant.Level
-levels_at levels name = option_map level_in (get_by (λ key. slice_cmp nat_cmp name key.now) levels)
+levels_at levels name = option_map read_level (get_by (λ key. slice_cmp nat_cmp name key.now) levels)
 
 -- The first fault of the names of a row, where this gives the levels of the names above.
 abbrev pub row_fault_by : (List ℕ → Option meant.Level) → List ℕ → List pieces.Piece → Option meant.Refusal

@@ -16,21 +16,21 @@ use Rattle.mmt_top.specs.declared.status.Status.{Status}
 use Rattle.mmt_top.specs.declared.status.Status.TheVariants.{Done, Refused, Usage, ReadFault, WriteFault, Memory, ScriptFault}
 
 -- The text that was put, as the definitions have it.
-abbrev pub put_in : Option Theory → Option meant.Put
-put_in theory = option_map (λ t. record { name = t.name; text = t.text }) theory
+abbrev pub read_put : Option Theory → Option meant.Put
+read_put theory = option_map (λ t. record { name = t.name; text = t.text }) theory
 
 -- The command that the reader gave, as the definitions have it. The reader does not give the commands that stand
 -- for a blank line here, but for a blank line itself and the end, which has no line.
-abbrev pub command_in : Command → commands.Command
-command_in (spoken.Put name text) = commands.put name text
-command_in (spoken.Drop name) = commands.blank
-command_in (spoken.Report name) = commands.report name
-command_in spoken.Check = commands.blank
-command_in (spoken.Flat name) = commands.blank
-command_in (spoken.Carry view text) = commands.blank
-command_in spoken.Log = commands.blank
-command_in spoken.Blank = commands.blank
-command_in spoken.End = commands.blank
+abbrev pub read_command : Command → commands.Command
+read_command (spoken.Put name text) = commands.put name text
+read_command (spoken.Drop name) = commands.blank
+read_command (spoken.Report name) = commands.report name
+read_command spoken.Check = commands.blank
+read_command (spoken.Flat name) = commands.blank
+read_command (spoken.Carry view text) = commands.blank
+read_command spoken.Log = commands.blank
+read_command spoken.Blank = commands.blank
+read_command spoken.End = commands.blank
 
 -- The items of the bytes to come.
 abbrev pub items_to_come : Reading → List ℕ → List meant.Item

@@ -2,7 +2,7 @@
 ghost use Rattle.std.specs.Prelude.{◌≡◌, IfOk, OnOk};
 ghost use Rattle.first_path_meaning.specs.Script as meant;
 ghost use Rattle.script_reader.specs.Answers.{IsGiven};
-ghost use Rattle.mmt_top.specs.Session.{put_in, command_in};
+ghost use Rattle.mmt_top.specs.Session.{read_put, read_command};
 
 use crate::first_lines::{absent_line, put_line, verdict_line};
 use crate::first_verdict::verdict_of_text;
@@ -29,7 +29,7 @@ fn report_of(alloc: Global, theory: &Theory, name: &[u8]) -> Result<Vec<u8>, All
 }
 
 fn report_line(alloc: Global, theory: &Option<Theory>, name: &[u8]) -> Result<Vec<u8>, AllocError>
-    ensures { IfOk result (λ line. line.items ≡ meant.report_line (put_in theory.now) name.now) }
+    ensures { IfOk result (λ line. line.items ≡ meant.report_line (read_put theory.now) name.now) }
 {
     match theory {
         Some(theory) => report_of(alloc, theory, name),
@@ -44,8 +44,8 @@ pub(crate) fn answer(
     command: Command,
 ) -> Result<Vec<u8>, AllocError>
     requires { IsGiven command }
-    ensures lines { IfOk result (λ lines. lines.items ≡ meant.command_lines (put_in theory.old) (command_in command)) }
-    ensures put { OnOk result (put_in theory.new ≡ meant.put_after (put_in theory.old) (command_in command)) }
+    ensures lines { IfOk result (λ lines. lines.items ≡ meant.command_lines (read_put theory.old) (read_command command)) }
+    ensures put { OnOk result (read_put theory.new ≡ meant.put_after (read_put theory.old) (read_command command)) }
 {
     match command {
         Command::Put { name, text } => {

@@ -3,8 +3,8 @@ ghost use Rattle.std.specs.Prelude.{◌≡◌, ◌<◌, ◌&&◌, [], ◌∷◌,
 ghost use Rattle.std.specs.Option.{option_map, option_and_then};
 ghost use Rattle.first_path_meaning.specs.FirstForm as meant;
 ghost use Rattle.first_path_meaning.specs.Pieces.{is_text};
-ghost use Rattle.mmt_top.specs.FirstPieces.{piece_of, pieces_in};
-ghost use Rattle.mmt_top.specs.FirstForms.{row_in, declaration_in, declarations_in};
+ghost use Rattle.mmt_top.specs.FirstPieces.{read_piece, read_pieces};
+ghost use Rattle.mmt_top.specs.FirstForms.{read_names_row, read_declared, read_declarations};
 
 use crate::first_pieces::Piece;
 use std::alloc::{AllocError, Global};
@@ -28,7 +28,7 @@ pub(crate) struct Declaration<'t> {
 
 /// Whether a name and an arrow stand here, so that a row goes on.
 fn goes_on(name: &Piece<'_>, arrow: &Piece<'_>) -> bool
-    ensures { result ≡ (meant.is_name_piece (piece_of name.now) && is_text (codes "->") (piece_of arrow.now)) }
+    ensures { result ≡ (meant.is_name_piece (read_piece name.now) && is_text (codes "->") (read_piece arrow.now)) }
 {
     name.is_name() && arrow.is(b"->")
 }
@@ -36,7 +36,7 @@ fn goes_on(name: &Piece<'_>, arrow: &Piece<'_>) -> bool
 /// The one name that ends a row.
 fn last_name<'t>(pieces: &[Piece<'t>]) -> Option<Piece<'t>>
     requires { length pieces.now < 2 }
-    ensures { option_map (λ name. piece_of name ∷ []) result ≡ meant.names_of (pieces_in pieces.now) }
+    ensures { option_map (λ name. read_piece name ∷ []) result ≡ meant.names_of (read_pieces pieces.now) }
 {
     if pieces.len() != 1 {
         return None;
@@ -47,7 +47,7 @@ fn last_name<'t>(pieces: &[Piece<'t>]) -> Option<Piece<'t>>
 
 /// The names of a row, parted by arrows.
 fn read_names<'t>(alloc: Global, pieces: &[Piece<'t>]) -> Result<Option<Vec<Piece<'t>>>, AllocError>
-    ensures { IfOk result (λ names. option_map (λ v. pieces_in v.items) names ≡ meant.names_of (pieces_in pieces.now)) }
+    ensures { IfOk result (λ names. option_map (λ v. read_pieces v.items) names ≡ meant.names_of (read_pieces pieces.now)) }
 {
     let mut names = Vec::new(alloc);
     let mut rest = pieces;
@@ -66,7 +66,7 @@ fn read_names<'t>(alloc: Global, pieces: &[Piece<'t>]) -> Result<Option<Vec<Piec
 }
 
 fn read_short_row<'t>(alloc: Global, pieces: &[Piece<'t>]) -> Result<Option<Row<'t>>, AllocError>
-    ensures { IfOk result (λ row. option_map row_in row ≡ option_and_then meant.short_row (meant.names_of (pieces_in pieces.now))) }
+    ensures { IfOk result (λ row. option_map read_names_row row ≡ option_and_then meant.short_row (meant.names_of (read_pieces pieces.now))) }
 {
     let Some(names) = read_names(alloc, pieces)? else {
         return Ok(None);
@@ -80,7 +80,7 @@ fn read_short_row<'t>(alloc: Global, pieces: &[Piece<'t>]) -> Result<Option<Row<
 
 /// The row that the pieces spell.
 fn read_row<'t>(alloc: Global, pieces: &[Piece<'t>]) -> Result<Option<Row<'t>>, AllocError>
-    ensures { IfOk result (λ row. option_map row_in row ≡ meant.row_of (pieces_in pieces.now)) }
+    ensures { IfOk result (λ row. option_map read_names_row row ≡ meant.row_of (read_pieces pieces.now)) }
 {
     match pieces {
         [] => Ok(None),
@@ -94,7 +94,7 @@ pub(crate) fn read_declaration<'t>(
     alloc: Global,
     pieces: &[Piece<'t>],
 ) -> Result<Option<Declaration<'t>>, AllocError>
-    ensures { IfOk result (λ declaration. option_map declaration_in declaration ≡ meant.declaration_of (pieces_in pieces.now)) }
+    ensures { IfOk result (λ declaration. option_map read_declared declaration ≡ meant.declaration_of (read_pieces pieces.now)) }
 {
     match pieces {
         [name, colon, others @ ..] if name.is_name() && colon.is(b":") => {

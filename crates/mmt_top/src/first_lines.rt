@@ -5,7 +5,7 @@ ghost use Rattle.std.specs.List.{count_by, suffix_len};
 ghost use Rattle.first_path_meaning.specs.Declared as declared;
 ghost use Rattle.output_meaning.specs.Printed as printed;
 ghost use Rattle.first_path_meaning.specs.FirstLines.{rule_word, put_line, accepted_line, refused_line, verdict_line};
-ghost use Rattle.mmt_top.specs.FirstVerdicts.{rule_in, verdict_in, refusal_in};
+ghost use Rattle.mmt_top.specs.FirstVerdicts.{read_rule, read_verdict, read_refusal};
 
 use crate::first_verdict::{Refusal, Rule, Verdict};
 use std::alloc::{AllocError, Global};
@@ -50,7 +50,7 @@ fn push_number(alloc: Global, line: &mut Vec<u8>, number: u64) -> Result<(), All
 }
 
 fn rule_word(rule: Rule) -> &'static [u8]
-    ensures { result.now ≡ rule_word (rule_in rule) }
+    ensures { result.now ≡ rule_word (read_rule rule) }
 {
     match rule {
         Rule::UnknownName => b"unknown-name",
@@ -111,7 +111,7 @@ fn refused_line(
     text: &[u8],
     refusal: &Refusal<'_>,
 ) -> Result<Vec<u8>, AllocError>
-    ensures { IfOk result (λ line. line.items ≡ refused_line name.now version text.now (refusal_in refusal.now)) }
+    ensures { IfOk result (λ line. line.items ≡ refused_line name.now version text.now (read_refusal refusal.now)) }
 {
     let front = in_front(text, refusal.at);
     let mut line = named_at(alloc, name, version)?;
@@ -134,7 +134,7 @@ pub(crate) fn verdict_line(
     text: &[u8],
     verdict: &Verdict<'_>,
 ) -> Result<Vec<u8>, AllocError>
-    ensures { IfOk result (λ line. line.items ≡ verdict_line name.now version text.now (verdict_in verdict.now)) }
+    ensures { IfOk result (λ line. line.items ≡ verdict_line name.now version text.now (read_verdict verdict.now)) }
 {
     match verdict {
         Verdict::Accepted(size) => accepted_line(alloc, name, version, *size),

@@ -5,7 +5,7 @@ ghost use Rattle.name_meaning.specs.Characters as characters;
 ghost use Rattle.first_path_meaning.specs.Pieces as meant;
 ghost use Rattle.first_path_meaning.specs.Pieces.{pieces_from};
 ghost use Rattle.first_path_meaning.specs.FirstForm.{is_name_piece};
-ghost use Rattle.mmt_top.specs.FirstPieces.{piece_of, pieces_in, BeginsWith};
+ghost use Rattle.mmt_top.specs.FirstPieces.{read_piece, read_pieces, BeginsWith};
 
 use identifiers::{is_identifier, is_identifier_byte, is_special, is_white_space};
 use std::alloc::{AllocError, Global};
@@ -35,7 +35,7 @@ fn run_length(text: &[u8]) -> usize
 fn piece_at(text: &[u8], at: usize) -> Piece<'_>
     requires within { at < length text.now }
     requires begins { characters.is_white_space (slice_index text.now at) ≡ false }
-    ensures { BeginsWith text.now at (piece_of result) }
+    ensures { BeginsWith text.now at (read_piece result) }
 {
     let rest = &text[at..];
     if is_special(text[at]) {
@@ -52,7 +52,7 @@ fn piece_at(text: &[u8], at: usize) -> Piece<'_>
 
 /// The pieces of a text, in order.
 pub(crate) fn pieces(alloc: Global, text: &[u8]) -> Result<Vec<Piece<'_>>, AllocError>
-    ensures { IfOk result (λ pieces. pieces_in pieces.items ≡ pieces_from 0 text.now) }
+    ensures { IfOk result (λ pieces. read_pieces pieces.items ≡ pieces_from 0 text.now) }
 {
     let mut pieces = Vec::new(alloc);
     let mut at = 0;
@@ -71,13 +71,13 @@ pub(crate) fn pieces(alloc: Global, text: &[u8]) -> Result<Vec<Piece<'_>>, Alloc
 impl Piece<'_> {
     /// Whether the piece is this special character or word.
     pub(crate) fn is(&self, bytes: &[u8]) -> bool
-        ensures { result ≡ meant.is_text bytes.now (piece_of self.now) }
+        ensures { result ≡ meant.is_text bytes.now (read_piece self.now) }
     {
         self.bytes == bytes
     }
 
     pub(crate) fn is_name(&self) -> bool
-        ensures { result ≡ is_name_piece (piece_of self.now) }
+        ensures { result ≡ is_name_piece (read_piece self.now) }
     {
         is_identifier(self.bytes)
     }

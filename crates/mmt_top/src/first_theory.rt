@@ -3,8 +3,8 @@ ghost use Rattle.std.specs.Prelude.{◌≡◌, ◌<◌, length, IfOk, IfSome};
 ghost use Rattle.std.specs.Option.{option_map, option_and_then};
 ghost use Rattle.std.specs.Str as utf8;
 ghost use Rattle.first_path_meaning.specs.FirstForm as meant;
-ghost use Rattle.mmt_top.specs.FirstPieces.{pieces_in};
-ghost use Rattle.mmt_top.specs.FirstForms.{declarations_in, IsDotAt};
+ghost use Rattle.mmt_top.specs.FirstPieces.{read_pieces};
+ghost use Rattle.mmt_top.specs.FirstForms.{read_declarations, IsDotAt};
 
 use crate::first_form::{Declaration, read_declaration};
 use crate::first_pieces::{Piece, pieces};
@@ -27,7 +27,7 @@ fn dot_at(pieces: &[Piece<'_>]) -> Option<usize>
 
 /// Whether a sentence is the closing brace alone.
 fn is_close(sentence: &[Piece<'_>]) -> bool
-    ensures { result ≡ meant.is_close (pieces_in sentence.now) }
+    ensures { result ≡ meant.is_close (read_pieces sentence.now) }
 {
     match sentence {
         [brace] => brace.is(b"}"),
@@ -40,7 +40,7 @@ fn read_body<'t>(
     alloc: Global,
     pieces: &[Piece<'t>],
 ) -> Result<Option<Vec<Declaration<'t>>>, AllocError>
-    ensures { IfOk result (λ body. option_map (λ v. declarations_in v.items) body ≡ option_and_then meant.body_of (meant.sentences_of (pieces_in pieces.now))) }
+    ensures { IfOk result (λ body. option_map (λ v. read_declarations v.items) body ≡ option_and_then meant.body_of (meant.sentences_of (read_pieces pieces.now))) }
 {
     let mut found = Vec::new(alloc);
     let mut from = 0;
@@ -63,7 +63,7 @@ fn read_body<'t>(
 
 /// What follows `%sig N = {`, where the pieces begin so.
 fn behind_opening<'p, 't>(name: &[u8], pieces: &'p [Piece<'t>]) -> Option<&'p [Piece<'t>]>
-    ensures { option_map (λ body. pieces_in body.now) result ≡ meant.behind_opening name.now (pieces_in pieces.now) }
+    ensures { option_map (λ body. read_pieces body.now) result ≡ meant.behind_opening name.now (read_pieces pieces.now) }
 {
     match pieces {
         [percent, sig, own, equal, brace, body @ ..]
@@ -82,7 +82,7 @@ fn read_theory<'t>(
     name: &[u8],
     pieces: &[Piece<'t>],
 ) -> Result<Option<Vec<Declaration<'t>>>, AllocError>
-    ensures { IfOk result (λ theory. option_map (λ v. declarations_in v.items) theory ≡ meant.theory_of name.now (pieces_in pieces.now)) }
+    ensures { IfOk result (λ theory. option_map (λ v. read_declarations v.items) theory ≡ meant.theory_of name.now (read_pieces pieces.now)) }
 {
     if !(stand_alone(pieces) && is_identifier(name)) {
         return Ok(None);
@@ -105,7 +105,7 @@ pub(crate) fn spelled<'t>(
     name: &[u8],
     text: &'t [u8],
 ) -> Result<Option<Vec<Declaration<'t>>>, AllocError>
-    ensures { IfOk result (λ theory. option_map (λ v. declarations_in v.items) theory ≡ meant.spelled name.now text.now) }
+    ensures { IfOk result (λ theory. option_map (λ v. read_declarations v.items) theory ≡ meant.spelled name.now text.now) }
 {
     if !(is_utf8(text) && text.starts_with(b"%sig")) {
         return Ok(None);

@@ -4,9 +4,9 @@ ghost use Rattle.std.specs.Option.{option_map};
 ghost use Rattle.std.specs.Str.{bytes_eq};
 ghost use Rattle.first_path_meaning.specs.Declared as meant;
 ghost use Rattle.first_path_meaning.specs.Verdicts.{other_form as other_form_of, verdict_of_spelled, verdict_of};
-ghost use Rattle.mmt_top.specs.FirstPieces.{piece_of, pieces_in};
-ghost use Rattle.mmt_top.specs.FirstForms.{row_in, declarations_in};
-ghost use Rattle.mmt_top.specs.FirstVerdicts.{verdict_of_fault as fault_verdict, level_in, levels_at, refusal_in, verdict_in, row_fault_by};
+ghost use Rattle.mmt_top.specs.FirstPieces.{read_piece, read_pieces};
+ghost use Rattle.mmt_top.specs.FirstForms.{read_names_row, read_declarations};
+ghost use Rattle.mmt_top.specs.FirstVerdicts.{verdict_of_fault as fault_verdict, read_level, levels_at, read_refusal, read_verdict, row_fault_by};
 
 use crate::first_form::{Declaration, Row};
 use crate::first_pieces::Piece;
@@ -47,7 +47,7 @@ pub(crate) enum Verdict<'t> {
 type Levels<'t> = BTreeMap<&'t [u8], Level>;
 
 fn level_of(row: &Row<'_>) -> Level
-    ensures { level_in result ≡ meant.level_of (row_in row.now) }
+    ensures { read_level result ≡ meant.level_of (read_names_row row.now) }
 {
     match row {
         Row::Kind => Level::Family,
@@ -56,14 +56,14 @@ fn level_of(row: &Row<'_>) -> Level
 }
 
 fn look_up(levels: &Levels<'_>, name: &[u8]) -> Option<Level>
-    ensures { option_map level_in result ≡ levels_at levels.now name.now }
+    ensures { option_map read_level result ≡ levels_at levels.now name.now }
 {
     levels.get(name).copied()
 }
 
 fn declare<'t>(levels: &mut Levels<'t>, name: &'t [u8], level: Level) -> Result<(), AllocError>
     ensures { OnOk result ((other : List ℕ) →
-        levels_at levels.new other ≡ (if bytes_eq name.entry.now other then Some (level_in level) else levels_at levels.old other)) }
+        levels_at levels.new other ≡ (if bytes_eq name.entry.now other then Some (read_level level) else levels_at levels.old other)) }
 {
     levels.insert(name, level)?;
     Ok(())
@@ -71,7 +71,7 @@ fn declare<'t>(levels: &mut Levels<'t>, name: &'t [u8], level: Level) -> Result<
 
 /// The fault of a name in a row whose declaration has the label.
 fn fault_at<'t>(name: Piece<'t>, label: &'t [u8], level: Option<Level>) -> Option<Refusal<'t>>
-    ensures { option_map refusal_in result ≡ meant.fault_at (piece_of name.entry) label.entry.now (option_map level_in level) }
+    ensures { option_map read_refusal result ≡ meant.fault_at (read_piece name.entry) label.entry.now (option_map read_level level) }
 {
     let rule = match level {
         Some(Level::Family) => return None,
@@ -87,7 +87,7 @@ fn fault_at<'t>(name: Piece<'t>, label: &'t [u8], level: Option<Level>) -> Optio
 
 /// The first fault of the names of a row.
 fn names_fault<'t>(levels: &Levels<'_>, label: &'t [u8], names: &[Piece<'t>]) -> Option<Refusal<'t>>
-    ensures { option_map refusal_in result ≡ row_fault_by (levels_at levels.now) label.entry.now (pieces_in names.now) }
+    ensures { option_map read_refusal result ≡ row_fault_by (levels_at levels.now) label.entry.now (read_pieces names.now) }
 {
     for name in names {
         if let Some(fault) = fault_at(*name, label, look_up(levels, name.bytes)) {
@@ -98,7 +98,7 @@ fn names_fault<'t>(levels: &Levels<'_>, label: &'t [u8], names: &[Piece<'t>]) ->
 }
 
 fn row_fault<'t>(levels: &Levels<'_>, declaration: &Declaration<'t>) -> Option<Refusal<'t>>
-    ensures { option_map refusal_in result ≡ row_fault_by (levels_at levels.now) (piece_of declaration.now.name).bytes (meant.names_in (row_in declaration.now.row)) }
+    ensures { option_map read_refusal result ≡ row_fault_by (levels_at levels.now) (read_piece declaration.now.name).bytes (meant.names_in (read_names_row declaration.now.row)) }
 {
     match &declaration.row {
         Row::Kind => None,
@@ -112,8 +112,8 @@ fn first_fault<'t>(
     levels: &Levels<'_>,
     declaration: &Declaration<'t>,
 ) -> Option<Refusal<'t>>
-    ensures { option_map refusal_in result ≡ meant.or_else (option_map refusal_in found.entry)
-        (row_fault_by (levels_at levels.now) (piece_of declaration.now.name).bytes (meant.names_in (row_in declaration.now.row))) }
+    ensures { option_map read_refusal result ≡ meant.or_else (option_map read_refusal found.entry)
+        (row_fault_by (levels_at levels.now) (read_piece declaration.now.name).bytes (meant.names_in (read_names_row declaration.now.row))) }
 {
     match found {
         Some(fault) => Some(fault),
@@ -122,7 +122,7 @@ fn first_fault<'t>(
 }
 
 fn other_form(name: &[u8]) -> Verdict<'_>
-    ensures { verdict_in result ≡ other_form_of name.now }
+    ensures { read_verdict result ≡ other_form_of name.now }
 {
     Verdict::Refused(Refusal {
         at: 0,
@@ -133,7 +133,7 @@ fn other_form(name: &[u8]) -> Verdict<'_>
 
 /// The verdict of so many declarations with this first fault.
 fn verdict_of_fault(size: usize, fault: Option<Refusal<'_>>) -> Verdict<'_>
-    ensures { verdict_in result ≡ fault_verdict size (option_map refusal_in fault.entry) }
+    ensures { read_verdict result ≡ fault_verdict size (option_map read_refusal fault.entry) }
 {
     match fault {
         Some(fault) => Verdict::Refused(fault),
@@ -147,7 +147,7 @@ fn verdict_by<'t>(
     name: &'t [u8],
     declarations: &[Declaration<'t>],
 ) -> Result<Verdict<'t>, AllocError>
-    ensures { IfOk result (λ verdict. verdict_in verdict ≡ verdict_of_spelled name.entry.now (Some (declarations_in declarations.now))) }
+    ensures { IfOk result (λ verdict. read_verdict verdict ≡ verdict_of_spelled name.entry.now (Some (read_declarations declarations.now))) }
 {
     let mut levels = BTreeMap::new(alloc);
     let mut fault = None;
@@ -169,7 +169,7 @@ pub(crate) fn verdict_of_text<'t>(
     name: &'t [u8],
     text: &'t [u8],
 ) -> Result<Verdict<'t>, AllocError>
-    ensures { IfOk result (λ verdict. verdict_in verdict ≡ verdict_of name.entry.now text.entry.now) }
+    ensures { IfOk result (λ verdict. read_verdict verdict ≡ verdict_of name.entry.now text.entry.now) }
 {
     match spelled(alloc, name, text)? {
         Some(declarations) => verdict_by(alloc, name, &declarations),

@@ -5,7 +5,7 @@ ghost use Rattle.mmt_outside.specs.Faults.{Rose, HasCause};
 ghost use Rattle.first_path_meaning.specs.Script.{output_of, script_of, has_fault};
 ghost use Rattle.script_reader.specs.Answers.{IsGiven};
 ghost use Rattle.script_reader.specs.Reading.{to_come};
-ghost use Rattle.mmt_top.specs.Session.{put_in, command_in, items_to_come, output_to_come, GoesOn, EndsAs, IsFlushed, FlushesAt, IsSessionStatus, SpokenTells, FaultTells, TurnTells};
+ghost use Rattle.mmt_top.specs.Session.{read_put, read_command, items_to_come, output_to_come, GoesOn, EndsAs, IsFlushed, FlushesAt, IsSessionStatus, SpokenTells, FaultTells, TurnTells};
 
 use crate::first_answer::{Theory, answer};
 use crate::first_lines::{bad_line, unended_line};
@@ -38,7 +38,7 @@ fn speak<K: Sink>(
     command: Command,
 ) -> Option<Status>
     requires { IsGiven command }
-    ensures spoken { SpokenTells result (K.taken sink.old) (K.taken sink.new) (put_in theory.old) (put_in theory.new) (command_in command) }
+    ensures spoken { SpokenTells result (K.taken sink.old) (K.taken sink.new) (read_put theory.old) (read_put theory.new) (read_command command) }
     ensures status { IfSome result IsSessionStatus }
     ensures flush { IfSome result (λ status. FlushesAt status (K.taken sink.new)) }
     ensures later { K.faults sink.old ≤ K.faults sink.new }
@@ -113,7 +113,7 @@ fn turn<S: Source, K: Sink>(
 ) -> Option<Status>
     requires { script.old.is_spent ≡ false }
     ensures tells { IfSome (to_come script.old (S.left source.old)) (λ bytes. TurnTells result (K.taken sink.old) (K.taken sink.new)
-        bytes (to_come script.new (S.left source.new)) (put_in theory.old) (put_in theory.new) script.old script.new) }
+        bytes (to_come script.new (S.left source.new)) (read_put theory.old) (read_put theory.new) script.old script.new) }
     ensures on { IsNone result → script.new.is_spent ≡ false }
     ensures status { IfSome result IsSessionStatus }
     ensures flush { IfSome result (λ status. FlushesAt status (K.taken sink.new)) }

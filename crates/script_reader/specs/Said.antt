@@ -5,11 +5,11 @@ use Rattle.name_meaning.specs.Limits.{line_limit}
 use Rattle.script_reader.specs.declared.said.Said.{Said}
 use Rattle.script_reader.specs.declared.said.Said.TheVariants.{Nothing, Puts, Reports, Wrong}
 
-abbrev pub meaning_of : Said → meant.Said
-meaning_of Nothing = meant.nothing
-meaning_of (Puts name) = meant.puts name
-meaning_of (Reports name) = meant.reports name
-meaning_of Wrong = meant.wrong
+abbrev pub read_said : Said → meant.Said
+read_said Nothing = meant.nothing
+read_said (Puts name) = meant.puts name
+read_said (Reports name) = meant.reports name
+read_said Wrong = meant.wrong
 
 -- The name in what a line says is no longer than a line may be.
 abbrev pub IsWithin : Said → Type 0

@@ -7,7 +7,7 @@ ghost use Rattle.first_path_meaning.specs.Commands as commands;
 ghost use Rattle.name_meaning.specs.Limits.{line_limit};
 ghost use Rattle.output_meaning.specs.ScriptLines.{is_name, is_silent, is_end_line};
 ghost use Rattle.name_meaning.specs.Characters as characters;
-ghost use Rattle.script_reader.specs.Said.{meaning_of, IsWithin};
+ghost use Rattle.script_reader.specs.Said.{read_said, IsWithin};
 
 use lf_terms::{Memory, Name, NameFault};
 use identifiers::is_white_space;
@@ -87,7 +87,7 @@ fn is_silent(content: &[u8]) -> bool
 
 fn puts(alloc: Global, name: &[u8]) -> Result<Said, Memory>
     requires { length name.now ≤ line_limit }
-    ensures said { IfOk result (λ said. meaning_of said ≡ commands.of_name commands.puts name.now) }
+    ensures said { IfOk result (λ said. read_said said ≡ commands.of_name commands.puts name.now) }
     ensures within { IfOk result IsWithin }
 {
     Ok(match name_of(alloc, name)? {
@@ -98,7 +98,7 @@ fn puts(alloc: Global, name: &[u8]) -> Result<Said, Memory>
 
 fn reports(alloc: Global, name: &[u8]) -> Result<Said, Memory>
     requires { length name.now ≤ line_limit }
-    ensures said { IfOk result (λ said. meaning_of said ≡ commands.of_name commands.reports name.now) }
+    ensures said { IfOk result (λ said. read_said said ≡ commands.of_name commands.reports name.now) }
     ensures within { IfOk result IsWithin }
 {
     Ok(match name_of(alloc, name)? {
@@ -109,7 +109,7 @@ fn reports(alloc: Global, name: &[u8]) -> Result<Said, Memory>
 
 fn command_by(alloc: Global, content: &[u8]) -> Result<Said, Memory>
     requires { length content.now ≤ line_limit }
-    ensures said { IfOk result (λ said. meaning_of said ≡ commands.command_by content.now) }
+    ensures said { IfOk result (λ said. read_said said ≡ commands.command_by content.now) }
     ensures within { IfOk result IsWithin }
 {
     if content.starts_with(b"put ") {
@@ -122,7 +122,7 @@ fn command_by(alloc: Global, content: &[u8]) -> Result<Said, Memory>
 }
 
 fn said_by_content(alloc: Global, content: &[u8]) -> Result<Said, Memory>
-    ensures said { IfOk result (λ said. meaning_of said ≡ commands.said_by content.now) }
+    ensures said { IfOk result (λ said. read_said said ≡ commands.said_by content.now) }
     ensures within { IfOk result IsWithin }
 {
     if content.len() > LINE_LIMIT {
@@ -136,7 +136,7 @@ fn said_by_content(alloc: Global, content: &[u8]) -> Result<Said, Memory>
 
 /// What a line says, its line end included.
 pub(crate) fn said_by(alloc: Global, line: &[u8]) -> Result<Said, Memory>
-    ensures said { IfOk result (λ said. meaning_of said ≡ commands.said_by (lines.content_of line.now)) }
+    ensures said { IfOk result (λ said. read_said said ≡ commands.said_by (lines.content_of line.now)) }
     ensures within { IfOk result IsWithin }
 {
     said_by_content(alloc, content(line))

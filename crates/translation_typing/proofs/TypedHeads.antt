@@ -10,7 +10,7 @@ use Rattle.lf_typing.proofs.SubstitutionTyping.{substitute_is_family, substitute
 use Rattle.translation_meaning.specs.Heads.{Head, ObjectHead, FamilyHead, family_takes}
 use Rattle.translation_typing.specs.FamilyHeads.{FamilyTyped, OnSpine, UnderBinders}
 use Rattle.translation_sort_laws.proofs.KindDomains.{domains_append, domains_length, domains_map}
-use Rattle.lf_term_laws.proofs.Spines.{domains_map}
+use Rattle.lf_term_laws.proofs.Spines.{domain_count_map}
 
 -- a head of this kind
 abbrev pub HeadIs : Signature → Context → Kind → Head → Type 0
@@ -49,4 +49,4 @@ module _ (sig : Signature) (typed : IsSignature sig) (context : Context) (contex
       → FamilyTyped sig context binders (substitute_family n (erase a) binders family) (substitute_kind n (erase a) 0 k)
   binder_taken binders family a k n (OnSpine p b f h) i g = absurd (omega (arith, b))
   binder_taken binders family a k n (UnderBinders e h) i g =
-      UnderBinders (let c = domains_map (substitute n (erase a)) 0 k in omega (arith, e, c)) (body_taken a k binders family n (omega (arith, e)) i h g)
+      UnderBinders (let c = domain_count_map (substitute n (erase a)) 0 k in omega (arith, e, c)) (body_taken a k binders family n (omega (arith, e)) i h g)

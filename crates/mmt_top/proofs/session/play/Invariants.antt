@@ -1,14 +1,14 @@
 use Rattle.std.proofs.Common.{◌≡◌, ◌≤◌, false}
 use Rattle.std.specs.Prelude.{None}
 use Rattle.script_reader.specs.Reading.{to_come}
-use Rattle.mmt_top.specs.Session.{put_in}
+use Rattle.mmt_top.specs.Session.{read_put}
 use Rattle.mmt_top.proofs.Sessions.{Played, start}
 use Rattle.mmt_top.proofs.session.play.Given as goal
 
 abbrev pub invariant-loop : goal.invariant-loop
 invariant-loop g l = record {
   played : Played (g.K.Sink.taken l.fn.sink) (g.K.Sink.taken l.sink) (to_come start (g.S.Source.left l.fn.source)) (to_come l.script (g.S.Source.left l.source))
-      None (put_in l.theory) start l.script;
+      None (read_put l.theory) start l.script;
   fresh : l.script.is_spent ≡ false;
   source_later : g.S.Source.faults l.fn.source ≤ g.S.Source.faults l.source;
   sink_later : g.K.Sink.faults l.fn.sink ≤ g.K.Sink.faults l.sink;

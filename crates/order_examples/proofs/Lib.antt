@@ -1,0 +1,2 @@
+mod LinksComputed
+mod TermsComputed

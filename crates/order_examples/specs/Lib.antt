@@ -1,0 +1,3 @@
+pub mod OrderTexts
+pub mod LinkOrder
+pub mod TermOrder
