@@ -1,5 +1,5 @@
 -- The declarations before an index, looked up by name.
-use Rattle.std.proofs.Common.{◌≡◌, ℕ, zero, suc, ◌+◌, ◌<◌, ◌≤◌, Bool, true, false, cond, List, [], ◌∷◌, length, take, Option, Some, None, refl, sym, ap, ◌∙◌, arith}
+use Rattle.std.proofs.Common.{◌≡◌, ℕ, zero, suc, ◌+◌, ◌<◌, ◌≤◌, Bool, true, false, cond, List, [], ◌∷◌, take, Option, Some, None, refl, sym, ap, ◌∙◌, arith}
 use Rattle.std.specs.Prelude.{slice_get, position, not, nat_lt}
 use Rattle.std.specs.List.{find, position_or_len}
 use Rattle.std.specs.Option.{option_map}
@@ -11,7 +11,7 @@ use Rattle.lf_terms.specs.Readings.{read_constant, read_declaration, read_signat
 use Rattle.lf_terms.specs.Tables.{place_of}
 use Rattle.lf_terms.specs.declared.flat_decl.FlatDecl.{FlatDecl}
 use Rattle.lf_terms.specs.declared.qname.QName.{QName}
-use Rattle.lf_terms.proofs.Lookup.{declared_read}
+use Rattle.lf_terms.proofs.Lookup.{declared_read, position_is, position_past}
 
 module _ {X : Type 0} (p : X → Bool) where
   -- what is found within the first n is what stands at its place, if that is among them
@@ -33,35 +33,21 @@ module _ {X : Type 0} (p : X → Bool) where
       by true g rest = absurd (omega arith)
       by false g rest = rest (omega arith)
 
-  position_is : (xs : List X) (i : ℕ) → position p xs ≡ Some i → position_or_len p xs ≡ i
-  position_is xs i h = by (nat_lt (position_or_len p xs) (length xs)) h
-    where
-      by : (b : Bool) → cond b (Some (position_or_len p xs)) None ≡ Some i → position_or_len p xs ≡ i
-      by true g = cc
-      by false g = absurd (cc)
-
-  position_past : (xs : List X) → position p xs ≡ None → length xs ≤ position_or_len p xs
-  position_past xs h = by (nat_lt (position_or_len p xs) (length xs)) refl h
-    where
-      by : (b : Bool) → nat_lt (position_or_len p xs) (length xs) ≡ b → cond b (Some (position_or_len p xs)) None ≡ None → length xs ≤ position_or_len p xs
-      by true e g = absurd (cc)
-      by false e g = ltb-false (position_or_len p xs) (length xs) e
-
   pub found_before : (xs : List X) (n i : ℕ) → position p xs ≡ Some i → i < n → find p (take n xs) ≡ slice_get xs i
   found_before xs n i h below =
-      let is = position_is xs i h in
+      let is = position_is p xs i h in
       found_front xs n (omega arith) ∙ find_at p xs ∙ ap (slice_get xs) is
 
   pub none_before : (xs : List X) (n i : ℕ) → position p xs ≡ Some i → n ≤ i → find p (take n xs) ≡ None
   none_before xs n i h past =
-      let is = position_is xs i h in
+      let is = position_is p xs i h in
       none_front xs n (omega arith)
 
   pub none_at_all : (xs : List X) (n : ℕ) → position p xs ≡ None → find p (take n xs) ≡ None
   none_at_all xs n h = by (nat_lt (position_or_len p xs) n) refl
     where
       by : (b : Bool) → nat_lt (position_or_len p xs) n ≡ b → find p (take n xs) ≡ None
-      by true e = found_front xs n (ltb-true (position_or_len p xs) n e) ∙ find_at p xs ∙ slice_get_past xs (position_or_len p xs) (position_past xs h)
+      by true e = found_front xs n (ltb-true (position_or_len p xs) n e) ∙ find_at p xs ∙ slice_get_past xs (position_or_len p xs) (position_past p xs h)
       by false e = none_front xs n (ltb-false (position_or_len p xs) n e)
 
 module _ (decls : List FlatDecl) (q : QName) (n : ℕ) where

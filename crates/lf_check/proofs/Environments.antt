@@ -1,7 +1,7 @@
 -- The families of variables.
-use Rattle.std.proofs.Common.{◌≡◌, ℕ, suc, List, [], ◌∷◌, ◌++◌, map, reverse, Option, Some, None, Bor, refl, sym, ap, ◌∙◌}
+use Rattle.std.proofs.Common.{◌≡◌, ℕ, suc, List, [], ◌∷◌, ◌++◌, map, reverse, Bor, refl, sym, ap, ◌∙◌}
 use Rattle.std.specs.Prelude.{slice_get}
-use Rattle.std.specs.Option.{option_copied, option_map}
+use Rattle.std.specs.Option.{option_map}
 use Rattle.std.proofs.lemmas.Option.{slice_get-map}
 use Rattle.std.proofs.lemmas.List.{map-append, reverse-append}
 use Rattle.lf_meaning.specs.Terms.{Context}
@@ -31,8 +31,3 @@ family_given families i = sym (slice_get-map read_family (reverse families) i) �
 -- behind a binder
 pub family_bound : (family : Bor Fam) (outer : Bor Variables) (i j : ℕ) → i ≡ suc j → slice_get (read_variables outer.now) j ≡ slice_get (read_variables (variables.Bound family outer)) i
 family_bound family outer i j e = sym (ap (λ xs. slice_get xs i) (read_bound family outer) ∙ ap (slice_get (read_family family.now ∷ read_variables outer.now)) e)
-
--- what is read off what a reference points to
-pub copied_read : {A B : Type 0} (f : A → B) (found : Option (Bor A)) → option_map (λ r. f r.now) found ≡ option_map f (option_copied found)
-copied_read f None = refl
-copied_read f (Some r) = refl

@@ -1,16 +1,22 @@
 -- Look-up by name in the tables.
-use Rattle.std.proofs.Common.{◌≡◌, Bool, true, false, cond, List, [], ◌∷◌, map, Option, Some, None, is_some, refl, ap}
-use Rattle.std.specs.Option.{option_map}
+use Rattle.std.proofs.Common.{◌≡◌, ℕ, Bool, true, false, cond, List, [], ◌∷◌, map, Bor, Option, Some, None, is_some, refl, sym, ap, ◌∙◌}
+use Rattle.std.specs.Prelude.{slice_get, position, nat_lt, length, MatchOption, ◌≤◌}
+use Rattle.std.proofs.lemmas.List.Folds.{find_at}
+use Rattle.std.proofs.lemmas.Bool.{ltb-false}
+use Rattle.std.proofs.lemmas.Option.{slice_get-map, slice_get_past}
+use Rattle.lf_meaning.specs.HeadMaps as meant
+use Rattle.std.specs.Option.{option_copied, option_map}
 use Rattle.std.specs.Ordering.{on}
-use Rattle.std.specs.List.{AllByRecursion, IsDistinct}
+use Rattle.std.specs.List.{AllByRecursion, IsDistinct, find, position_or_len}
 use Rattle.std.specs.Map.{keys_of, lookup, values_of}
 use Rattle.lf_meaning.specs.Signatures.{declaration_of, same_constant}
 use Rattle.lf_terms.proofs.KeyedEntries.{found_by_key}
-use Rattle.lf_terms.specs.Readings.{read_constant, read_declaration, read_signature}
-use Rattle.lf_terms.specs.SameName.{same_qname, same_qname_equiv}
-use Rattle.lf_terms.specs.Tables.{declared, declared_names, HasDistinctNames}
+use Rattle.lf_terms.specs.Readings.{read_constant, read_declaration, read_signature, read_image, read_map}
+use Rattle.lf_terms.proofs.SameName.{same_qname, same_qname_equiv}
+use Rattle.lf_terms.specs.Tables.{declared, declared_names, image_of, place_of, HasDistinctNames}
 use Rattle.lf_terms.specs.declared.qname.QName.{QName}
 use Rattle.lf_terms.specs.declared.flat_decl.FlatDecl.{FlatDecl}
+use Rattle.lf_terms.specs.declared.flat_decl.Image.{Image}
 
 module _ {X Y : Type 0} (f : X → Y) where
   all_images : (P : Y → Type 0) (xs : List X) → AllByRecursion (λ x. P (f x)) xs → AllByRecursion P (map f xs)
@@ -22,6 +28,28 @@ module _ {X Y : Type 0} (f : X → Y) where
   unfolding IsDistinct
   distinct_images same [] h = tt
   distinct_images same (x ∷ xs) h = (all_images (λ y. same (f x) y ≡ false) xs h.0, distinct_images same xs h.1)
+
+module _ {X : Type 0} (p : X → Bool) where
+  pub position_is : (xs : List X) (i : ℕ) → position p xs ≡ Some i → position_or_len p xs ≡ i
+  position_is xs i h = by (nat_lt (position_or_len p xs) (length xs)) h
+    where
+      by : (b : Bool) → cond b (Some (position_or_len p xs)) None ≡ Some i → position_or_len p xs ≡ i
+      by true g = cc
+      by false g = absurd (cc)
+
+  pub position_past : (xs : List X) → position p xs ≡ None → length xs ≤ position_or_len p xs
+  position_past xs h = by (nat_lt (position_or_len p xs) (length xs)) refl h
+    where
+      by : (b : Bool) → nat_lt (position_or_len p xs) (length xs) ≡ b → cond b (Some (position_or_len p xs)) None ≡ None → length xs ≤ position_or_len p xs
+      by true e g = absurd (cc)
+      by false e g = ltb-false (position_or_len p xs) (length xs) e
+
+  -- What is found stands at its position.
+  found_there : (xs : List X) (i : ℕ) → position p xs ≡ Some i → find p xs ≡ slice_get xs i
+  found_there xs i h = find_at p xs ∙ ap (slice_get xs) (position_is xs i h)
+
+  none_found : (xs : List X) → position p xs ≡ None → find p xs ≡ None
+  none_found xs h = find_at p xs ∙ slice_get_past xs (position_or_len p xs) (position_past xs h)
 
 pub declared_read : (decls : List FlatDecl) (q : QName) → option_map read_declaration (declared decls q) ≡ declaration_of (read_signature decls) (read_constant q)
 declared_read [] q = refl
@@ -51,3 +79,34 @@ names_read (d ∷ decls) = ap (λ names. read_constant d.name ∷ names) (names_
 -- Declarations whose names differ as keys have distinct names.
 pub distinct_declared : (decls : List FlatDecl) → IsDistinct same_qname (map (λ d. d.name) decls) → HasDistinctNames decls
 distinct_declared decls h = rw (← names_read decls) (distinct_images read_constant same_constant (map (λ d. d.name) decls) h)
+
+-- The image of a constant in the code's map is that of the map which it stands for.
+pub mapped_read : (images : List (QName × Image)) (q : QName) → option_map read_image (image_of images q) ≡ meant.image_of (read_map images) (read_constant q)
+unfolding meant.image_of
+mapped_read [] q = refl
+mapped_read (m ∷ images) q =
+    let turned : same_qname q m.0 ≡ same_constant (read_constant m.0) (read_constant q) = same_qname_equiv.symm q m.0 in
+    by (same_qname q m.0) (same_constant (read_constant m.0) (read_constant q)) turned (mapped_read images q)
+  where
+    by : (b c : Bool) → b ≡ c → option_map read_image (image_of images q) ≡ meant.image_of (read_map images) (read_constant q) → option_map read_image (cond b (Some m.1) (image_of images q)) ≡ cond c (Some (read_image m.1)) (meant.image_of (read_map images) (read_constant q))
+    by true true e rest = refl
+    by true false e rest = absurd (cc)
+    by false true e rest = absurd (cc)
+    by false false e rest = rest
+
+-- What is read off what a reference points to.
+pub copied_read : {A B : Type 0} (f : A → B) (found : Option (Bor A)) → option_map (λ r. f r.now) found ≡ option_map f (option_copied found)
+copied_read f None = refl
+copied_read f (Some r) = refl
+
+-- What is read at an index.
+pub read_at : {A B : Type 0} (f : A → B) (found : Option (Bor A)) (items : List A) (i : ℕ) → option_copied found ≡ slice_get items i → option_map (λ r. f r.now) found ≡ slice_get (map f items) i
+read_at f found items i h = copied_read f found ∙ ap (option_map f) h ∙ sym (slice_get-map f items i)
+
+-- What stands at the index that is found is the declaration of the name; where none is found there is none.
+abbrev pub IsPlaceOf : List FlatDecl → QName → Option ℕ → Type 0
+IsPlaceOf decls q place = MatchOption place (declaration_of (read_signature decls) (read_constant q) ≡ None) (λ i. slice_get (read_signature decls) i ≡ declaration_of (read_signature decls) (read_constant q))
+
+pub place_read : (decls : List FlatDecl) (q : QName) (place : Option ℕ) → place ≡ place_of decls q → IsPlaceOf decls q place
+place_read decls q None h = sym (declared_read decls q) ∙ ap (option_map read_declaration) (none_found (λ (d : FlatDecl). same_qname q d.name) decls (sym h))
+place_read decls q (Some i) h = slice_get-map read_declaration decls i ∙ ap (option_map read_declaration) (sym (found_there (λ (d : FlatDecl). same_qname q d.name) decls i (sym h))) ∙ declared_read decls q

@@ -1,4 +1,3 @@
 pub mod SharedText
 pub mod Readings
 pub mod Tables
-pub mod SameName

@@ -4,6 +4,7 @@ use Rattle.std.specs.Prelude.{List, map, reverse}
 use Rattle.std.specs.Option.{option_map}
 use Rattle.lf_meaning.specs.Terms as terms
 use Rattle.lf_meaning.specs.Signatures as signatures
+use Rattle.lf_meaning.specs.HeadMaps as maps
 use Rattle.lf_terms.specs.declared.qname.QName.{QName}
 use Rattle.lf_terms.specs.declared.simple.Simple.{Simple}
 use Rattle.lf_terms.specs.declared.simple.Simple.TheOpen as simple
@@ -25,6 +26,7 @@ use Rattle.lf_terms.specs.declared.class.Class.TheVariants as class
 use Rattle.lf_terms.specs.declared.class.Value.{Value}
 use Rattle.lf_terms.specs.declared.class.Value.TheVariants as value
 use Rattle.lf_terms.specs.declared.flat_decl.FlatDecl.{FlatDecl}
+use Rattle.lf_terms.specs.declared.flat_decl.Image.{Image}
 
 -- A constant.
 abbrev pub read_constant : QName → terms.Constant
@@ -96,6 +98,16 @@ read_declaration d = record { name = read_constant d.name; class = read_class d.
 -- The declarations of a flat signature, in order.
 abbrev pub read_signature : List FlatDecl → signatures.Signature
 read_signature = map read_declaration
+
+abbrev pub read_image : Image → maps.Image
+read_image i = record { class = read_class i.class; value = read_value i.value }
+
+abbrev pub read_mapping : QName × Image → maps.Mapping
+read_mapping m = record { name = read_constant m.0; image = read_image m.1 }
+
+-- The mappings of a map, in order.
+abbrev pub read_map : List (QName × Image) → maps.HeadMap
+read_map = map read_mapping
 
 -- The context of families that grows at its end: the innermost family is the last, and is read first.
 abbrev pub read_context : List Fam → terms.Context

@@ -1,5 +1,5 @@
 //! Flat signatures: declarations in order, with a table of their names.
-ghost use Rattle.std.specs.Prelude.{◌≡◌, ◌↔◌, ◌≤◌, ◌∷◌, ◌++◌, [], length, slice_get, IfErr, IsErrOf, IsSome, OnErr, OnOk, IsNone};
+ghost use Rattle.std.specs.Prelude.{◌≡◌, ◌↔◌, ◌≤◌, ◌∷◌, ◌++◌, [], length, slice_get, IfErr, IsErrOf, IsSome, None, MatchOption, OnErr, OnOk, IsNone};
 ghost use Rattle.std.specs.Option.{option_copied, option_map};
 ghost use Rattle.lf_meaning.specs.Signatures.{declaration_of};
 ghost use Rattle.lf_terms.specs.Readings.{read_constant, read_declaration, read_signature};
@@ -92,7 +92,8 @@ impl FlatSig {
     /// The index of the declaration of a name, counted from 0. None exactly where the name is not there. It takes
     /// expected constant time, by a hash table.
     pub fn place(&self, name: &QName) -> Option<usize>
-        ensures { result ≡ place_of self.now name.now }
+        ensures index { result ≡ place_of self.now name.now }
+        ensures meaning { MatchOption result (declaration_of (read_signature self.now) (read_constant name.now) ≡ None) (λ i. slice_get (read_signature self.now) i ≡ declaration_of (read_signature self.now) (read_constant name.now)) }
     {
         self.decls.get_index_of(name)
     }
@@ -101,6 +102,7 @@ impl FlatSig {
     pub fn at(&self, i: usize) -> Option<&FlatDecl>
         ensures item { option_copied result ≡ slice_get self.now i }
         ensures none { IsNone result ↔ (length self.now ≤ i) }
+        ensures meaning { option_map (λ d. read_declaration d.now) result ≡ slice_get (read_signature self.now) i }
     {
         match self.decls.get_index(i) {
             Some((_, decl)) => Some(decl),

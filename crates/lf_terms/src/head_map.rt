@@ -1,6 +1,8 @@
 //! Maps from constants to their images, in order.
-ghost use Rattle.std.specs.Prelude.{◌≡◌, ◌↔◌, ◌∷◌, ◌++◌, [], length, IfErr, IsErrOf, IsSome, OnErr, OnOk};
-ghost use Rattle.std.specs.Option.{option_copied};
+ghost use Rattle.std.specs.Prelude.{◌≡◌, ◌↔◌, ◌≤◌, ◌∷◌, ◌++◌, [], length, slice_get, IfErr, IsErrOf, IsNone, IsSome, OnErr, OnOk};
+ghost use Rattle.std.specs.Option.{option_copied, option_map};
+ghost use Rattle.lf_meaning.specs.HeadMaps as meant;
+ghost use Rattle.lf_terms.specs.Readings.{read_constant, read_image, read_map, read_mapping};
 ghost use Rattle.lf_terms.specs.Tables.{image_of, pair_handed_back, HasDistinctHeads};
 ghost use Rattle.lf_terms.specs.declared.head_map.MapFault.TheVariants.{Twice};
 
@@ -69,11 +71,22 @@ impl HeadMap {
         }
     }
 
-    /// The image of a constant. None exactly where the name is not there.
+    /// The image of a constant. None exactly where the name is not there. It takes expected constant time, by a hash
+    /// table.
     pub fn get(&self, name: &QName) -> Option<&Image>
-        ensures { option_copied result ≡ image_of self.now name.now }
+        ensures image { option_copied result ≡ image_of self.now name.now }
+        ensures meaning { option_map (λ i. read_image i.now) result ≡ meant.image_of (read_map self.now) (read_constant name.now) }
     {
         self.images.get(name)
+    }
+
+    /// The constant at an index, counted from 0, with its image. None exactly where the index is past the end.
+    pub fn at(&self, i: usize) -> Option<(&QName, &Image)>
+        ensures item { option_map (λ pair. (pair.0.now, pair.1.now)) result ≡ slice_get self.now i }
+        ensures none { IsNone result ↔ (length self.now ≤ i) }
+        ensures meaning { option_map (λ pair. read_mapping (pair.0.now, pair.1.now)) result ≡ slice_get (read_map self.now) i }
+    {
+        self.images.get_index(i)
     }
 
     /// The number of constants.

@@ -3,53 +3,47 @@
 //! term; want of memory; lists of bytes, of texts and of names.
 #![tactic(auto)]
 
-mod bytes;
 mod class;
-mod ctx;
 mod erasure;
 mod fam;
 mod flat_decl;
 mod flat_sig;
 mod head_map;
 mod kind;
+mod lists;
 mod memory;
 mod name;
-mod names;
 mod obj;
 mod path;
 mod qname;
 mod sameness;
+mod sequence;
 mod shared;
 mod shift;
 mod simple;
 mod span;
 mod steps;
-mod term_path;
-mod texts;
 
-pub use bytes::Bytes;
 pub use class::{Class, Value};
-pub use ctx::Ctx;
 pub use erasure::erase;
 pub use fam::Fam;
 pub use flat_decl::{FlatDecl, Image};
 pub use flat_sig::{FlatSig, PushFault};
 pub use head_map::{HeadMap, MapFault};
 pub use kind::Kind;
+pub use lists::{Bytes, Ctx, Names, TermPath, Texts};
 pub use memory::Memory;
 pub use name::{Name, NameFault};
-pub use names::Names;
 pub use obj::{Head, Obj, Spine};
 pub use path::Path;
 pub use qname::QName;
 pub use sameness::{same_class, same_fam, same_kind, same_obj, same_value};
+pub use sequence::Sequence;
 pub use shared::Arc;
 pub use shift::{shift_fam, shift_kind, shift_obj};
 pub use simple::Simple;
 pub use span::Span;
 pub use steps::Steps;
-pub use term_path::TermPath;
-pub use texts::Texts;
 
 #[cfg(test)]
 mod table_tests;

@@ -1,5 +1,6 @@
 //! A folder of files.
-ghost use Rattle.std.specs.Prelude.{◌≡◌, ◌+◌, ◌-◌, ◌^◌, min, [], None, IfOk, IsOkAnd, IfSome, IsSome, IsErrOf, ℕ};
+ghost use Rattle.std.specs.Prelude.{◌≡◌, ◌+◌, ◌-◌, ◌^◌, min, [], None, map, IfOk, IsOkAnd, IfSome, IsSome, IsErrOf, ℕ};
+ghost use Rattle.std.specs.String.{string_bytes};
 ghost use Rattle.std.specs.Option.{ForSome};
 ghost use Rattle.std.specs.declared.option.Option.{Option};
 ghost use Rattle.mmt_outside.specs.Faults.{HasCauseOrNoMemory};
@@ -28,7 +29,7 @@ pub trait Folder {
 
     /// The names of the files in a folder, each once, in any order.
     fn list(&mut self, alloc: Global, folder: &str) -> Result<Texts, OutFault>
-        ensures names { IfOk result (λ names. IfSome (files self.old) (λ map. IsListing map folder.now names)) }
+        ensures names { IfOk result (λ names. IfSome (files self.old) (λ told. IsListing told folder.now (map string_bytes names))) }
         ensures same { files self.new ≡ files self.old }
         ensures cause { HasCauseOrNoMemory (faults self.old) (faults self.new) result };
 

@@ -3,7 +3,8 @@ use Rattle.std.specs.Prelude.{slice_get}
 use Rattle.std.specs.Option.{option_map}
 use Rattle.lf_terms.specs.Readings.{read_family}
 use Rattle.lf_check.specs.Environments.{read_variables}
-use Rattle.lf_check.proofs.Environments.{copied_read, read_given, family_given, family_bound}
+use Rattle.lf_terms.proofs.Lookup.{copied_read}
+use Rattle.lf_check.proofs.Environments.{read_given, family_given, family_bound}
 use Rattle.lf_check.proofs.environment.Variables.+family.Goals as goal
 
 pub returns-in-Given : goal.returns-in-Given

@@ -1,11 +1,11 @@
-use Rattle.std.proofs.Common.{◌≡◌, Bor, Option, Some, None, refl, ap, ◌∙◌}
+use Rattle.std.proofs.Common.{◌≡◌, ap, ◌∙◌}
 use Rattle.std.specs.Option.{option_copied, option_map}
 use Rattle.lf_terms.specs.Readings.{read_declaration}
-use Rattle.lf_terms.specs.SameName.{same_qname}
+use Rattle.lf_terms.proofs.SameName.{same_qname}
 use Rattle.lf_terms.specs.Tables.{declared}
 use Rattle.lf_terms.specs.declared.flat_decl.FlatDecl.{FlatDecl}
 use Rattle.lf_terms.proofs.KeyedEntries.{found_by_key}
-use Rattle.lf_terms.proofs.Lookup.{declared_read}
+use Rattle.lf_terms.proofs.Lookup.{copied_read, declared_read}
 use Rattle.lf_terms.proofs.flat_sig.FlatSig.get.Goals as goal
 use Rattle.lf_terms.proofs.flat_sig.FlatSig.get.Goals.{After-get}
 
@@ -13,12 +13,8 @@ found : (c : After-get) → option_copied c.get.result ≡ declared c.args.self.
 found c =
     rw (← c.self.view_is) (c.get.ensures.value ∙ found_by_key (λ (d : FlatDecl). d.name) (same_qname c.args.name.now) c.self.inside.decls.entries c.self.invariant)
 
-copied_read : (found : Option (Bor FlatDecl)) → option_map (λ d. read_declaration d.now) found ≡ option_map read_declaration (option_copied found)
-copied_read None = refl
-copied_read (Some d) = refl
-
 pub returns-clause-declaration : goal.returns-clause-declaration
 returns-clause-declaration c = found c
 
 pub returns-clause-meaning : goal.returns-clause-meaning
-returns-clause-meaning c = copied_read c.get.result ∙ ap (option_map read_declaration) (found c) ∙ declared_read c.args.self.now c.args.name.now
+returns-clause-meaning c = copied_read read_declaration c.get.result ∙ ap (option_map read_declaration) (found c) ∙ declared_read c.args.self.now c.args.name.now

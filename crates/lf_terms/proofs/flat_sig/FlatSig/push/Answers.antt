@@ -1,7 +1,7 @@
 use Rattle.std.proofs.Common.{◌≡◌, ◌∷◌, [], true, false, is_some, refl, sym, ap, ◌∙◌}
 use Rattle.std.specs.Map.{lookup, values_of}
 use Rattle.std.proofs.lemmas.List.{map-append}
-use Rattle.lf_terms.specs.SameName.{same_qname}
+use Rattle.lf_terms.proofs.SameName.{same_qname}
 use Rattle.lf_terms.specs.Tables.{declared}
 use Rattle.lf_terms.specs.declared.qname.QName.{QName}
 use Rattle.lf_terms.specs.declared.flat_decl.FlatDecl.{FlatDecl}

@@ -1,6 +1,6 @@
 use Rattle.std.proofs.Common.{◌≡◌, false, is_some, sym, ◌∙◌}
 use Rattle.indexmap.proofs.CallerLemmas.{insert_entry-new}
-use Rattle.lf_terms.specs.SameName.{same_qname}
+use Rattle.lf_terms.proofs.SameName.{same_qname}
 use Rattle.lf_terms.specs.Tables.{image_of}
 use Rattle.lf_terms.proofs.Lookup.{found_nothing}
 use Rattle.lf_terms.proofs.head_map.HeadMap.push.Goals as goal
