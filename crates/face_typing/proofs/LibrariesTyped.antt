@@ -32,11 +32,12 @@ use Rattle.face_typing.specs.JudgedTyping.{DeclaredTheoriesAreTyped, DeclaredStr
 use Rattle.link_typing.proofs.LinkInterface.{LinksAreTyped}
 use Rattle.face_typing.proofs.ModulesTyped.{declare_all_typed, structure_is_typed, empty_typed, view_typed}
 use Rattle.face_typing.proofs.TypingTransfers.{theory_typing_transfers, view_typing_transfers}
-use Rattle.row_typing.proofs.ProperImages.{images_proper, proper_atomic_map}
+use Rattle.row_typing.proofs.ProperImages.{images_proper}
 use Rattle.std.proofs.lemmas.Option.{same_Some}
 use Rattle.name_laws.proofs.Order.{same_sound}
 use Rattle.list_laws.proofs.Answers.{came_by}
 use Rattle.walk_meaning.specs.Walks.{ungrounded_names}
+use Rattle.translation_typing.proofs.Proper.{proper_atomic_over}
 
 -- ---- one module
 
@@ -208,7 +209,7 @@ theories_flatten typed library name face e = ((typed library).theories name face
 pub known_views_translate : KnownViewsTranslate
 known_views_translate environment name face coherent typed e =
     let p = images_proper (flat_of environment face.domain) (flat_of environment face.codomain) face.map (coherent.views name face e).map_is in (
-      record { source = flat_typed environment typed face.domain; target = flat_typed environment typed face.codomain; typed = typed.views name face e; atomic = proper_atomic_map face.map p },
+      record { source = flat_typed environment typed face.domain; target = flat_typed environment typed face.codomain; typed = typed.views name face e; atomic = proper_atomic_over (flat_of environment face.domain) face.map p },
       p,
     )
 
@@ -216,7 +217,7 @@ pub known_structures_translate : KnownStructuresTranslate
 known_structures_translate environment name face i structure coherent typed e p =
     let t = typed.theories name face e in
     let q = images_proper (flat_of environment structure.domain) (flat_signature environment face) structure.map ((coherent.theories name face e).maps i structure p) in (
-      record { source = flat_typed environment typed structure.domain; target = t.signature; typed = t.maps i structure p; atomic = proper_atomic_map structure.map q },
+      record { source = flat_typed environment typed structure.domain; target = t.signature; typed = t.maps i structure p; atomic = proper_atomic_over (flat_of environment structure.domain) structure.map q },
       q,
     )
 

@@ -4,3 +4,4 @@ pub mod SpineSynthesis
 pub mod Spines
 pub mod Substituted
 pub mod Declarations
+pub mod Misfits

@@ -1,6 +1,8 @@
 -- Laws of application: the cases of `app`, a list of arguments, and rows of arguments taken at once.
-use Rattle.std.specs.Prelude.{◌≡◌, ℕ, suc, ◌<◌, ◌≤◌, List, [], ◌∷◌, ◌++◌, map}
-use Rattle.lf_meaning.specs.Terms.{Constant, Object, Lam, At, Atomic, Var, Con, App, AtomicFamily, Simple, Base, Arrow, apply_all, family_apply_all}
+use Rattle.std.specs.Prelude.{◌≡◌, ◌↔◌, ℕ, suc, ◌<◌, ◌≤◌, List, [], ◌∷◌, ◌++◌, map}
+use Rattle.lf_meaning.specs.Terms.{Constant, Object, Lam, At, Atomic, Var, Con, App, Family, Pi, AtFamily, AtomicFamily, Simple, Base, Arrow, apply_all, family_apply_all}
+use Rattle.lf_meaning.specs.Erasure.{head_constant, erase}
+use Rattle.lf_meaning.specs.Misfits.{NoMisfit}
 use Rattle.lf_meaning.specs.Raising.{raise, raise_atomic, map_atomic_family}
 use Rattle.lf_meaning.specs.Replacement.{Replaced, takes, takes_all, object_of, Replacement, replace, replace_head}
 use Rattle.lf_meaning.specs.Substitution.{action, substitute, Typed, app, reduce_typed, reduce}
@@ -67,3 +69,18 @@ RaiseApplied = (k n : ℕ) (r : Atomic) (ms : List Object) → raise_atomic k n 
 
 abbrev pub FamilyApplied : Type 0
 FamilyApplied = (f : ℕ → Object → Object) (n : ℕ) (p : AtomicFamily) (ms : List Object) → map_atomic_family f n (family_apply_all p ms) ≡ family_apply_all (map_atomic_family f n p) (map (f n) ms)
+
+-- Two atomic families have one erasure exactly where they have one constant at their heads; a Π and an atomic family have two.
+abbrev pub ErasureTellsHeads : Type 0
+ErasureTellsHeads = (p q : AtomicFamily) → (erase (AtFamily p) ≡ erase (AtFamily q)) ↔ (head_constant p ≡ head_constant q)
+
+abbrev pub ErasureTellsProducts : Type 0
+ErasureTellsProducts = (a b : Family) (p : AtomicFamily) → erase (Pi a b) ≡ erase (AtFamily p) → ⊥
+
+-- A λ at a base type that takes an argument is a misfit.
+abbrev pub LambdaAtBaseIsMisfit : Type 0
+LambdaAtBaseIsMisfit = (body m : Object) (c : Constant) → NoMisfit (Lam body) (Base c) 0 (At (App (Var 0) m)) → ⊥
+
+-- So is an atomic value that takes one.
+abbrev pub AtomicValueIsMisfit : Type 0
+AtomicValueIsMisfit = (r : Atomic) (t : Simple) (m : Object) → NoMisfit (At r) t 0 (At (App (Var 0) m)) → ⊥

@@ -3,7 +3,7 @@ use Rattle.std.specs.Prelude.{◌≡◌, ℕ, [], ◌∷◌, Some, None}
 use Rattle.lf_meaning.specs.Terms.{Constant, Object, Lam, At, Var, Con, App, Family, Pi, AtFamily, FamilyCon, FamilyApp, Ty, PiKind, Simple, Base, Arrow}
 use Rattle.lf_meaning.specs.Substitution.{substitute, reduce}
 use Rattle.lf_meaning.specs.Signatures.{Class, FamilyClass, KindClass, Value, SameAs, TermValue, Declaration, Signature}
-use Rattle.lf_meaning.specs.Faults.{NotCanonical, Mismatch, Level, object_fault, signature_fault}
+use Rattle.lf_meaning.specs.Faults.{UnknownConstant, NotAFunction, NotCanonical, Mismatch, Level, object_fault, family_fault, kind_fault, signature_fault}
 
 -- The constant of one letter, given by its byte, in the theory T.
 abbrev pub letter : ℕ → Constant
@@ -107,3 +107,38 @@ abbrev pub EmptyTailHasNotLengthOne : Type 0
 EmptyTailHasNotLengthOne =
     let z : Object = letter_object 122 in
     object_fault vectors [] (At (App (App (App (Con (letter 99)) (successor_of z)) z) (letter_object 101))) (vector_of (successor_of (successor_of z))) ≡ Some (record { kind = Mismatch; at = 4 ∷ [] })
+
+-- `a : type`, `z : a`, and `d : a = z`: a defined constant is unknown to the judgements, as an undeclared one is.
+abbrev pub with_definition : Signature
+with_definition = undefined 97 (KindClass Ty) ∷ undefined 122 (FamilyClass (letter_family 97)) ∷ defined 100 (FamilyClass (letter_family 97)) (SameAs (letter 122)) ∷ []
+
+abbrev pub DefinedConstantIsUnknown : Type 0
+DefinedConstantIsUnknown = object_fault with_definition [] (letter_object 100) (letter_family 97) ≡ Some (record { kind = UnknownConstant; at = [] })
+
+abbrev pub UndeclaredConstantIsUnknown : Type 0
+UndeclaredConstantIsUnknown = object_fault with_definition [] (letter_object 99) (letter_family 97) ≡ Some (record { kind = UnknownConstant; at = [] })
+
+-- `z z`: the classifier so far is no Π.
+abbrev pub AtomTakesNoArgument : Type 0
+AtomTakesNoArgument = object_fault with_definition [] (At (App (Con (letter 122)) (letter_object 122))) (letter_family 97) ≡ Some (record { kind = NotAFunction; at = 2 ∷ [] })
+
+-- An object constant at the head of a family, and a λ at an atomic family.
+abbrev pub ObjectConstantAsFamily : Type 0
+ObjectConstantAsFamily = family_fault with_definition [] (letter_family 122) ≡ Some (record { kind = Level; at = [] })
+
+abbrev pub LambdaAtAtomicFamily : Type 0
+LambdaAtAtomicFamily = object_fault with_definition [] (Lam (At (Var 0))) (letter_family 97) ≡ Some (record { kind = Mismatch; at = [] })
+
+-- A kind, and a family, with a fault in the domain and one in the body: the domain comes first.
+abbrev pub KindDomainComesFirst : Type 0
+KindDomainComesFirst =
+    kind_fault with_definition [] (PiKind (letter_family 122) (PiKind (letter_family 99) Ty)) ≡ Some (record { kind = Level; at = 0 ∷ [] })
+
+abbrev pub FamilyDomainComesFirst : Type 0
+FamilyDomainComesFirst =
+    family_fault with_definition [] (Pi (letter_family 99) (letter_family 122)) ≡ Some (record { kind = UnknownConstant; at = 0 ∷ [] })
+
+-- A fault in the body of a kind alone.
+abbrev pub KindBodyIsTested : Type 0
+KindBodyIsTested =
+    kind_fault with_definition [] (PiKind (letter_family 97) (PiKind (letter_family 122) Ty)) ≡ Some (record { kind = Level; at = 1 ∷ 0 ∷ [] })

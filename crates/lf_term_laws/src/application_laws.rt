@@ -1,6 +1,6 @@
 //! Application of a value to arguments, and rows of arguments taken at once.
 
-ghost use Rattle.lf_term_laws.specs.Application.{LambdaAtArrow, AtomicAtArrow, AtomicAtBase, LambdaAtBase, HeadTakesByApp, ReduceNone, ReduceFirst, ReduceAtomic, ReduceLambdaAtBase, ReduceAppended, ReplaceApplied, SubstituteInBody, SubstituteAppliedAt, SubstituteAppliedBelow, SubstituteAppliedAbove, SubstituteAppliedConstant, RaiseApplied, FamilyApplied};
+ghost use Rattle.lf_term_laws.specs.Application.{LambdaAtArrow, AtomicAtArrow, AtomicAtBase, LambdaAtBase, HeadTakesByApp, ReduceNone, ReduceFirst, ReduceAtomic, ReduceLambdaAtBase, ReduceAppended, ReplaceApplied, SubstituteInBody, SubstituteAppliedAt, SubstituteAppliedBelow, SubstituteAppliedAbove, SubstituteAppliedConstant, RaiseApplied, FamilyApplied, ErasureTellsHeads, ErasureTellsProducts, LambdaAtBaseIsMisfit, AtomicValueIsMisfit};
 ghost use Rattle.lf_meaning.specs.SpineSynthesis.{SynthesisOfSpine, KindSynthesisOfSpine, FaultStays, KindFaultStays};
 
 /// The four cases of `app`, and that a value in place of a head takes its argument by it.
@@ -39,4 +39,18 @@ pub fn law_spine_synthesis()
     ensures family { KindSynthesisOfSpine }
     ensures fault { FaultStays }
     ensures family_fault { KindFaultStays }
+{}
+
+/// The erasure of an atomic family tells the constant at its head, and no more; that of a Π is another one.
+#[tactic(auto, using(crate::proofs::Misfits::erasure_tells_heads, crate::proofs::Misfits::erasure_tells_products))]
+pub fn law_erasure()
+    ensures heads { ErasureTellsHeads }
+    ensures products { ErasureTellsProducts }
+{}
+
+/// A λ at a base type that takes an argument is a misfit, and so is an atomic value that takes one.
+#[tactic(auto, using(crate::proofs::Misfits::lambda_at_base_is_misfit, crate::proofs::Misfits::atomic_value_is_misfit))]
+pub fn law_misfits()
+    ensures lambda { LambdaAtBaseIsMisfit }
+    ensures atomic { AtomicValueIsMisfit }
 {}

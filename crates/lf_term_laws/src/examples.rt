@@ -1,6 +1,6 @@
 //! Worked examples: each function does nothing, and its contract is proved by computing.
 
-ghost use Rattle.lf_term_laws.specs.Examples.{NestedHeadIsReduced, LambdaAtBaseStays, AtomicValueTakesArguments, ArgumentOfAnotherFamily, ArgumentNotCanonical, SameOfAnotherClass, FamilyConstantAsObject, VectorsAreWellTyped, OneElementHasLengthOne, OneElementHasNotLengthZero, EmptyTailHasNotLengthOne};
+ghost use Rattle.lf_term_laws.specs.Examples.{NestedHeadIsReduced, LambdaAtBaseStays, AtomicValueTakesArguments, ArgumentOfAnotherFamily, ArgumentNotCanonical, SameOfAnotherClass, FamilyConstantAsObject, VectorsAreWellTyped, OneElementHasLengthOne, OneElementHasNotLengthZero, EmptyTailHasNotLengthOne, DefinedConstantIsUnknown, UndeclaredConstantIsUnknown, AtomTakesNoArgument, ObjectConstantAsFamily, LambdaAtAtomicFamily, KindDomainComesFirst, FamilyDomainComesFirst, KindBodyIsTested};
 
 /// Hereditary substitution at terms that are written out.
 pub fn substitution_examples()
@@ -23,4 +23,16 @@ pub fn vector_examples()
     ensures one { OneElementHasLengthOne }
     ensures not_zero { OneElementHasNotLengthZero }
     ensures wrong_tail { EmptyTailHasNotLengthOne }
+{}
+
+/// Each kind of fault, and the first of two.
+pub fn fault_order_examples()
+    ensures defined { DefinedConstantIsUnknown }
+    ensures undeclared { UndeclaredConstantIsUnknown }
+    ensures no_function { AtomTakesNoArgument }
+    ensures object_as_family { ObjectConstantAsFamily }
+    ensures lambda { LambdaAtAtomicFamily }
+    ensures kind_domain { KindDomainComesFirst }
+    ensures family_domain { FamilyDomainComesFirst }
+    ensures kind_body { KindBodyIsTested }
 {}

@@ -9,3 +9,4 @@ pub mod HeadTyping
 pub mod TypedMisfits
 pub mod Faultless
 pub mod FirstBadDeclaration
+mod Unknown

@@ -1,10 +1,10 @@
 -- Substitution keeps typing; weakening; typing of application.
-use Rattle.std.specs.Prelude.{◌≡◌, ℕ, [], ◌∷◌, ◌++◌, length, Some}
-use Rattle.lf_meaning.specs.Terms.{Constant, Object, Atomic, Family, Pi, AtomicFamily, Kind, Context, Simple}
+use Rattle.std.specs.Prelude.{◌≡◌, ℕ, [], ◌∷◌, ◌++◌, length, Some, None}
+use Rattle.lf_meaning.specs.Terms.{Constant, Object, Atomic, Con, Family, Pi, AtomicFamily, FamilyCon, Kind, Context, Simple}
 use Rattle.lf_meaning.specs.Raising.{raise, raise_family, raise_kind, raise_context}
 use Rattle.lf_meaning.specs.Erasure.{erase, erase_context}
 use Rattle.lf_meaning.specs.Substitution.{substitute, substitute_family, substitute_kind, substitute_context, app}
-use Rattle.lf_meaning.specs.Signatures.{Class, FamilyClass, KindClass, Declaration, Signature, class_of}
+use Rattle.lf_meaning.specs.Signatures.{Class, FamilyClass, KindClass, Value, Declaration, Signature, declaration_of, class_of}
 use Rattle.lf_meaning.specs.Judgements.{Checks, Synthesises, SynthesisesKind, IsFamily, IsKind, IsContext, IsTyping, IsClass, IsDeclaration, IsSignature}
 use Rattle.lf_meaning.specs.Sorts.{HasSort, IsSortedFamily, IsSortedKind, sorts_of}
 use Rattle.lf_meaning.specs.Misfits.{NoMisfit, NoMisfitInFamily, NoMisfitInContext}
@@ -111,3 +111,14 @@ SubstitutionLeavesClassifiers = (sig : Signature) → IsSignature sig → (c : C
 
 abbrev pub SubstitutionLeavesKinds : Type 0
 SubstitutionLeavesKinds = (sig : Signature) → IsSignature sig → (c : Constant) (b : Kind) → class_of sig c ≡ Some (KindClass b) → (v : Object) (t : Simple) (n : ℕ) → substitute_kind v t n b ≡ b
+
+-- A defined constant, and one that is not declared, synthesises nothing: neither an object's family nor a family's kind.
+abbrev pub DefinedIsNoConstant : Type 0
+DefinedIsNoConstant =
+    (sig : Signature) (context : Context) (c : Constant) (d : Declaration) (v : Value) → declaration_of sig c ≡ Some d → d.value ≡ Some v
+    → ((a : Family) → Synthesises sig context (Con c) a → ⊥) × ((k : Kind) → SynthesisesKind sig context (FamilyCon c) k → ⊥)
+
+abbrev pub UndeclaredIsNoConstant : Type 0
+UndeclaredIsNoConstant =
+    (sig : Signature) (context : Context) (c : Constant) → declaration_of sig c ≡ None
+    → ((a : Family) → Synthesises sig context (Con c) a → ⊥) × ((k : Kind) → SynthesisesKind sig context (FamilyCon c) k → ⊥)

@@ -1,6 +1,6 @@
 //! Substitution, weakening, application and signatures keep typing.
 
-ghost use Rattle.lf_typing.specs.TypingLaws.{SubstitutionKeepsTyping, TypedSubstitutionMeetsNoMisfit, SubstitutionKeepsContexts, SubstitutionKeepsFamilies, SubstitutionKeepsKinds, WeakeningOfTyping, WeakeningOfObjects, WeakeningOfFamilies, WeakeningOfKinds, MoreDeclarationsKeepObjects, MoreDeclarationsKeepFamilies, MoreDeclarationsKeepKinds, SynthesisIsUnique, KindSynthesisIsUnique, SynthesisedIsFamily, SynthesisedIsKind, ConstantHasClass, RaisingLeavesClassifiers, RaisingLeavesKinds, SubstitutionLeavesClassifiers, SubstitutionLeavesKinds, AppKeepsTyping, AppKeepsErasure, TypedIsSorted, FamilyIsSorted, KindIsSorted, EmptySignatureIsWellTyped, SignatureGrows, SignatureShrinks};
+ghost use Rattle.lf_typing.specs.TypingLaws.{SubstitutionKeepsTyping, TypedSubstitutionMeetsNoMisfit, SubstitutionKeepsContexts, SubstitutionKeepsFamilies, SubstitutionKeepsKinds, WeakeningOfTyping, WeakeningOfObjects, WeakeningOfFamilies, WeakeningOfKinds, MoreDeclarationsKeepObjects, MoreDeclarationsKeepFamilies, MoreDeclarationsKeepKinds, SynthesisIsUnique, KindSynthesisIsUnique, SynthesisedIsFamily, SynthesisedIsKind, ConstantHasClass, RaisingLeavesClassifiers, RaisingLeavesKinds, SubstitutionLeavesClassifiers, SubstitutionLeavesKinds, AppKeepsTyping, AppKeepsErasure, TypedIsSorted, FamilyIsSorted, KindIsSorted, EmptySignatureIsWellTyped, SignatureGrows, SignatureShrinks, DefinedIsNoConstant, UndeclaredIsNoConstant};
 
 /// Over a well-typed signature substitution carries judgements to judgements.
 pub fn law_substitution_keeps_typing()
@@ -61,4 +61,11 @@ pub fn law_signature()
     ensures empty { EmptySignatureIsWellTyped }
     ensures grows { SignatureGrows }
     ensures shrinks { SignatureShrinks }
+{}
+
+/// Only undefined declarations are constants of the judgements.
+#[tactic(auto, using(crate::proofs::Unknown::defined_is_no_constant, crate::proofs::Unknown::undeclared_is_no_constant))]
+pub fn law_no_constants()
+    ensures defined { DefinedIsNoConstant }
+    ensures undeclared { UndeclaredIsNoConstant }
 {}

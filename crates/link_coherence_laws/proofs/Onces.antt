@@ -19,7 +19,6 @@ use Rattle.holding_laws.proofs.Growing.{class_grows, optional_grows}
 use Rattle.holding_laws.proofs.Declared.{place_of, declared_as}
 use Rattle.std.proofs.lemmas.Option.{same_Some}
 use Rattle.lf_term_laws.proofs.Declarations.{declared_some}
-use Rattle.link_coherence_laws.proofs.Onces.{declarations_from}
 
 -- ---- names once
 
@@ -106,7 +105,7 @@ hold_at before (x ∷ xs) h (suc i) d p =
 pub after_declarations : (xs : Signature) → HoldAfter [] xs → DeclarationsHold xs
 after_declarations xs h i d p = hold_at [] xs h i d p
 
-declarations_from : (done xs : Signature) → DeclarationsHold (done ++ xs) → HoldAfter done xs
+pub declarations_from : (done xs : Signature) → DeclarationsHold (done ++ xs) → HoldAfter done xs
 declarations_from done [] h = tt
 declarations_from done (d ∷ xs) h =
     let q = h (length done) d (at done) in

@@ -36,13 +36,13 @@ use Rattle.row_typing.specs.TypedFaces.{HaveFittingImages}
 use Rattle.link_typing.proofs.LinkInterface.{SettingTyped, LinkTyped, LinksAreTyped}
 use Rattle.row_typing.proofs.Grown.{fits_more, declaration_more}
 use Rattle.row_typing.proofs.Places.{class_declared, typed_more, typed_by_members}
-use Rattle.row_typing.proofs.ProperImages.{proper_atomic_map}
 use Rattle.link_typing.proofs.Assigning.{ItemTyped, TargetsFree, items_typed, targets_free}
 use Rattle.link_typing.proofs.CoveredValues.{flat_is_once, not_own, proper, ImageAt, image_at, covered_value, included_fits, done_is, declared}
 use Rattle.link_typing.proofs.SharedValues.{definition_keeps, shared_fits}
 use Rattle.std.proofs.lemmas.Option.{same_Some}
 use Rattle.name_laws.proofs.Order.{same_itself}
 use Rattle.list_laws.proofs.Answers.{came_by}
+use Rattle.translation_typing.proofs.Proper.{proper_atomic_over}
 
 kept : (along : HeadMap) (o : Option Value) (image : Image) → ((v : Value) → o ≡ Some v → image.value ≡ translate_value along v) → KeepsValue along o image
 kept along None image h = tt
@@ -88,7 +88,7 @@ module _ (setting : Setting) (ok : SettingHolds setting) (typed : SettingTyped s
         source = done_is setting ok typed assigned along meets whole coherent_map done ds d split;
         target = target_is;
         typed = typed_by_members done (before ++ ind) along done_typed;
-        atomic = proper_atomic_map along (proper setting ok typed assigned along meets whole coherent_map);
+        atomic = proper_atomic_over done along (proper setting ok typed assigned along meets whole coherent_map);
       }
 
       declared_here : IsDeclaration done d

@@ -39,11 +39,11 @@ use Rattle.row_typing.proofs.WordsTyped.{flat_typed}
 use Rattle.row_typing.proofs.SameValues.{SameAt, classes_same}
 use Rattle.row_typing.proofs.Places.{copy_at, copies_at, copies_append, copies_next, Split, split_member, image_through, typed_by_members, parts_of, LinkPlaced}
 use Rattle.row_typing.proofs.PlacedLinks.{found, PlacedAs, link_placed}
-use Rattle.row_typing.proofs.ProperImages.{proper_atomic_map}
 use Rattle.link_typing.proofs.Assigning.{ItemTyped, TargetsFree, reached_behind}
 use Rattle.link_typing.proofs.CoveredValues.{known_as, same_declaration, flat_is_once, reached_member, proper, image_at, done_is}
 use Rattle.std.proofs.lemmas.Option.{same_Some}
 use Rattle.name_laws.proofs.Order.{same_itself}
+use Rattle.translation_typing.proofs.Proper.{proper_atomic_over}
 
 -- ---- one place of a name in a signature with each name once
 
@@ -175,13 +175,13 @@ module _ (setting : Setting) (ok : SettingHolds setting) (typed : SettingTyped s
         source = from_is;
         target = done_is setting ok typed assigned along meets to coherent_map done ds d split;
         typed = typed_by_members (inner_parts ++ at.front) done structure.map (λ x n. subst (λ z. IsTypedAt z structure.map x) (sym done_parts) (placed.typed at.front (e ∷ at.back) at.parts x n));
-        atomic = proper_atomic_map structure.map placed.proper;
+        atomic = proper_atomic_over (inner_parts ++ at.front) structure.map placed.proper;
       };
       second_is = record {
         source = done_is setting ok typed assigned along meets to coherent_map done ds d split;
         target = target_is;
         typed = typed_by_members done target along done_typed;
-        atomic = proper_atomic_map along along_proper;
+        atomic = proper_atomic_over done along along_proper;
       };
       first_proper = placed.proper;
       second_proper = along_proper;

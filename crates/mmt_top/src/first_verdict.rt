@@ -163,7 +163,7 @@ fn verdict_by<'t>(
 }
 
 /// The verdict of a text under a name.
-#[tactic(auto, unfolding(output_meaning::specs::Verdicts::verdict_of))]
+#[tactic(auto, unfolding(first_path_meaning::specs::Verdicts::verdict_of))]
 pub(crate) fn verdict_of_text<'t>(
     alloc: Global,
     name: &'t [u8],

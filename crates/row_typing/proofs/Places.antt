@@ -23,11 +23,12 @@ use Rattle.holding_laws.proofs.Declared.{place_of, front_grows}
 use Rattle.link_coherence_laws.proofs.Onces.{Once, once_left, member_declared}
 use Rattle.link_coherence_laws.proofs.WordsHold.{flat_once}
 use Rattle.row_typing.specs.TypedFaces.{IsPlaced, IsTypedTheory, IsTypedEnvironment}
-use Rattle.row_typing.proofs.ProperImages.{images_proper, proper_atomic_map}
+use Rattle.row_typing.proofs.ProperImages.{images_proper}
 use Rattle.row_typing.proofs.Grown.{fits_more}
 use Rattle.std.proofs.lemmas.Option.{same_Some}
 use Rattle.std.proofs.lemmas.List.Elements.{filter_map-append}
 use Rattle.link_coherence_laws.proofs.LinksHold.{undefined_itself}
+use Rattle.translation_typing.proofs.Proper.{proper_atomic_over}
 
 -- ---- copies
 
@@ -308,13 +309,13 @@ module _ (environment : Environment) where
               source = front_is (parts_of domain) (own_part environment domain) pre post e domain_is;
               target = front_is (parts_of structure.domain) (own_part environment structure.domain) (inner.front ++ inner_copies pre) (inner_copies post ++ inner.back) middle_parts middle_is;
               typed = typed_by_members (parts_of domain ++ pre) (parts_of structure.domain ++ (inner.front ++ inner_copies pre)) along (λ d n. inner.typed pre post e d n);
-              atomic = proper_atomic_map along inner.proper;
+              atomic = proper_atomic_over (parts_of domain ++ pre) along inner.proper;
             };
             second_is = record {
               source = front_is (parts_of structure.domain) (own_part environment structure.domain) (inner.front ++ inner_copies pre) (inner_copies post ++ inner.back) middle_parts middle_is;
               target = front_is (parts_of theory) (own_part environment theory) (outer.front ++ copies (inner.front ++ inner_copies pre)) (copies (inner_copies post ++ inner.back) ++ outer.back) last_parts signature;
               typed = typed_by_members (parts_of structure.domain ++ (inner.front ++ inner_copies pre)) (parts_of theory ++ (outer.front ++ copies (inner.front ++ inner_copies pre))) structure.map (λ d n. outer.typed (inner.front ++ inner_copies pre) (inner_copies post ++ inner.back) middle_parts d n);
-              atomic = proper_atomic_map structure.map outer.proper;
+              atomic = proper_atomic_over (parts_of structure.domain ++ (inner.front ++ inner_copies pre)) structure.map outer.proper;
             };
             first_proper = inner.proper;
             second_proper = outer.proper;

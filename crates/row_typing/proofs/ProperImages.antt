@@ -5,7 +5,7 @@ use Rattle.lf_meaning.specs.Signatures.{Class, FamilyClass, KindClass, Value, Sa
 use Rattle.lf_meaning.specs.HeadMaps.{Image, Mapping, HeadMap, image_of}
 use Rattle.translation_meaning.specs.ProperValues.{IsProperValue, ValuesAreProper}
 use Rattle.translation_sort_laws.specs.AtomicBodies.{BodiesAreAtomic}
-use Rattle.translation_typing.proofs.Proper.{proper_atomic}
+use Rattle.translation_typing.proofs.Proper.{proper_atomic_map}
 use Rattle.library_meaning.specs.Holding.{ValueHolds}
 use Rattle.library_meaning.specs.Coherence.{IsCoherentMap}
 use Rattle.row_typing.specs.TypedLinks.{CoherentMapsAreProper}
@@ -39,9 +39,6 @@ images_proper from to along k c image h =
     let p = placed along c image h in
     let q = k.holds p.place p.mapping p.mapped in
     subst (λ (z : Image). IsProperValue z.value) p.is (value_proper to p.mapping.image.class p.mapping.image.value q.1)
-
-pub proper_atomic_map : (along : HeadMap) → ValuesAreProper along → BodiesAreAtomic along
-proper_atomic_map along h c image e = proper_atomic image.value (h c image e)
 
 pub images_atomic : (from to : Signature) (along : HeadMap) → IsCoherentMap from to along → BodiesAreAtomic along
 images_atomic from to along k = proper_atomic_map along (images_proper from to along k)

@@ -18,8 +18,9 @@ use Rattle.link_coherence_laws.specs.LinkTargets.{target_of, HereHolds}
 use Rattle.link_coherence_laws.proofs.WordsHold.{Composes, AreStructures, theory_at, structures_link_is, row_is}
 use Rattle.row_typing.specs.TypedFaces.{IsTypedEnvironment}
 use Rattle.row_typing.specs.TypedLinks.{HereTyped, RowsAreTyped}
-use Rattle.row_typing.proofs.ProperImages.{images_proper, proper_atomic_map}
+use Rattle.row_typing.proofs.ProperImages.{images_proper}
 use Rattle.row_typing.proofs.Grown.{typed_map_more}
+use Rattle.translation_typing.proofs.Proper.{proper_atomic_over}
 
 -- ---- typed maps of proper values
 
@@ -30,7 +31,7 @@ pub record IsProperTranslation (from to : Signature) (along : HeadMap) : Type 0 
 pub proper_translation : (from to : Signature) (along : HeadMap) → IsSignature from → IsSignature to → IsTypedMap from to along → IsCoherentMap from to along → IsProperTranslation from to along
 proper_translation from to along source target typed k =
     let proper : ValuesAreProper along = images_proper from to along k in
-    record { translates = record { source = source; target = target; typed = typed; atomic = proper_atomic_map along proper }; proper = proper }
+    record { translates = record { source = source; target = target; typed = typed; atomic = proper_atomic_over from along proper }; proper = proper }
 
 proper_composes : Composes IsProperTranslation
 proper_composes from middle more to first second g k l =

@@ -3,7 +3,7 @@ use Rattle.std.proofs.Common.{refl}
 use Rattle.lf_meaning.specs.HeadMaps.{image_of}
 use Rattle.translation_meaning.specs.Translation.{translate_object, translate_head, translate_family, translate_value}
 use Rattle.translation_meaning.specs.Unmapped.{unmapped_object}
-use Rattle.translation_laws.specs.Examples.{AppliedTwice, SameBecomesSame, TermBecomesTerm, TermBecomesSame, BindersAreTakenFromTheOutside, FirstUnmappedIsNamed, AllMapped}
+use Rattle.translation_laws.specs.Examples.{AppliedTwice, SameBecomesSame, TermBecomesTerm, TermBecomesSame, BindersAreTakenFromTheOutside, FirstUnmappedIsNamed, AllMapped, FamilyLeavesObject, KindLeavesObject, TermLeavesFamily}
 
 -- What all examples compute with.
 abbrev translation : Unit {0}
@@ -37,3 +37,15 @@ first_unmapped_is_named = refl
 pub all_mapped : AllMapped
 unfolding translation
 all_mapped = refl
+
+pub family_leaves_object : FamilyLeavesObject
+unfolding translation
+family_leaves_object = refl
+
+pub kind_leaves_object : KindLeavesObject
+unfolding translation
+kind_leaves_object = refl
+
+pub term_leaves_family : TermLeavesFamily
+unfolding translation
+term_leaves_family = refl

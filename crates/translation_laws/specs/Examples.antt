@@ -73,3 +73,21 @@ FirstUnmappedIsNamed = unmapped_object doubling (f_of (At (App (Con (source 104)
 
 abbrev pub AllMapped : Type 0
 AllMapped = unmapped_object doubling (f_of (At (Con (source 99)))) ≡ None
+
+-- An image of another level than its constant's leaves the constant: `c` with a family as its value, `c` with a kind as its
+-- class, and `v` with a term.
+abbrev pub of_another_level : HeadMap
+of_another_level =
+    to_value 99 (FamilyClass b_family) (FamilyValue 0 b_family)
+    ∷ to_value 107 (KindClass Ty) (TermValue (Lam (At (Var 0))))
+    ∷ to_value 118 (KindClass Ty) (TermValue (Lam (At (Var 0))))
+    ∷ []
+
+abbrev pub FamilyLeavesObject : Type 0
+FamilyLeavesObject = translate_object of_another_level (At (Con (source 99))) ≡ At (Con (source 99))
+
+abbrev pub KindLeavesObject : Type 0
+KindLeavesObject = translate_object of_another_level (At (App (Con (source 107)) (At (Con (source 120))))) ≡ At (App (Con (source 107)) (At (Con (source 120))))
+
+abbrev pub TermLeavesFamily : Type 0
+TermLeavesFamily = translate_family of_another_level (AtFamily (FamilyCon (source 118))) ≡ AtFamily (FamilyCon (source 118))

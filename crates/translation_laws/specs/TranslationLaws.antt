@@ -4,9 +4,11 @@ use Rattle.lf_meaning.specs.Signatures.{Value, Declaration, Signature}
 use Rattle.lf_meaning.specs.Terms.{Constant, Object, AtomicFamily, apply_all, family_apply_all, At, Con}
 use Rattle.lf_meaning.specs.Replacement.{takes_all, object_of}
 use Rattle.translation_meaning.specs.Heads.{head_takes_all}
-use Rattle.lf_meaning.specs.HeadMaps.{HeadMap, image_of}
+use Rattle.lf_meaning.specs.HeadMaps.{Image, HeadMap, image_of}
+use Rattle.lf_meaning.specs.Judgements.{Fits}
+use Rattle.translation_meaning.specs.TypedMaps.{IsTypedMap}
 use Rattle.translation_meaning.specs.Differ.{value_in, agree_on, differ}
-use Rattle.translation_meaning.specs.Translation.{headed_image, translate_object, translate_head, translate_image, compose}
+use Rattle.translation_meaning.specs.Translation.{headed_image, translate_object, translate_head, translate_image, compose, translate_class, translate_value}
 
 -- A constant with its arguments is translated by its image taking the translated arguments, from left to right.
 abbrev pub SpineIsTaken : Type 0
@@ -53,3 +55,17 @@ abbrev pub AgreeIsOneValue : Type 0
 AgreeIsOneValue =
     (first second : HeadMap) (declaration : Declaration)
     → Decides (agree_on first second declaration) ((value : Value) × (value_in first declaration.name ≡ Some value) × (value_in second declaration.name ≡ Some value))
+
+-- A typed map gives a defined constant its translated value.
+abbrev pub DefinedConstantsKeepValues : Type 0
+DefinedConstantsKeepValues =
+    (from to : Signature) (along : HeadMap) (place : ℕ) (declaration : Declaration) (value : Value) (image : Image) → IsTypedMap from to along
+    → slice_get from place ≡ Some declaration → declaration.value ≡ Some value → image_of along declaration.name ≡ Some image
+    → image.value ≡ translate_value along value
+
+-- And it gives each constant an image of the translated class, whose value fits it.
+abbrev pub ConstantsHaveImages : Type 0
+ConstantsHaveImages =
+    (from to : Signature) (along : HeadMap) (place : ℕ) (declaration : Declaration) → IsTypedMap from to along
+    → slice_get from place ≡ Some declaration
+    → (image : Image) × (image_of along declaration.name ≡ Some image) × (image.class ≡ translate_class along declaration.class) × Fits to image.value image.class

@@ -1,6 +1,6 @@
 //! Translation of spines, and composed maps.
 
-ghost use Rattle.translation_laws.specs.TranslationLaws.{SpineIsTaken, FamilySpineIsTaken, CompositionTranslatesImages, DifferenceIsFirst, AgreeIsOneValue};
+ghost use Rattle.translation_laws.specs.TranslationLaws.{SpineIsTaken, FamilySpineIsTaken, CompositionTranslatesImages, DifferenceIsFirst, AgreeIsOneValue, DefinedConstantsKeepValues, ConstantsHaveImages};
 
 /// A head with its arguments is translated by its image taking the translated arguments.
 pub fn law_spines()
@@ -17,4 +17,11 @@ pub fn law_composition()
 pub fn law_differ()
     ensures first { DifferenceIsFirst }
     ensures agree { AgreeIsOneValue }
+{}
+
+/// A typed map gives each constant an image of its translated class, and a defined one its translated value.
+#[tactic(auto, using(crate::proofs::Typed::defined_constants_keep_values, crate::proofs::Typed::constants_have_images))]
+pub fn law_typed_maps()
+    ensures values { DefinedConstantsKeepValues }
+    ensures images { ConstantsHaveImages }
 {}

@@ -11,7 +11,7 @@ use Rattle.translation_laws.proofs.Spines.{composed}
 use Rattle.translation_sort_laws.specs.AtomicBodies.{HasAtomicBody, BodiesAreAtomic}
 use Rattle.translation_typing.specs.Composition.{AreComposable, ObjectsAreComposed, FamiliesAreComposed, KindsAreComposed, ClassesAreComposed, ValuesAreComposed, CompositionIsTyped, CompositionIsProper}
 use Rattle.translation_sort_laws.proofs.Bases.{atomic_translated}
-use Rattle.translation_typing.proofs.Proper.{proper_atomic, object_value_proper, family_value_proper}
+use Rattle.translation_typing.proofs.Proper.{proper_atomic, object_value_proper, family_value_proper, proper_atomic_map}
 use Rattle.translation_typing.proofs.DeclaredTyped.{declared_typed}
 use Rattle.translation_typing.proofs.Laws.{class_carried, value_carried}
 use Rattle.translation_typing.proofs.Composing.{object_composed, family_composed, kind_composed, class_composed, value_composed}
@@ -41,7 +41,7 @@ module _ (from middle to : Signature) (first second : HeadMap) (is : AreComposab
   proper : ValuesAreProper (compose first second)
   proper c image e =
       let i = composed_image c image e in
-      subst (λ (z : Image). IsProperValue z.value) (sym i.2) (value_proper second is.second_is.atomic is.second_proper i.0.value (is.first_is.atomic c i.0 i.1))
+      subst (λ (z : Image). IsProperValue z.value) (sym i.2) (value_proper second (proper_atomic_map second is.second_proper) is.second_proper i.0.value (proper_atomic_map first is.first_proper c i.0 i.1))
 
   keeps : (o : Option Value) (class : Class) (i : Image) → IsClass from class → ((v : Value) → o ≡ Some v → Fits from v class) → KeepsValue first o i → KeepsValue (compose first second) o (translate_image second i)
   keeps None class i k f h = tt
@@ -84,5 +84,5 @@ composition_is_typed from middle to first second is =
       source = is.first_is.source;
       target = is.second_is.target;
       typed = λ place d e. typed_at from middle to first second is place d e;
-      atomic = λ c image e. proper_atomic image.value (proper from middle to first second is c image e);
+      atomic = λ c class image k e. proper_atomic image.value (proper from middle to first second is c image e);
     }

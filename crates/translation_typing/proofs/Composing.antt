@@ -24,7 +24,7 @@ use Rattle.translation_typing.specs.FamilyHeads.{FamilyTyped, OnSpine, UnderBind
 use Rattle.translation_typing.proofs.TypedHeads.{domains_context, HeadIs, binder_taken, family_whole}
 use Rattle.translation_sort_laws.proofs.Bases.{bases, renamed, erase_translated, HasBase, head_base}
 use Rattle.translation_sort_laws.proofs.Images.{by_images}
-use Rattle.translation_typing.proofs.Proper.{proper_object, proper_body}
+use Rattle.translation_typing.proofs.Proper.{proper_object, proper_body, proper_atomic_map}
 use Rattle.translation_typing.proofs.Carrying.{domains_translated, count_translated}
 use Rattle.translation_typing.proofs.Laws.{Images, typed_images, context_carried, family_carried, kind_carried, object_carried, atomic_carried, head_carried, substituted_object, substituted_family, substituted_kind}
 
@@ -74,7 +74,7 @@ module _ (from middle to : Signature) (first second : HeadMap) (is : AreComposab
   both_image c image e = composed first second c ∙ ap (option_map (translate_image second)) e
 
   same_action : (a : Family) → action (erase (translate_family second a)) ≡ action (erase a)
-  same_action a = ap action (erase_translated second is.second_is.atomic a) ∙ retyped_action (renamed second) (rename_retypes (bases second)) (erase a)
+  same_action a = ap action (erase_translated second (proper_atomic_map second is.second_proper) a) ∙ retyped_action (renamed second) (rename_retypes (bases second)) (erase a)
 
   -- a head with its values translated
   abbrev through : Headed → Headed
@@ -138,7 +138,7 @@ module _ (from middle to : Signature) (first second : HeadMap) (is : AreComposab
   at_base (AtFamily p) c h g e f = f
 
   erased_twice : (p : AtomicFamily) → erase (translate_family second (translate_family first (AtFamily p))) ≡ Base (bases second (bases first (head_constant p)))
-  erased_twice p = erase_translated second is.second_is.atomic (translate_family first (AtFamily p)) ∙ ap (renamed second) (erase_translated first is.first_is.atomic (AtFamily p))
+  erased_twice p = erase_translated second (proper_atomic_map second is.second_proper) (translate_family first (AtFamily p)) ∙ ap (renamed second) (erase_translated first (proper_atomic_map first is.first_proper) (AtFamily p))
 
   mutual
     unfolding translate_object translate_family
@@ -226,7 +226,7 @@ module _ (from middle to : Signature) (first second : HeadMap) (is : AreComposab
       let i = first_images c (KindClass k) e in
       let fits : Fits middle i.image.value (KindClass (translate_kind first k)) = subst (Fits middle i.image.value) i.class_is i.fits in
       let kind : IsKind middle [] (translate_kind first k) = kind_carried from middle first is.first_is [] k tt (class_is_kind from is.first_is.source c k e) in
-      let at = family_value_through c (translate_kind first k) i.image.value kind (is.first_is.atomic c i.image i.mapped) fits in
+      let at = family_value_through c (translate_kind first k) i.image.value kind (proper_atomic_map first is.first_proper c i.image i.mapped) fits in
       let there : head_through (family_image c i.image.class i.image.value) ≡ family_image c (translate_class second i.image.class) (translate_value second i.image.value) =
       subst (λ z. head_through (family_image c z i.image.value) ≡ family_image c (translate_class second z) (translate_value second i.image.value)) (sym i.class_is) at in
       subst₂ (λ y z. head_through (family_head_image c y) ≡ family_head_image c z) (sym i.mapped) (sym (both_image c i.image i.mapped)) there
@@ -237,7 +237,7 @@ module _ (from middle to : Signature) (first second : HeadMap) (is : AreComposab
   head_composed context (FamilyApp p m) k c h =
       let pi : IsKind from context (PiKind h.domain h.body) = synthesised_is_kind from is.first_is.source context p (PiKind h.domain h.body) c h.head_has in
       head_taken (between context) (context_carried from middle first is.first_is context c) (translate_family first h.domain) (translate_kind first h.body) (translate_object first m) (translate_head first p) (bases first (head_constant p))
-      (head_base first is.first_is.atomic p) (head_carried from middle first is.first_is context p (PiKind h.domain h.body) c h.head_has) (object_carried from middle first is.first_is context m h.domain c pi.0 h.argument_has)
+      (head_base first (proper_atomic_map first is.first_proper) p) (head_carried from middle first is.first_is context p (PiKind h.domain h.body) c h.head_has) (object_carried from middle first is.first_is context m h.domain c pi.0 h.argument_has)
       ∙ ap₂ head_takes (head_composed context p (PiKind h.domain h.body) c h.head_has) (object_composed context m h.domain c pi.0 h.argument_has)
 
   any_name : (head : Head) (base : Constant) (q p : AtomicFamily) → HasBase base head → family_of head q ≡ family_of head p
@@ -247,13 +247,13 @@ module _ (from middle to : Signature) (first second : HeadMap) (is : AreComposab
   pub family_composed : (context : Context) (a : Family) → IsContext from context → IsFamily from context a → translate_family second (translate_family first a) ≡ translate_family both a
   unfolding translate_family
   family_composed context (Pi a b) c h = ap₂ Pi (family_composed context a c h.0) (family_composed (a ∷ context) b (c, h.0) h.1)
-  family_composed context (AtFamily p) c h = by (translate_head first p) (whole_head from middle first is.first_is context p c h) (head_base first is.first_is.atomic p) (head_composed context p Ty c h)
+  family_composed context (AtFamily p) c h = by (translate_head first p) (whole_head from middle first is.first_is context p c h) (head_base first (proper_atomic_map first is.first_proper) p) (head_composed context p Ty c h)
     where
       by : (head : Head) → head ≡ FamilyHead zero (family_of head p) Ty → HasBase (bases first (head_constant p)) head → head_through head ≡ translate_head both p → translate_family second (family_of head p) ≡ family_of (translate_head both p) p
       by (ObjectHead object classifier) e b g = absurd b
       by (FamilyHead binders (Pi x y) kind) e b g = absurd b
       by (FamilyHead binders (AtFamily q) kind) e b g =
-          any_name (translate_head second q) (bases second (head_constant q)) q p (head_base second is.second_is.atomic q) ∙ ap (λ z. family_of z p) (ap head_through (sym e) ∙ g)
+          any_name (translate_head second q) (bases second (head_constant q)) q p (head_base second (proper_atomic_map second is.second_proper) q) ∙ ap (λ z. family_of z p) (ap head_through (sym e) ∙ g)
 
   pub kind_composed : (context : Context) (k : Kind) → IsContext from context → IsKind from context k → translate_kind second (translate_kind first k) ≡ translate_kind both k
   unfolding translate_kind

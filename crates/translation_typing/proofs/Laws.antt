@@ -20,8 +20,7 @@ use Rattle.lf_typing.proofs.Regular.{erase_split, length_erased}
 use Rattle.lf_meaning.specs.HeadMaps.{HeadMap, image_of}
 use Rattle.translation_meaning.specs.Translation.{translate_object, translate_head, translate_family, translate_kind, translate_class, translate_value}
 use Rattle.translation_meaning.specs.TypedMaps.{IsTypedMap}
-use Rattle.translation_sort_laws.specs.AtomicBodies.{BodiesAreAtomic}
-use Rattle.translation_typing.specs.TypedTranslation.{translate_context, IsTypedTranslation, TypingIsCarried, ContextsAreCarried, FamiliesAreCarried, KindsAreCarried, ClassesAreCarried, ValuesAreCarried, RaisedObjectsAreTranslated, RaisedFamiliesAreTranslated, RaisedKindsAreTranslated, SubstitutedObjectsAreTranslated, SubstitutedFamiliesAreTranslated, SubstitutedKindsAreTranslated}
+use Rattle.translation_typing.specs.TypedTranslation.{BodiesAreAtomicOver, translate_context, IsTypedTranslation, TypingIsCarried, ContextsAreCarried, FamiliesAreCarried, KindsAreCarried, ClassesAreCarried, ValuesAreCarried, RaisedObjectsAreTranslated, RaisedFamiliesAreTranslated, RaisedKindsAreTranslated, SubstitutedObjectsAreTranslated, SubstitutedFamiliesAreTranslated, SubstitutedKindsAreTranslated}
 use Rattle.translation_sort_laws.proofs.Kinded.{kind_has_domains, IsKinded, IsKindedKind, family_kinded, kind_kinded}
 use Rattle.translation_sort_laws.proofs.Known.{AtomicKnown, HeadKnown, atomic_known, head_known, object_known, family_known, kind_known, raised_object_known, raised_family_known, raised_kind_known, substituted_object_known, substituted_family_known, substituted_kind_known}
 use Rattle.translation_sort_laws.proofs.Bases.{renamed, erase_translated}
@@ -63,13 +62,13 @@ typed_images from to along typed c class h =
 
 -- ---- the restricted map
 
-module _ (to : Signature) (along : HeadMap) (target : IsSignature to) (atomic : BodiesAreAtomic along) where
+module _ (to : Signature) (along : HeadMap) (target : IsSignature to) where
   restricted_agrees : (from : Signature) → AgreeOn from (restrict from along) along
   restricted_agrees from c class h = restricted_there from c along class h
 
-  restricted_map : (from : Signature) → IsSignature from → Images from to along → ((c : Constant) (class : Class) → class_of from c ≡ Some class → IsClass to (translate_class along class)) → IsMap from to (restrict from along)
-  restricted_map from source images classes = record {
-    atomic = λ c image e. let d = restricted_declared from c along image e in atomic c image (sym (restricted_there from c along d.0 d.1) ∙ e);
+  restricted_map : (from : Signature) → IsSignature from → BodiesAreAtomicOver from along → Images from to along → ((c : Constant) (class : Class) → class_of from c ≡ Some class → IsClass to (translate_class along class)) → IsMap from to (restrict from along)
+  restricted_map from source atomic images classes = record {
+    atomic = λ c image e. let d = restricted_declared from c along image e in atomic c d.0 image d.1 (sym (restricted_there from c along d.0 d.1) ∙ e);
     images = λ c class h.
         let i = images c class h in
         record {
@@ -83,18 +82,20 @@ module _ (to : Signature) (along : HeadMap) (target : IsSignature to) (atomic : 
   }
 
   -- by the number of declarations
-  classes_carried : (n : ℕ) (from : Signature) → length from ≤ n → IsSignature from → Images from to along → (c : Constant) (class : Class) → class_of from c ≡ Some class → IsClass to (translate_class along class)
-  classes_carried zero [] low source images c class h = absurd (cc)
-  classes_carried zero (d ∷ from) low source images c class h = absurd (omega (arith, low))
-  classes_carried (suc n) from low source images c class h =
+  classes_carried : (n : ℕ) (from : Signature) → length from ≤ n → IsSignature from → BodiesAreAtomicOver from along → Images from to along → (c : Constant) (class : Class) → class_of from c ≡ Some class → IsClass to (translate_class along class)
+  classes_carried zero [] low source atomic images c class h = absurd (cc)
+  classes_carried zero (d ∷ from) low source atomic images c class h = absurd (omega (arith, low))
+  classes_carried (suc n) from low source atomic images c class h =
       let d = declared_as from c class h in
       let f = found_in from c d.declaration d.found in
       let is : IsDeclaration f.before d.declaration = source f.before d.declaration f.after f.split in
       let class_is : IsClass f.before class = subst (IsClass f.before) (undefined_is d.declaration.value d.declaration.class class d.classified) is.class_is in
       let before_is : IsSignature f.before = signature_shrinks f.before (d.declaration ∷ f.after) (subst IsSignature f.split source) in
-      let known : Images f.before to along = (λ x k e. images x k (subst (λ z. class_of z x ≡ Some k) (sym f.split) (class_more f.before (d.declaration ∷ f.after) x k e))) in
+      let there : (x : Constant) (k : Class) → class_of f.before x ≡ Some k → class_of from x ≡ Some k = (λ x k e. subst (λ z. class_of z x ≡ Some k) (sym f.split) (class_more f.before (d.declaration ∷ f.after) x k e)) in
+      let known : Images f.before to along = (λ x k e. images x k (there x k e)) in
+      let bodies : BodiesAreAtomicOver f.before along = (λ x k image e g. atomic x k image (there x k e) g) in
       let count : length from ≡ length f.before + suc (length f.after) = ap length f.split ∙ length-append f.before (d.declaration ∷ f.after) in
-      let map : IsMap f.before to (restrict f.before along) = restricted_map f.before before_is known (classes_carried n f.before (omega (arith, low, count)) before_is known) in
+      let map : IsMap f.before to (restrict f.before along) = restricted_map f.before before_is bodies known (classes_carried n f.before (omega (arith, low, count)) before_is bodies known) in
       subst (IsClass to) (class_agrees f.before (restrict f.before along) along (restricted_agrees f.before) class class_is)
       (class_translated f.before to (restrict f.before along) before_is target map class class_is)
 
@@ -108,10 +109,10 @@ module _ (from to : Signature) (along : HeadMap) (is : IsTypedTranslation from t
   images = typed_images from to along is.typed
 
   map_is : IsMap from to within
-  map_is = restricted_map to along is.target is.atomic from is.source images (classes_carried to along is.target is.atomic (length from) from (omega arith) is.source images)
+  map_is = restricted_map to along is.target from is.source is.atomic images (classes_carried to along is.target (length from) from (omega arith) is.source is.atomic images)
 
   agrees : AgreeOn from within along
-  agrees = restricted_agrees to along is.target is.atomic from
+  agrees = restricted_agrees to along is.target from
 
   pub context_carried : (context : Context) → IsContext from context → IsContext to (translate_context along context)
   context_carried context c = subst (IsContext to) (context_agrees from within along agrees context c) (context_translated from to within is.source is.target map_is context c)

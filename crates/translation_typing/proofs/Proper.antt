@@ -1,11 +1,13 @@
 -- Values in the form in which they are kept.
 use Rattle.std.proofs.Common.{◌≡◌, ℕ, zero, suc, refl, arith}
 use Rattle.lf_meaning.specs.Terms.{Object, Lam, At, Var, Con, App, Family, Pi, AtFamily, FamilyCon, FamilyApp}
-use Rattle.lf_meaning.specs.Signatures.{Value, SameAs, TermValue, FamilyValue}
+use Rattle.lf_meaning.specs.HeadMaps.{HeadMap}
+use Rattle.lf_meaning.specs.Signatures.{Signature, Value, SameAs, TermValue, FamilyValue}
 use Rattle.translation_meaning.specs.Translation.{object_value, family_value}
-use Rattle.translation_meaning.specs.ProperValues.{IsProperValue, IsNoConstant, IsValueBody}
+use Rattle.translation_meaning.specs.ProperValues.{IsProperValue, IsNoConstant, IsValueBody, ValuesAreProper}
 use Rattle.translation_meaning.specs.AtomicFamilies.{IsAtomicFamily}
-use Rattle.translation_sort_laws.specs.AtomicBodies.{HasAtomicBody}
+use Rattle.translation_sort_laws.specs.AtomicBodies.{HasAtomicBody, BodiesAreAtomic}
+use Rattle.translation_typing.specs.TypedTranslation.{BodiesAreAtomicOver}
 
 pub proper_object : (o : Object) → IsNoConstant o → object_value o ≡ TermValue o
 proper_object (Lam m) h = refl
@@ -36,3 +38,10 @@ family_value_proper zero (AtFamily (FamilyCon c)) h = tt
 family_value_proper zero (AtFamily (FamilyApp p m)) h = tt
 family_value_proper (suc n) (AtFamily (FamilyCon c)) h = omega arith
 family_value_proper (suc n) (AtFamily (FamilyApp p m)) h = tt
+
+pub proper_atomic_map : (along : HeadMap) → ValuesAreProper along → BodiesAreAtomic along
+proper_atomic_map along h c image e = proper_atomic image.value (h c image e)
+
+-- so it is of the images of the constants of a signature
+pub proper_atomic_over : (from : Signature) (along : HeadMap) → ValuesAreProper along → BodiesAreAtomicOver from along
+proper_atomic_over from along h c class image k e = proper_atomic image.value (h c image e)

@@ -1,27 +1,34 @@
 -- Translation along a typed map keeps typing, and commutes with raising and substitution (Rabe and Kohlhase 2013, section 4:
 -- morphisms preserve judgements).
-use Rattle.std.specs.Prelude.{◌≡◌, ℕ, ◌∷◌, ◌++◌, length, map}
-use Rattle.lf_meaning.specs.Terms.{Object, Family, Kind, Context}
+use Rattle.std.specs.Prelude.{◌≡◌, ℕ, Some, ◌∷◌, ◌++◌, length, map}
+use Rattle.lf_meaning.specs.Terms.{Constant, Object, Family, Kind, Context}
 use Rattle.lf_meaning.specs.Raising.{raise, raise_family, raise_kind}
 use Rattle.lf_meaning.specs.Erasure.{erase}
 use Rattle.lf_meaning.specs.Substitution.{substitute, substitute_family, substitute_kind}
-use Rattle.lf_meaning.specs.Signatures.{Class, Value, Signature}
+use Rattle.lf_meaning.specs.Signatures.{Class, Value, Signature, class_of}
 use Rattle.lf_meaning.specs.Judgements.{Checks, IsFamily, IsKind, IsContext, IsTyping, IsClass, Fits, IsSignature}
-use Rattle.lf_meaning.specs.HeadMaps.{HeadMap}
+use Rattle.lf_meaning.specs.HeadMaps.{Image, HeadMap, image_of}
 use Rattle.translation_meaning.specs.Translation.{translate_object, translate_family, translate_kind, translate_class, translate_value}
 use Rattle.translation_meaning.specs.TypedMaps.{IsTypedMap}
-use Rattle.translation_sort_laws.specs.AtomicBodies.{BodiesAreAtomic}
+use Rattle.translation_sort_laws.specs.AtomicBodies.{HasAtomicBody}
 
 -- The families of the context, translated.
 abbrev pub translate_context : HeadMap → Context → Context
 translate_context along context = map (translate_family along) context
+
+-- A family that is the value of the image of a constant of the signature is atomic below its binders. Of the images of other
+-- constants nothing is said.
+abbrev pub BodiesAreAtomicOver : Signature → HeadMap → Type 0
+BodiesAreAtomicOver from along =
+    (constant : Constant) (class : Class) (image : Image) → class_of from constant ≡ Some class → image_of along constant ≡ Some image
+    → HasAtomicBody image.value
 
 -- The map is typed from one well-typed signature to another.
 pub record IsTypedTranslation (from to : Signature) (along : HeadMap) : Type 0 where
   pub source : IsSignature from
   pub target : IsSignature to
   pub typed : IsTypedMap from to along
-  pub atomic : BodiesAreAtomic along
+  pub atomic : BodiesAreAtomicOver from along
 
 -- It carries each typing judgement of the source to one of the target.
 abbrev pub TypingIsCarried : Type 0
