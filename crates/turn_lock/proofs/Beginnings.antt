@@ -24,3 +24,20 @@ module _ {E : Type 0} where
   -- the longer is one of both
   pub longer-one : (xs ys : List E) → (longer xs ys ≡ xs) ⊎ (longer xs ys ≡ ys)
   longer-one xs ys = elim (nat_lt (length xs) (length ys)) as (λ (b : Bool). (cond b ys xs ≡ xs) ⊎ (cond b ys xs ≡ ys)) [ true ↦ inr refl | false ↦ inl refl ]
+
+  longer-one_same : (xs ys : List E) → ys ≡ xs → longer xs ys ≡ ys
+  longer-one_same xs ys e = elim (longer-one xs ys) [ inl h ↦ h ∙ sym e | inr h ↦ h ]
+
+  -- where one of two beginnings is the whole, so is the longer
+  pub longer-first : (xs ys later : List E) → xs ≡ ys ++ later → longer xs ys ≡ xs
+  longer-first xs ys later e =
+      let le : length ys ≤ length xs = omega (arith, ap length e ∙ length-append ys later) in
+      let no : nat_lt (length xs) (length ys) ≡ false = grind (arith, nat_tests) in
+      ap (λ (b : Bool). cond b ys xs) no
+
+  pub longer-second : (xs ys later : List E) → ys ≡ xs ++ later → longer xs ys ≡ ys
+  longer-second xs ys [] e = let same : ys ≡ xs = e ∙ append-nil xs in longer-one_same xs ys same
+  longer-second xs ys (z ∷ zs) e =
+      let lt : length xs < length ys = omega (arith, ap length e ∙ length-append xs (z ∷ zs)) in
+      let yes : nat_lt (length xs) (length ys) ≡ true = grind (arith, nat_tests) in
+      ap (λ (b : Bool). cond b ys xs) yes

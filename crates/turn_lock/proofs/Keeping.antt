@@ -104,8 +104,8 @@ module _ {T E : Type 0} (entries_of : T → List E) (number_of : E → ℕ) wher
         numbers_below = λ number there. let t = sum-set (times_in {E = E} number) s.views id v w at in kept.numbers_below number (omega arith);
         entries_below = kept.entries_below;
         each = each_set (Fits number_of (kept.ticket + 1) kept.serving kept.made kept.history) s.views id w
-          (record { turn = (first, omega arith); own = mine.own; other = mine.other; whole = λ e. absurd (cc e); keeps_made = mine.keeps_made })
-          (λ j u ne e. let fit = kept.each j u e in record { turn = in_turn_more kept.ticket kept.serving u.stage fit.turn; own = fit.own; other = fit.other; whole = fit.whole; keeps_made = fit.keeps_made });
+          (record { turn = (first, omega arith); own = mine.own; other = mine.other; whole = λ e. absurd (cc e); lives = λ e. absurd (cc e); keeps_made = mine.keeps_made })
+          (λ j u ne e. let fit = kept.each j u e in record { turn = in_turn_more kept.ticket kept.serving u.stage fit.turn; own = fit.own; other = fit.other; whole = fit.whole; lives = fit.lives; keeps_made = fit.keeps_made });
         seen = seen_set kept.history s.views id v w kept.seen at (λ h. h);
         value = ⊎_elim
           (λ (home : IsHome entries_of kept.history s.homes s.views). inl (record { value = home.value; slot = home.slot; entries = home.entries; nobody = omega (arith, acting, acted, home.nobody) }))
@@ -139,7 +139,7 @@ module _ {T E : Type 0} (entries_of : T → List E) (number_of : E → ℕ) wher
         numbers_below = λ number there. let t = sum-set (times_in {E = E} number) s.views id v w at in kept.numbers_below number (omega arith);
         entries_below = kept.entries_below;
         each = each_set (Fits number_of kept.ticket kept.serving kept.made kept.history) s.views id w
-          (record { turn = (refl, turn.1); own = mine.own; other = mine.other; whole = λ e. absurd (cc e); keeps_made = mine.keeps_made })
+          (record { turn = (refl, turn.1); own = mine.own; other = mine.other; whole = λ e. absurd (cc e); lives = λ e. absurd (cc e); keeps_made = mine.keeps_made })
           (λ j u ne e. kept.each j u e);
         seen = seen_set kept.history s.views id v w kept.seen at (λ h. h);
         value = ⊎_elim

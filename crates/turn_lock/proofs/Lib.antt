@@ -3,3 +3,6 @@ pub mod Beginnings
 pub mod Entries
 pub mod Keeping
 pub mod Turning
+pub mod Splitting
+pub mod Joining
+pub mod Ending

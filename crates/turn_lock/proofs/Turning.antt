@@ -80,9 +80,9 @@ module _ {T E : Type 0} (entries_of : T → List E) (number_of : E → ℕ) wher
   abbrev noted_view : ℕ → T → View E → View E
   noted_view own x v = record v { stage = Noted own; seen = entries_of x }
 
-  noted_kept : (s : State (Option T) (View E)) (kept : K s) (id : ℕ) (v : View E) → get_elem? s.views id ≡ some v → v.stage ≡ Found kept.serving → (home : IsHome entries_of kept.history s.homes s.views)
+  noted_kept : (s : State (Option T) (View E)) (kept : K s) (id : ℕ) (v : View E) → get_elem? s.views id ≡ some v → v.stage ≡ Found kept.serving → 0 < length v.numbers → (home : IsHome entries_of kept.history s.homes s.views)
       → K record { words = kept.ticket ∷ kept.serving ∷ length kept.history ∷ []; homes = none ∷ []; views = set s.views id (noted_view kept.serving home.value v) }
-  noted_kept s kept id v at is home =
+  noted_kept s kept id v at is named home =
       let w : View E = noted_view kept.serving home.value v in
       let waited : waits v ≡ 1 = ap (λ (x : Stage). one_if (has_ticket x)) is in
       let waiting = sum-set (waits {E = E}) s.views id v w at in
@@ -110,6 +110,7 @@ module _ {T E : Type 0} (entries_of : T → List E) (number_of : E → ℕ) wher
             own = record { later = []; begins = sym home.entries ∙ sym (append-nil (entries_of home.value)); others = strange_none number_of v.numbers };
             other = mine.other;
             whole = λ e. home.entries;
+            lives = λ e. named;
             keeps_made = mine.keeps_made;
           })
           (λ j u ne e. kept.each j u e);
@@ -117,8 +118,8 @@ module _ {T E : Type 0} (entries_of : T → List E) (number_of : E → ℕ) wher
         value = inr (record { slot = refl; one = omega (arith, acting, acted, home.nobody) });
       }
 
-  pub notes : (slots id : ℕ) (me : Place T E) → IsFound me.0.stage → me.1 ≡ [] → Allows K slots id me 2 (λ n. n) (noted entries_of number_of (step slots 2 0 0 none) me)
-  notes slots id me is empty = allows entries_of number_of slots id me 2 (λ n. n) (noted entries_of number_of (step slots 2 0 0 none) me)
+  pub notes : (slots id : ℕ) (me : Place T E) → IsFound me.0.stage → 0 < length me.0.numbers → me.1 ≡ [] → Allows K slots id me 2 (λ n. n) (noted entries_of number_of (step slots 2 0 0 none) me)
+  notes slots id me is named empty = allows entries_of number_of slots id me 2 (λ n. n) (noted entries_of number_of (step slots 2 0 0 none) me)
       (λ s kept at.
         let mine = kept.each id me.0 at in
         let turn : InTurn kept.ticket kept.serving (Found is.0) = subst (InTurn kept.ticket kept.serving) is.1 mine.turn in
@@ -129,7 +130,7 @@ module _ {T E : Type 0} (entries_of : T → List E) (number_of : E → ℕ) wher
           takes 0 (Some x),
           ap (λ (h : List (maybe.Option (Option T))). get_elem? h 0) home.slot,
           subst (λ (h : List (maybe.Option (Option T))). K record { words = kept.ticket ∷ kept.serving ∷ length kept.history ∷ []; homes = set h 0 none; views = set s.views id (noted_view kept.serving x me.0) })
-            (sym home.slot) (noted_kept s kept id me.0 at own home),
+            (sym home.slot) (noted_kept s kept id me.0 at own named home),
           (λ own' is'.
             let same : kept.serving ≡ own' = cc (own, is') in
             record {
@@ -191,6 +192,7 @@ module _ {T E : Type 0} (entries_of : T → List E) (number_of : E → ℕ) wher
             own = record { later = []; begins = ap (λ (h : List E). h ++ e ∷ []) (sym all) ∙ sym (append-nil (v.seen ++ e ∷ [])); others = strange_none number_of v.numbers };
             other = goes_further v.other_numbers v.other_seen kept.history e mine.other (omega arith);
             whole = λ t. ap (λ (h : List E). h ++ e ∷ []) all;
+            lives = mine.lives;
             keeps_made = mine.keeps_made;
           })
           (λ j u ne d. let fit = kept.each j u d in let free = alone j u ne d in
@@ -199,6 +201,7 @@ module _ {T E : Type 0} (entries_of : T → List E) (number_of : E → ℕ) wher
               own = goes_further u.numbers u.seen kept.history e fit.own (omega arith);
               other = goes_further u.other_numbers u.other_seen kept.history e fit.other (omega arith);
               whole = λ t. absurd (let none_else = sum-alone (acts {E = E}) s.views id j v u at (omega arith) (omega (arith, out.one)) d ne in let acted : acts u ≡ 1 = ap one_if t in omega arith);
+              lives = fit.lives;
               keeps_made = fit.keeps_made;
             });
         seen = record { id = id; view = w; at = set_at s.views id v w at; all = inl (subst (λ (ns : List ℕ). 0 < length ns) (sym is) (omega arith), ap (λ (h : List E). h ++ e ∷ []) all) };
@@ -245,13 +248,14 @@ module _ {T E : Type 0} (entries_of : T → List E) (number_of : E → ℕ) wher
         numbers_below = λ n h. let t = sum-set (times_in {E = E} n) s.views id v w at in kept.numbers_below n (omega arith);
         entries_below = kept.entries_below;
         each = each_set (Fits number_of kept.ticket (kept.serving + 1) kept.made kept.history) s.views id w
-          (record { turn = tt; own = mine.own; other = mine.other; whole = λ t. absurd (cc t); keeps_made = mine.keeps_made })
+          (record { turn = tt; own = mine.own; other = mine.other; whole = λ t. absurd (cc t); lives = λ t. absurd (cc t); keeps_made = mine.keeps_made })
           (λ j u ne d. let fit = kept.each j u d in
             record {
               turn = in_next_turn kept.ticket kept.serving u.stage fit.turn (sum-alone (holds {E = E} kept.serving) s.views id j v u at (omega (arith, hand.held)) one d ne);
               own = fit.own;
               other = fit.other;
               whole = fit.whole;
+              lives = fit.lives;
               keeps_made = fit.keeps_made;
             });
         seen = seen_set entries_of number_of kept.history s.views id v w kept.seen at (λ h. h);

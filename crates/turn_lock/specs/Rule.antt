@@ -32,12 +32,13 @@ module _ {E : Type 0} (number_of : E → ℕ) where
     pub others : list_all (λ (number : ℕ). are_of_others number_of number later) numbers ≡ true
 
   -- What holds of each view, beside these words, this number of passes made and this history. A pass that has made its note has
-  -- seen the whole history.
+  -- seen the whole history, and is no pass that was joined into another.
   pub record Fits (ticket serving made : ℕ) (history : List E) (view : View E) : Type 0 where
     pub turn : InTurn ticket serving view.stage
     pub own : Begins view.numbers view.seen history
     pub other : Begins view.other_numbers view.other_seen history
     pub whole : has_turn view.stage ≡ true → view.seen ≡ history
+    pub lives : has_turn view.stage ≡ true → 0 < length view.numbers
     pub keeps_made : (joined : List ℕ) → view.numbers ≡ 0 ∷ joined → view.made ≡ made
 
 -- a pass that was made, or one that is being joined, has seen the whole history

@@ -1,0 +1,83 @@
+-- Where every pass is joined into pass 0, the value is home with what pass 0 has seen.
+use Rattle.std.proofs.Common.{◌≡◌, ◌≢◌, ℕ, zero, suc, ◌+◌, ◌<◌, ◌≤◌, Bool, true, false, List, [], ◌∷◌, ◌++◌, length, get_or, refl, sym, ap, ◌∙◌, subst, arith, inl, inr, ◌⊎◌, ⊎_elim, Option, Some}
+use Rattle.std.specs.Prelude.{nat_eq, Contains}
+use Rattle.std.specs.List.{count_by, sum_by}
+use Rattle.std.proofs.lemmas.List.Sums.{sum_by-cons}
+use mathlib.Core.Option.{some, none, some-injective}
+use mathlib.Core.Logic.{dite}
+use native.Mathlib.Decide.{ℕ_discrete}
+use lib.ListN.{get_elem?}
+use Rattle.atomic_table.specs.Table.{State}
+use Rattle.turn_lock.specs.declared.view.View.{View}
+use Rattle.turn_lock.specs.declared.view.Stage.{Stage}
+use Rattle.turn_lock.specs.declared.view.Stage.TheVariants.{Idle}
+use Rattle.turn_lock.specs.Views.{has_turn}
+use Rattle.turn_lock.specs.Rule.{times_in, Fits, HasSeenAll, IsHome, IsOut, IsKept}
+use Rattle.turn_lock.proofs.Counts.{sum-at, sum-two, sum-zero}
+use Rattle.turn_lock.proofs.Joining.{IsAlone}
+use Rattle.turn_lock.proofs.Keeping.{Kept, one_if, acts, one_there}
+
+count_first : (number other : ℕ) (ns : List ℕ) → number ≡ other → 0 < count_by (nat_eq number) (other ∷ ns)
+count_first number other ns e = let t = one_there number other e in omega (arith, sum_by-cons (λ (m : ℕ). one_if (nat_eq number m)) other ns)
+
+count_there : (number : ℕ) (ns : List ℕ) (k : ℕ) → k < length ns → get_or ns k number ≡ number → 0 < count_by (nat_eq number) ns
+count_there number [] k lt e = absurd (omega arith)
+count_there number (n ∷ ns) zero lt e = count_first number n ns (sym e)
+count_there number (n ∷ ns) (suc k) lt e = let t = count_there number ns k (omega arith) e in omega (arith, sum_by-cons (λ (m : ℕ). one_if (nat_eq number m)) n ns)
+
+-- a list that is not empty has a number
+some_number : (ns : List ℕ) → 0 < length ns → (n : ℕ) × (0 < count_by (nat_eq n) ns)
+some_number [] lt = absurd (omega arith)
+some_number (n ∷ ns) lt = (n, count_first n n ns refl)
+
+module _ {T E : Type 0} (entries_of : T → List E) (number_of : E → ℕ) (s : State (Option T) (View E)) (kept : Kept entries_of number_of s) (id : ℕ) (v : View E) (joined : List ℕ) (at : get_elem? s.views id ≡ some v)
+    (is : v.numbers ≡ 0 ∷ joined) (mine : IsAlone entries_of number_of v) (all : (number : ℕ) → number < v.made → number ≢ 0 → Contains joined number) where
+  made_is : v.made ≡ kept.made
+  made_is = (kept.each id v at).keeps_made joined is
+
+  -- every number that was given is among those of pass 0
+  counted : (number : ℕ) → number < kept.made → 0 < times_in number v
+  counted number lt = let listed : 0 < count_by (nat_eq number) v.numbers = subst (λ (ns : List ℕ). 0 < count_by (nat_eq number) ns) (sym is)
+        (dite (ℕ_discrete number 0) (λ e. count_first number 0 joined e)
+        (λ ne. let c = all number (omega (arith, made_is, lt)) ne in let t = count_there number joined c.0 c.1 c.2 in omega (arith, sum_by-cons (λ (m : ℕ). one_if (nat_eq number m)) 0 joined))) in omega arith
+
+  -- so no other view has a number
+  no_number : (j : ℕ) (u : View E) (number : ℕ) → j ≢ id → get_elem? s.views j ≡ some u → ¬ (0 < times_in number u)
+  no_number j u number ne d some_there =
+      let there = sum-at (times_in {E = E} number) s.views j u d in
+      let here = counted number (kept.numbers_below number (omega arith)) in
+      let two = sum-two (times_in {E = E} number) s.views id j v u at d ne in
+      let one = kept.numbers_differ number in
+      absurd (omega arith)
+
+  no_first : (j : ℕ) (u : View E) → j ≢ id → get_elem? s.views j ≡ some u → ¬ (0 < length u.numbers)
+  no_first j u ne d lt = let n = some_number u.numbers lt in no_number j u n.0 ne d (omega (arith, n.1))
+
+  no_other : (j : ℕ) (u : View E) → j ≢ id → get_elem? s.views j ≡ some u → ¬ (0 < length u.other_numbers)
+  no_other j u ne d lt = let n = some_number u.other_numbers lt in no_number j u n.0 ne d (omega (arith, n.1))
+
+  seen_whole : v.seen ≡ kept.history
+  seen_whole = dite (ℕ_discrete kept.seen.id id)
+      (λ (e : kept.seen.id ≡ id).
+        let same : kept.seen.view ≡ v = some-injective kept.seen.view v (sym kept.seen.at ∙ (ap (get_elem? s.views) e ∙ at)) in
+        ⊎_elim (λ (h : (0 < length v.numbers) × (v.seen ≡ kept.history)). h.1)
+        (λ (h : (0 < length v.other_numbers) × (v.other_seen ≡ kept.history)). absurd (let t : length v.other_numbers ≡ 0 = ap length mine.no_numbers in let u = h.0 in omega arith))
+        (subst (HasSeenAll kept.history) same kept.seen.all))
+      (λ (ne : kept.seen.id ≢ id).
+        ⊎_elim (λ (h : (0 < length kept.seen.view.numbers) × (kept.seen.view.seen ≡ kept.history)). absurd (no_first kept.seen.id kept.seen.view ne kept.seen.at h.0))
+        (λ (h : (0 < length kept.seen.view.other_numbers) × (kept.seen.view.other_seen ≡ kept.history)). absurd (no_other kept.seen.id kept.seen.view ne kept.seen.at h.0))
+        kept.seen.all)
+
+  rests : (b : Bool) → (b ≡ true → ⊥) → one_if b ≡ 0
+  rests true h = absurd (h refl)
+  rests false h = refl
+
+  nobody : sum_by (acts {E = E}) s.views ≡ 0
+  nobody = sum-zero (acts {E = E}) s.views
+      (λ j u d. dite (ℕ_discrete j id)
+        (λ e. let same : u ≡ v = some-injective u v (sym d ∙ (ap (get_elem? s.views) e ∙ at)) in ap (λ (x : View E). one_if (has_turn x.stage)) same ∙ ap (λ (x : Stage). one_if (has_turn x)) mine.idle)
+        (λ ne. rests (has_turn u.stage) (λ t. no_first j u ne d ((kept.each j u d).lives t))))
+
+  pub ends : (x : T) × (s.homes ≡ some (Some x) ∷ []) × (entries_of x ≡ v.seen)
+  ends = ⊎_elim (λ (home : IsHome entries_of kept.history s.homes s.views). (home.value, home.slot, home.entries ∙ sym seen_whole))
+      (λ (out : IsOut entries_of s.homes s.views). absurd (omega (arith, out.one, nobody))) kept.value
