@@ -14,7 +14,7 @@ use Rattle.turn_lock.specs.declared.view.Stage.TheVariants.{Idle}
 use Rattle.turn_lock.specs.Views.{has_turn}
 use Rattle.turn_lock.specs.Rule.{times_in, Fits, HasSeenAll, IsHome, IsOut, IsKept}
 use Rattle.turn_lock.proofs.Counts.{sum-at, sum-two, sum-zero}
-use Rattle.turn_lock.proofs.Joining.{IsAlone}
+use Rattle.turn_lock.specs.Steps.{IsAlone}
 use Rattle.turn_lock.proofs.Keeping.{Kept, one_if, acts, one_there}
 
 count_first : (number other : ℕ) (ns : List ℕ) → number ≡ other → 0 < count_by (nat_eq number) (other ∷ ns)
@@ -31,7 +31,7 @@ some_number [] lt = absurd (omega arith)
 some_number (n ∷ ns) lt = (n, count_first n n ns refl)
 
 module _ {T E : Type 0} (entries_of : T → List E) (number_of : E → ℕ) (s : State (Option T) (View E)) (kept : Kept entries_of number_of s) (id : ℕ) (v : View E) (joined : List ℕ) (at : get_elem? s.views id ≡ some v)
-    (is : v.numbers ≡ 0 ∷ joined) (mine : IsAlone entries_of number_of v) (all : (number : ℕ) → number < v.made → number ≢ 0 → Contains joined number) where
+    (is : v.numbers ≡ 0 ∷ joined) (mine : IsAlone v) (all : (number : ℕ) → number < v.made → number ≢ 0 → Contains joined number) where
   made_is : v.made ≡ kept.made
   made_is = (kept.each id v at).keeps_made joined is
 

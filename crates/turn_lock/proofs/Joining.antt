@@ -15,7 +15,7 @@ use Rattle.turn_lock.specs.declared.view.Stage.{Stage}
 use Rattle.turn_lock.specs.declared.view.Stage.TheVariants.{Idle}
 use Rattle.turn_lock.specs.Views.{has_ticket, holds_ticket, has_turn, with_other, spent_view, longer, joined_view}
 use Rattle.turn_lock.specs.Rule.{InTurn, times_in, Begins, Fits, HasSeenAll, IsSeen, IsHome, IsOut, IsKept}
-use Rattle.turn_lock.specs.Steps.{Place, Merges, merged}
+use Rattle.turn_lock.specs.Steps.{Place, IsAlone, Merges, merged}
 use Rattle.turn_lock.proofs.Beginnings.{further, longer-first, longer-second}
 use Rattle.turn_lock.proofs.Counts.{set_at, each_set, sum-set}
 use Rattle.turn_lock.proofs.Entries.{strange_append, strange_before, strange_behind, AreStrange}
@@ -24,12 +24,6 @@ use Rattle.turn_lock.proofs.Keeping.{Kept, allows, one_if, waits, holds, acts, s
 module _ {T E : Type 0} (entries_of : T → List E) (number_of : E → ℕ) where
   abbrev K : State (Option T) (View E) → Type 0
   K = Kept entries_of number_of
-
-  -- nothing is kept of another pass
-  pub record IsAlone (v : View E) : Type 0 where
-    pub idle : v.stage ≡ Idle
-    pub no_numbers : v.other_numbers ≡ []
-    pub no_seen : v.other_seen ≡ []
 
   no_times : (number : ℕ) (v : View E) → v.other_numbers ≡ [] → times_in number v ≡ count_by (nat_eq number) v.numbers
   no_times number v none_kept = let t : count_by (nat_eq number) v.other_numbers ≡ 0 = ap (λ (ns : List ℕ). count_by (nat_eq number) ns) none_kept in omega arith

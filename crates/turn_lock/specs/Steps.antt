@@ -19,6 +19,12 @@ pub record IsTable (table seat : TableId) : Type 0 where
 abbrev pub IsFound : Stage → Type 0
 IsFound stage = (own : ℕ) × (stage ≡ Found own)
 
+-- a pass without a ticket, at which nothing is kept of another pass
+pub record IsAlone {E : Type 0} (view : View E) : Type 0 where
+  pub idle : view.stage ≡ Idle
+  pub no_numbers : view.other_numbers ≡ []
+  pub no_seen : view.other_seen ≡ []
+
 -- a seat's view and the slot in its hand
 abbrev pub Place : Type 0 → Type 0 → Type 0
 Place T E = Me (Option T) (View E)

@@ -1,5 +1,5 @@
 -- What a seat at the lock's table knows, and what of it a pass shows.
-use Rattle.std.specs.Prelude.{◌≡◌, ℕ, suc, Bool, true, false, List, [], ◌∷◌, ◌++◌, length, cond, nat_eq, nat_lt, Option}
+use Rattle.std.specs.Prelude.{◌≡◌, ℕ, ◌+◌, Bool, true, false, List, [], ◌∷◌, ◌++◌, length, cond, nat_eq, nat_lt, Option}
 use Rattle.atomic_table.specs.Seated.{TableId}
 use Rattle.atomic_table.specs.declared.shared.Seat.{Seat}
 use Rattle.turn_meaning.specs.Passes.{Pass}
@@ -47,7 +47,7 @@ module _ {E : Type 0} where
 
   -- pass 0, after it has made one more
   abbrev pub with_one_more : View E → View E
-  with_one_more view = record view { made = suc view.made }
+  with_one_more view = record view { made = view.made + 1 }
 
   -- the pass that pass 0 makes
   abbrev pub split_view : View E → View E

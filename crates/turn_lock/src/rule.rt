@@ -19,4 +19,6 @@ impl<T: Story> TableRule<Option<T>, View<T::Entry>, Snapshot<T>> for TurnRule {
 
 pub type TurnTable<T> = Table<Option<T>, View<<T as Story>::Entry>, Snapshot<T>, TurnRule, Global>;
 
+pub type Top<T> = Shared<Option<T>, View<<T as Story>::Entry>, Snapshot<T>, TurnRule>;
+
 pub type Place<T> = Seat<Option<T>, View<<T as Story>::Entry>>;

@@ -3,6 +3,10 @@ use Rattle.std.specs.Prelude.{ℕ, Bool, List, not, filter, nat_eq, nat_lt}
 use Rattle.std.specs.List.{list_all}
 
 module _ {Entry : Type 0} (number_of : Entry → ℕ) where
+  -- each entry carries this number
+  abbrev pub are_of : ℕ → List Entry → Bool
+  are_of number entries = list_all (λ (entry : Entry). nat_eq number (number_of entry)) entries
+
   -- no entry carries this number
   abbrev pub are_of_others : ℕ → List Entry → Bool
   are_of_others number entries = list_all (λ (entry : Entry). not (nat_eq number (number_of entry))) entries

@@ -1,7 +1,7 @@
 -- What is seen of a pass, and what the calls of a lock do to it.
 -- A value is under a lock and has entries, each with the number of the pass that made it. Passes of the lock take turns with the
 -- value, and a pass has seen the entries that the value had when it last had a turn.
-use Rattle.std.specs.Prelude.{◌≡◌, ◌≢◌, ◌⊎◌, ℕ, zero, suc, ◌+◌, ◌<◌, ◌^◌, Bool, true, false, List, [], ◌∷◌, ◌++◌, Contains}
+use Rattle.std.specs.Prelude.{◌≡◌, ◌≢◌, ◌⊎◌, ℕ, ◌+◌, ◌<◌, Bool, true, false, List, [], ◌∷◌, ◌++◌, Contains}
 use Rattle.turn_meaning.specs.Numbers.{are_of_others, are_below}
 
 -- What is seen of a pass: the lock that it is of, its number, how many passes were made, itself counted, if it is pass 0 (else
@@ -40,7 +40,7 @@ module _ {Lock Entry : Type 0} where
 
   -- pass 0, after it has made one more
   abbrev pub with_one_more : Pass Lock Entry → Pass Lock Entry
-  with_one_more first = record first { made = suc first.made }
+  with_one_more first = record first { made = first.made + 1 }
 
   -- the pass that is split from pass 0: it has the next number, and has seen what pass 0 has
   abbrev pub split_from : Pass Lock Entry → Pass Lock Entry
