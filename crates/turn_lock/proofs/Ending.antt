@@ -3,15 +3,19 @@ use Rattle.std.proofs.Common.{◌≡◌, ◌≢◌, ℕ, zero, suc, ◌+◌, ◌
 use Rattle.std.specs.Prelude.{nat_eq, Contains}
 use Rattle.std.specs.List.{count_by, sum_by}
 use Rattle.std.proofs.lemmas.List.Sums.{sum_by-cons}
+use mathlib.Core.Option as maybe
 use mathlib.Core.Option.{some, none, some-injective}
 use mathlib.Core.Logic.{dite}
 use native.Mathlib.Decide.{ℕ_discrete}
 use lib.ListN.{get_elem?}
-use Rattle.atomic_table.specs.Table.{State}
+use Rattle.atomic_table.specs.Table.{State, Final, Seen}
 use Rattle.turn_lock.specs.declared.view.View.{View}
 use Rattle.turn_lock.specs.declared.view.Stage.{Stage}
-use Rattle.turn_lock.specs.declared.view.Stage.TheVariants.{Idle}
-use Rattle.turn_lock.specs.Views.{has_turn}
+use Rattle.turn_lock.specs.declared.view.Stage.TheVariants.{Idle, Drawn, Found, Noted}
+use Rattle.atomic_table.specs.declared.shared.Seat.{Seat}
+use Rattle.turn_meaning.specs.Passes.{Pass, HasJoinedAll}
+use Rattle.atomic_table.specs.Seated.{TableId}
+use Rattle.turn_lock.specs.Views.{has_turn, joined_in, read_pass, IsSettled, IsPassAt}
 use Rattle.turn_lock.specs.Rule.{times_in, Fits, HasSeenAll, IsHome, IsOut, IsKept}
 use Rattle.turn_lock.proofs.Counts.{sum-at, sum-two, sum-zero}
 use Rattle.turn_lock.specs.Steps.{IsAlone}
@@ -38,8 +42,8 @@ module _ {T E : Type 0} (entries_of : T → List E) (number_of : E → ℕ) (s :
   -- every number that was given is among those of pass 0
   counted : (number : ℕ) → number < kept.made → 0 < times_in number v
   counted number lt = let listed : 0 < count_by (nat_eq number) v.numbers = subst (λ (ns : List ℕ). 0 < count_by (nat_eq number) ns) (sym is)
-        (dite (ℕ_discrete number 0) (λ e. count_first number 0 joined e)
-        (λ ne. let c = all number (omega (arith, made_is, lt)) ne in let t = count_there number joined c.0 c.1 c.2 in omega (arith, sum_by-cons (λ (m : ℕ). one_if (nat_eq number m)) 0 joined))) in omega arith
+      (dite (ℕ_discrete number 0) (λ e. count_first number 0 joined e)
+      (λ ne. let c = all number (omega (arith, made_is, lt)) ne in let t = count_there number joined c.0 c.1 c.2 in omega (arith, sum_by-cons (λ (m : ℕ). one_if (nat_eq number m)) 0 joined))) in omega arith
 
   -- so no other view has a number
   no_number : (j : ℕ) (u : View E) (number : ℕ) → j ≢ id → get_elem? s.views j ≡ some u → ¬ (0 < times_in number u)
@@ -59,14 +63,14 @@ module _ {T E : Type 0} (entries_of : T → List E) (number_of : E → ℕ) (s :
   seen_whole : v.seen ≡ kept.history
   seen_whole = dite (ℕ_discrete kept.seen.id id)
       (λ (e : kept.seen.id ≡ id).
-        let same : kept.seen.view ≡ v = some-injective kept.seen.view v (sym kept.seen.at ∙ (ap (get_elem? s.views) e ∙ at)) in
-        ⊎_elim (λ (h : (0 < length v.numbers) × (v.seen ≡ kept.history)). h.1)
-        (λ (h : (0 < length v.other_numbers) × (v.other_seen ≡ kept.history)). absurd (let t : length v.other_numbers ≡ 0 = ap length mine.no_numbers in let u = h.0 in omega arith))
-        (subst (HasSeenAll kept.history) same kept.seen.all))
+      let same : kept.seen.view ≡ v = some-injective kept.seen.view v (sym kept.seen.at ∙ (ap (get_elem? s.views) e ∙ at)) in
+      ⊎_elim (λ (h : (0 < length v.numbers) × (v.seen ≡ kept.history)). h.1)
+      (λ (h : (0 < length v.other_numbers) × (v.other_seen ≡ kept.history)). absurd (let t : length v.other_numbers ≡ 0 = ap length mine.no_numbers in let u = h.0 in omega arith))
+      (subst (HasSeenAll kept.history) same kept.seen.all))
       (λ (ne : kept.seen.id ≢ id).
-        ⊎_elim (λ (h : (0 < length kept.seen.view.numbers) × (kept.seen.view.seen ≡ kept.history)). absurd (no_first kept.seen.id kept.seen.view ne kept.seen.at h.0))
-        (λ (h : (0 < length kept.seen.view.other_numbers) × (kept.seen.view.other_seen ≡ kept.history)). absurd (no_other kept.seen.id kept.seen.view ne kept.seen.at h.0))
-        kept.seen.all)
+      ⊎_elim (λ (h : (0 < length kept.seen.view.numbers) × (kept.seen.view.seen ≡ kept.history)). absurd (no_first kept.seen.id kept.seen.view ne kept.seen.at h.0))
+      (λ (h : (0 < length kept.seen.view.other_numbers) × (kept.seen.view.other_seen ≡ kept.history)). absurd (no_other kept.seen.id kept.seen.view ne kept.seen.at h.0))
+      kept.seen.all)
 
   rests : (b : Bool) → (b ≡ true → ⊥) → one_if b ≡ 0
   rests true h = absurd (h refl)
@@ -75,9 +79,35 @@ module _ {T E : Type 0} (entries_of : T → List E) (number_of : E → ℕ) (s :
   nobody : sum_by (acts {E = E}) s.views ≡ 0
   nobody = sum-zero (acts {E = E}) s.views
       (λ j u d. dite (ℕ_discrete j id)
-        (λ e. let same : u ≡ v = some-injective u v (sym d ∙ (ap (get_elem? s.views) e ∙ at)) in ap (λ (x : View E). one_if (has_turn x.stage)) same ∙ ap (λ (x : Stage). one_if (has_turn x)) mine.idle)
-        (λ ne. rests (has_turn u.stage) (λ t. no_first j u ne d ((kept.each j u d).lives t))))
+      (λ e. let same : u ≡ v = some-injective u v (sym d ∙ (ap (get_elem? s.views) e ∙ at)) in ap (λ (x : View E). one_if (has_turn x.stage)) same ∙ ap (λ (x : Stage). one_if (has_turn x)) mine.idle)
+      (λ ne. rests (has_turn u.stage) (λ t. no_first j u ne d ((kept.each j u d).lives t))))
 
   pub ends : (x : T) × (s.homes ≡ some (Some x) ∷ []) × (entries_of x ≡ v.seen)
   ends = ⊎_elim (λ (home : IsHome entries_of kept.history s.homes s.views). (home.value, home.slot, home.entries ∙ sym seen_whole))
       (λ (out : IsOut entries_of s.homes s.views). absurd (omega (arith, out.one, nobody))) kept.value
+
+settled_idle : {T : Type 0} (stage : Stage) (carried : List (ℕ × Option T)) → IsSettled stage carried → has_turn stage ≡ false → stage ≡ Idle
+settled_idle Idle carried h t = refl
+settled_idle (Drawn own) carried h t = absurd h
+settled_idle (Found own) carried h t = absurd h
+settled_idle (Noted own) carried h t = absurd (cc t)
+
+-- the slot of a table that is closed with the seat of pass 0 has a value whose entries are those that the pass has seen
+pub record IsThere {T E : Type 0} (entries_of : T → List E) (slot : Option T) (seen : List E) : Type 0 where
+  pub value : T
+  pub full : slot ≡ Some value
+  pub entries : entries_of value ≡ seen
+
+pub ended : {T E : Type 0} (entries_of : T → List E) (number_of : E → ℕ) (number made count : ℕ) (place : Seat (Option T) (View E)) (pass : Pass TableId E) → IsPassAt number made count place → read_pass number made place ≡ pass
+    → pass.has_turn ≡ false → pass.number ≡ 0 → HasJoinedAll pass → (words : List ℕ) (slots : List (Option T)) → Final (Seen (Kept entries_of number_of) place.id place.me.0) words slots
+    → (slot : Option T) → get_elem? slots 0 ≡ some slot → IsThere entries_of slot pass.seen
+ended {T} entries_of number_of number made count place pass at is idle first all words slots last slot there =
+    let joined : List ℕ = joined_in place.me.0.numbers in
+    let own : number ≡ 0 = ap (λ p. p.number) is ∙ first in
+    let each : HasJoinedAll (read_pass number made place) = subst HasJoinedAll (sym is) all in
+    let resting : place.me.0.stage ≡ Idle = settled_idle place.me.0.stage place.me.1 at.settled (ap (λ p. p.has_turn) is ∙ idle) in
+    let found = ends entries_of number_of last.0 last.1.0 place.id place.me.0 joined last.1.1 (at.numbers ∙ ap (λ (n : ℕ). n ∷ joined) own)
+          (record { idle = resting; no_numbers = at.no_other_numbers; no_seen = at.no_other_seen })
+          (λ n lt ne. each n (omega (arith, at.made_is own, lt)) (λ e. ne (e ∙ own))) in
+    let full : get_elem? slots 0 ≡ some (Some found.0) = last.4 0 (Some found.0) (ap (λ (homes : List (maybe.Option (Option T))). get_elem? homes 0) found.1) in
+    record { value = found.0; full = some-injective slot (Some found.0) (sym there ∙ full); entries = found.2 ∙ ap (λ p. p.seen) is }

@@ -51,32 +51,32 @@ module _ {T E : Type 0} (entries_of : T → List E) (number_of : E → ℕ) wher
     beside_seen : IsSeen kept.history beside
     beside_seen = dite (ℕ_discrete kept.seen.id id)
         (λ (e : kept.seen.id ≡ id).
-          let is : kept.seen.view ≡ v = some-injective kept.seen.view v (sym kept.seen.at ∙ (ap (get_elem? s.views) e ∙ at)) in
-          record {
-            id = id;
-            view = with_other v w;
-            at = at_id;
-            all = ⊎_elim (λ (h : (0 < length v.numbers) × (v.seen ≡ kept.history)). inl h)
-                (λ (h : (0 < length v.other_numbers) × (v.other_seen ≡ kept.history)). absurd (let none_kept : length v.other_numbers ≡ 0 = ap length mine.no_numbers in let some_kept = h.0 in omega arith))
-                (subst (HasSeenAll kept.history) is kept.seen.all);
-          })
+        let is : kept.seen.view ≡ v = some-injective kept.seen.view v (sym kept.seen.at ∙ (ap (get_elem? s.views) e ∙ at)) in
+        record {
+          id = id;
+          view = with_other v w;
+          at = at_id;
+          all = ⊎_elim (λ (h : (0 < length v.numbers) × (v.seen ≡ kept.history)). inl h)
+              (λ (h : (0 < length v.other_numbers) × (v.other_seen ≡ kept.history)). absurd (let none_kept : length v.other_numbers ≡ 0 = ap length mine.no_numbers in let some_kept = h.0 in omega arith))
+              (subst (HasSeenAll kept.history) is kept.seen.all);
+        })
         (λ (ne : kept.seen.id ≢ id). dite (ℕ_discrete kept.seen.id other)
-          (λ (e : kept.seen.id ≡ other).
-            let is : kept.seen.view ≡ w = some-injective kept.seen.view w (sym kept.seen.at ∙ (ap (get_elem? s.views) e ∙ was_there)) in
-            record {
-              id = id;
-              view = with_other v w;
-              at = at_id;
-              all = ⊎_elim (λ (h : (0 < length w.numbers) × (w.seen ≡ kept.history)). inr h)
-                  (λ (h : (0 < length w.other_numbers) × (w.other_seen ≡ kept.history)). absurd (let none_kept : length w.other_numbers ≡ 0 = ap length theirs.no_numbers in let some_kept = h.0 in omega arith))
-                  (subst (HasSeenAll kept.history) is kept.seen.all);
-            })
-          (λ (ne' : kept.seen.id ≢ other). record {
-            id = kept.seen.id;
-            view = kept.seen.view;
-            at = set_else (set s.views id (with_other v w)) other kept.seen.id spent_view ne' ∙ (set_else s.views id kept.seen.id (with_other v w) ne ∙ kept.seen.at);
-            all = kept.seen.all;
-          }))
+        (λ (e : kept.seen.id ≡ other).
+        let is : kept.seen.view ≡ w = some-injective kept.seen.view w (sym kept.seen.at ∙ (ap (get_elem? s.views) e ∙ was_there)) in
+        record {
+          id = id;
+          view = with_other v w;
+          at = at_id;
+          all = ⊎_elim (λ (h : (0 < length w.numbers) × (w.seen ≡ kept.history)). inr h)
+              (λ (h : (0 < length w.other_numbers) × (w.other_seen ≡ kept.history)). absurd (let none_kept : length w.other_numbers ≡ 0 = ap length theirs.no_numbers in let some_kept = h.0 in omega arith))
+              (subst (HasSeenAll kept.history) is kept.seen.all);
+        })
+        (λ (ne' : kept.seen.id ≢ other). record {
+          id = kept.seen.id;
+          view = kept.seen.view;
+          at = set_else (set s.views id (with_other v w)) other kept.seen.id spent_view ne' ∙ (set_else s.views id kept.seen.id (with_other v w) ne ∙ kept.seen.at);
+          all = kept.seen.all;
+        }))
 
     beside_fits : (j : ℕ) (u : View E) → get_elem? beside j ≡ some u → Fits number_of kept.ticket kept.serving kept.made kept.history u
     beside_fits = each_set (Fits number_of kept.ticket kept.serving kept.made kept.history) (set s.views id (with_other v w)) other spent_view
@@ -89,9 +89,9 @@ module _ {T E : Type 0} (entries_of : T → List E) (number_of : E → ℕ) wher
           keeps_made = λ js is. absurd (cc is);
         })
         (λ j u ne d. each_set (Fits number_of kept.ticket kept.serving kept.made kept.history) s.views id (with_other v w)
-          (let here = kept.each id v at in let gone = kept.each other w was_there in
-            record { turn = here.turn; own = here.own; other = gone.own; whole = here.whole; lives = here.lives; keeps_made = here.keeps_made })
-          (λ k x ne' d'. kept.each k x d') j u d)
+        (let here = kept.each id v at in let gone = kept.each other w was_there in
+        record { turn = here.turn; own = here.own; other = gone.own; whole = here.whole; lives = here.lives; keeps_made = here.keeps_made })
+        (λ k x ne' d'. kept.each k x d') j u d)
 
     beside_kept : K record { words = s.words; homes = s.homes; views = beside }
     beside_kept = record {
@@ -109,9 +109,9 @@ module _ {T E : Type 0} (entries_of : T → List E) (number_of : E → ℕ) wher
       each = beside_fits;
       seen = beside_seen;
       value = let acting = beside_sum (acts {E = E}) (staged (λ x. one_if (has_turn x)) refl) in ⊎_elim
-        (λ (home : IsHome entries_of kept.history s.homes s.views). inl (record { value = home.value; slot = home.slot; entries = home.entries; nobody = omega (arith, acting, home.nobody) }))
-        (λ (out : IsOut entries_of s.homes s.views). inr (record { slot = out.slot; one = omega (arith, acting, out.one) }))
-        kept.value;
+          (λ (home : IsHome entries_of kept.history s.homes s.views). inl (record { value = home.value; slot = home.slot; entries = home.entries; nobody = omega (arith, acting, home.nobody) }))
+          (λ (out : IsOut entries_of s.homes s.views). inr (record { slot = out.slot; one = omega (arith, acting, out.one) }))
+          kept.value;
     }
 
   pub joins : (id : ℕ) (v : View E) (other : ℕ) (w : View E) → IsAlone v → IsAlone w → Joins K id v other w (with_other v w) spent_view
@@ -135,8 +135,11 @@ module _ {T E : Type 0} (entries_of : T → List E) (number_of : E → ℕ) wher
       record {
         goes_on = record { later = f.between; begins = long ∙ f.begins; others = strange_before number_of f.between other.later v.numbers split_own };
         other_goes_on = self v.other_numbers v.other_seen (longer v.seen v.other_seen) long;
-        own = record { later = other.later; begins = other.begins ∙ ap (λ (l : List E). l ++ other.later) (sym long);
-          others = strange_append number_of other.later v.numbers v.other_numbers (strange_behind number_of f.between other.later v.numbers split_own) other.others };
+        own = record {
+          later = other.later;
+          begins = other.begins ∙ ap (λ (l : List E). l ++ other.later) (sym long);
+          others = strange_append number_of other.later v.numbers v.other_numbers (strange_behind number_of f.between other.later v.numbers split_own) other.others;
+        };
       }
   merge_at v history own other false is =
       let le : length v.other_seen ≤ length v.seen = grind (arith, nat_tests) in
@@ -146,17 +149,20 @@ module _ {T E : Type 0} (entries_of : T → List E) (number_of : E → ℕ) wher
       record {
         goes_on = self v.numbers v.seen (longer v.seen v.other_seen) long;
         other_goes_on = record { later = f.between; begins = long ∙ f.begins; others = strange_before number_of f.between own.later v.other_numbers split_other };
-        own = record { later = own.later; begins = own.begins ∙ ap (λ (l : List E). l ++ own.later) (sym long);
-          others = strange_append number_of own.later v.numbers v.other_numbers own.others (strange_behind number_of f.between own.later v.other_numbers split_other) };
+        own = record {
+          later = own.later;
+          begins = own.begins ∙ ap (λ (l : List E). l ++ own.later) (sym long);
+          others = strange_append number_of own.later v.numbers v.other_numbers own.others (strange_behind number_of f.between own.later v.other_numbers split_other);
+        };
       }
 
   all_merged : (v : View E) (history : List E) → Begins number_of v.numbers v.seen history → Begins number_of v.other_numbers v.other_seen history → HasSeenAll history v → HasSeenAll history (joined_view v)
   all_merged v history own other =
       ⊎_elim
-        (λ (h : (0 < length v.numbers) × (v.seen ≡ history)). let some_kept = h.0 in
-          inl (omega (arith, length-append v.numbers v.other_numbers), longer-first v.seen v.other_seen other.later (h.1 ∙ other.begins) ∙ h.1))
-        (λ (h : (0 < length v.other_numbers) × (v.other_seen ≡ history)). let some_kept = h.0 in
-          inl (omega (arith, length-append v.numbers v.other_numbers), longer-second v.seen v.other_seen own.later (h.1 ∙ own.begins) ∙ h.1))
+      (λ (h : (0 < length v.numbers) × (v.seen ≡ history)). let some_kept = h.0 in
+      inl (omega (arith, length-append v.numbers v.other_numbers), longer-first v.seen v.other_seen other.later (h.1 ∙ other.begins) ∙ h.1))
+      (λ (h : (0 < length v.other_numbers) × (v.other_seen ≡ history)). let some_kept = h.0 in
+      inl (omega (arith, length-append v.numbers v.other_numbers), longer-second v.seen v.other_seen own.later (h.1 ∙ own.begins) ∙ h.1))
 
   merged_kept : (s : State (Option T) (View E)) (kept : K s) (id : ℕ) (v : View E) (own : ℕ) (joined : List ℕ) → get_elem? s.views id ≡ some v → v.stage ≡ Idle → v.numbers ≡ own ∷ joined
       → K record { words = kept.ticket ∷ kept.serving ∷ length kept.history ∷ []; homes = s.homes; views = set s.views id (joined_view v) }
@@ -174,30 +180,30 @@ module _ {T E : Type 0} (entries_of : T → List E) (number_of : E → ℕ) wher
         tickets = let t = sum-set (waits {E = E}) s.views id v w at in omega (arith, kept.tickets, t);
         differ = λ n. let t = sum-set (holds {E = E} n) s.views id v w at in let b = kept.differ n in omega (arith, t, b);
         numbers_differ = λ n. let t = sum-set (times_in {E = E} n) s.views id v w at in let b = kept.numbers_differ n in
-          omega (arith, sum_by-append (λ (m : ℕ). one_if (nat_eq n m)) v.numbers v.other_numbers);
+            omega (arith, sum_by-append (λ (m : ℕ). one_if (nat_eq n m)) v.numbers v.other_numbers);
         numbers_below = λ n h. let t = sum-set (times_in {E = E} n) s.views id v w at in
-          kept.numbers_below n (omega (arith, sum_by-append (λ (m : ℕ). one_if (nat_eq n m)) v.numbers v.other_numbers));
+            kept.numbers_below n (omega (arith, sum_by-append (λ (m : ℕ). one_if (nat_eq n m)) v.numbers v.other_numbers));
         entries_below = kept.entries_below;
         each = each_set (Fits number_of kept.ticket kept.serving kept.made kept.history) s.views id w
-          (record {
-            turn = mine.turn;
-            own = are.own;
-            other = record { later = kept.history; begins = refl; others = refl };
-            whole = λ t. absurd (let off : has_turn v.stage ≡ false = ap has_turn idle in cc (t, off));
-            lives = λ t. absurd (let off : has_turn v.stage ≡ false = ap has_turn idle in cc (t, off));
-            keeps_made = λ js all. let first : own ≡ 0 = cc (sym (ap (λ (ns : List ℕ). ns ++ v.other_numbers) is) ∙ all) in mine.keeps_made joined (is ∙ ap (λ (n : ℕ). n ∷ joined) first);
-          })
-          (λ j u ne d. kept.each j u d);
+            (record {
+              turn = mine.turn;
+              own = are.own;
+              other = record { later = kept.history; begins = refl; others = refl };
+              whole = λ t. absurd (let off : has_turn v.stage ≡ false = ap has_turn idle in cc (t, off));
+              lives = λ t. absurd (let off : has_turn v.stage ≡ false = ap has_turn idle in cc (t, off));
+              keeps_made = λ js all. let first : own ≡ 0 = cc (sym (ap (λ (ns : List ℕ). ns ++ v.other_numbers) is) ∙ all) in mine.keeps_made joined (is ∙ ap (λ (n : ℕ). n ∷ joined) first);
+            })
+            (λ j u ne d. kept.each j u d);
         seen = seen_set entries_of number_of kept.history s.views id v w kept.seen at (all_merged v kept.history mine.own mine.other);
         value = let acting = sum-set (acts {E = E}) s.views id v w at in ⊎_elim
-          (λ (home : IsHome entries_of kept.history s.homes s.views). inl (record { value = home.value; slot = home.slot; entries = home.entries; nobody = omega (arith, acting, home.nobody) }))
-          (λ (out : IsOut entries_of s.homes s.views). inr (record { slot = out.slot; one = omega (arith, acting, out.one) }))
-          kept.value;
+            (λ (home : IsHome entries_of kept.history s.homes s.views). inl (record { value = home.value; slot = home.slot; entries = home.entries; nobody = omega (arith, acting, home.nobody) }))
+            (λ (out : IsOut entries_of s.homes s.views). inr (record { slot = out.slot; one = omega (arith, acting, out.one) }))
+            kept.value;
       }
 
   pub merges : (slots id : ℕ) (me : Place T E) (own : ℕ) (joined : List ℕ) → me.0.stage ≡ Idle → me.0.numbers ≡ own ∷ joined → Allows K slots id me 0 (λ n. n) (merged number_of (step slots 0 0 0 none) me)
   merges slots id me own joined idle is = allows entries_of number_of slots id me 0 (λ n. n) (merged number_of (step slots 0 0 0 none) me)
       (λ s kept at.
-        let mine = kept.each id me.0 at in
-        let are = merge_at me.0 kept.history mine.own mine.other (nat_lt (length me.0.seen) (length me.0.other_seen)) refl in
-        (joined_view me.0, keeps, tt, merged_kept s kept id me.0 own joined at idle is, record { goes_on = are.goes_on; other_goes_on = are.other_goes_on; after_is = refl }))
+      let mine = kept.each id me.0 at in
+      let are = merge_at me.0 kept.history mine.own mine.other (nat_lt (length me.0.seen) (length me.0.other_seen)) refl in
+      (joined_view me.0, keeps, tt, merged_kept s kept id me.0 own joined at idle is, record { goes_on = are.goes_on; other_goes_on = are.other_goes_on; after_is = refl }))

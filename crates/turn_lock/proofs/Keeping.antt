@@ -71,7 +71,7 @@ module _ {T E : Type 0} (entries_of : T → List E) (number_of : E → ℕ) wher
   pub seen_set : (history : List E) (views : List (View E)) (id : ℕ) (v w : View E) → IsSeen history views → get_elem? views id ≡ some v → (HasSeenAll history v → HasSeenAll history w) → IsSeen history (set views id w)
   seen_set history views id v w seen at same = dite (ℕ_discrete seen.id id)
       (λ (e : seen.id ≡ id). let is : seen.view ≡ v = some-injective seen.view v (sym seen.at ∙ (ap (get_elem? views) e ∙ at)) in
-        record { id = id; view = w; at = set_at views id v w at; all = same (subst (HasSeenAll history) is seen.all) })
+      record { id = id; view = w; at = set_at views id v w at; all = same (subst (HasSeenAll history) is seen.all) })
       (λ (ne : seen.id ≢ id). record { id = seen.id; view = seen.view; at = Rattle.atomic_table.proofs.Lists.set_else views id seen.id w ne ∙ seen.at; all = seen.all })
 
   -- the ticket `kept.ticket` was drawn
@@ -96,21 +96,21 @@ module _ {T E : Type 0} (entries_of : T → List E) (number_of : E → ℕ) wher
         fits = room;
         tickets = omega (arith, kept.tickets, waiting, waited);
         differ = λ own. let held = sum-set (holds {E = E} own) s.views id v w at in let before = kept.differ own in
-          let was : holds own v ≡ 0 = ap (λ (x : Stage). one_if (holds_ticket own x)) idle in
-          dite (ℕ_discrete own kept.ticket)
+            let was : holds own v ≡ 0 = ap (λ (x : Stage). one_if (holds_ticket own x)) idle in
+            dite (ℕ_discrete own kept.ticket)
             (λ e. let none : sum_by (holds {E = E} own) s.views ≡ 0 = ap (λ (n : ℕ). sum_by (holds {E = E} n) s.views) e ∙ nobody in let is = one_there own kept.ticket e in omega (arith, held, was, none, is))
             (λ ne. let is = none_there own kept.ticket ne in omega (arith, held, was, is, before));
         numbers_differ = λ number. let t = sum-set (times_in {E = E} number) s.views id v w at in let b = kept.numbers_differ number in omega arith;
         numbers_below = λ number there. let t = sum-set (times_in {E = E} number) s.views id v w at in kept.numbers_below number (omega arith);
         entries_below = kept.entries_below;
         each = each_set (Fits number_of (kept.ticket + 1) kept.serving kept.made kept.history) s.views id w
-          (record { turn = (first, omega arith); own = mine.own; other = mine.other; whole = λ e. absurd (cc e); lives = λ e. absurd (cc e); keeps_made = mine.keeps_made })
-          (λ j u ne e. let fit = kept.each j u e in record { turn = in_turn_more kept.ticket kept.serving u.stage fit.turn; own = fit.own; other = fit.other; whole = fit.whole; lives = fit.lives; keeps_made = fit.keeps_made });
+            (record { turn = (first, omega arith); own = mine.own; other = mine.other; whole = λ e. absurd (cc e); lives = λ e. absurd (cc e); keeps_made = mine.keeps_made })
+            (λ j u ne e. let fit = kept.each j u e in record { turn = in_turn_more kept.ticket kept.serving u.stage fit.turn; own = fit.own; other = fit.other; whole = fit.whole; lives = fit.lives; keeps_made = fit.keeps_made });
         seen = seen_set kept.history s.views id v w kept.seen at (λ h. h);
         value = ⊎_elim
-          (λ (home : IsHome entries_of kept.history s.homes s.views). inl (record { value = home.value; slot = home.slot; entries = home.entries; nobody = omega (arith, acting, acted, home.nobody) }))
-          (λ (out : IsOut entries_of s.homes s.views). inr (record { slot = out.slot; one = omega (arith, acting, acted, out.one) }))
-          kept.value;
+            (λ (home : IsHome entries_of kept.history s.homes s.views). inl (record { value = home.value; slot = home.slot; entries = home.entries; nobody = omega (arith, acting, acted, home.nobody) }))
+            (λ (out : IsOut entries_of s.homes s.views). inr (record { slot = out.slot; one = omega (arith, acting, acted, out.one) }))
+            kept.value;
       }
 
   -- the turn was found
@@ -133,19 +133,19 @@ module _ {T E : Type 0} (entries_of : T → List E) (number_of : E → ℕ) wher
         fits = kept.fits;
         tickets = omega (arith, kept.tickets, waiting, waited);
         differ = λ own. let held = sum-set (holds {E = E} own) s.views id v w at in let before = kept.differ own in
-          let was : holds own v ≡ one_if (nat_eq own kept.serving) = ap (λ (x : Stage). one_if (holds_ticket own x)) is in
-          omega (arith, held, was, before);
+            let was : holds own v ≡ one_if (nat_eq own kept.serving) = ap (λ (x : Stage). one_if (holds_ticket own x)) is in
+            omega (arith, held, was, before);
         numbers_differ = λ number. let t = sum-set (times_in {E = E} number) s.views id v w at in let b = kept.numbers_differ number in omega arith;
         numbers_below = λ number there. let t = sum-set (times_in {E = E} number) s.views id v w at in kept.numbers_below number (omega arith);
         entries_below = kept.entries_below;
         each = each_set (Fits number_of kept.ticket kept.serving kept.made kept.history) s.views id w
-          (record { turn = (refl, turn.1); own = mine.own; other = mine.other; whole = λ e. absurd (cc e); lives = λ e. absurd (cc e); keeps_made = mine.keeps_made })
-          (λ j u ne e. kept.each j u e);
+            (record { turn = (refl, turn.1); own = mine.own; other = mine.other; whole = λ e. absurd (cc e); lives = λ e. absurd (cc e); keeps_made = mine.keeps_made })
+            (λ j u ne e. kept.each j u e);
         seen = seen_set kept.history s.views id v w kept.seen at (λ h. h);
         value = ⊎_elim
-          (λ (home : IsHome entries_of kept.history s.homes s.views). inl (record { value = home.value; slot = home.slot; entries = home.entries; nobody = omega (arith, acting, acted, home.nobody) }))
-          (λ (out : IsOut entries_of s.homes s.views). inr (record { slot = out.slot; one = omega (arith, acting, acted, out.one) }))
-          kept.value;
+            (λ (home : IsHome entries_of kept.history s.homes s.views). inl (record { value = home.value; slot = home.slot; entries = home.entries; nobody = omega (arith, acting, acted, home.nobody) }))
+            (λ (out : IsOut entries_of s.homes s.views). inr (record { slot = out.slot; one = omega (arith, acting, acted, out.one) }))
+            kept.value;
       }
 
   -- nothing changes where a view is set to itself
@@ -157,39 +157,39 @@ module _ {T E : Type 0} (entries_of : T → List E) (number_of : E → ℕ) wher
       → Allows Kept slots id me 0 (λ n. either (n == next) (next + 1) n) (drew (step slots 0 next (next + 1) none) me)
   draws slots id me next idle room = allows slots id me 0 (λ n. either (n == next) (next + 1) n) (drew (step slots 0 next (next + 1) none) me)
       (λ s kept at. dite (ℕ_discrete kept.ticket next)
-        (λ (e : kept.ticket ≡ next).
-          let n : either (kept.ticket == next) (next + 1) kept.ticket ≡ kept.ticket + 1 = ap (λ (b : Bool). either b (next + 1) kept.ticket) (eq-eqb kept.ticket next e) ∙ ap (λ (k : ℕ). k + 1) (sym e) in (
-            at_stage (Drawn next) me.0,
-            keeps,
-            tt,
-            subst (λ (z : ℕ × ℕ). Kept record { words = z.0 ∷ kept.serving ∷ length kept.history ∷ []; homes = s.homes; views = set s.views id (at_stage (Drawn z.1) me.0) }) (λ i. (sym n i, e i))
-              (drawn s kept id me.0 at idle (subst (λ (k : ℕ). k + 1 < 18446744073709551616) (sym e) room)),
-            ((λ h. refl), (λ ne. absurd (ne e))),
-          ))
-        (λ (ne : kept.ticket ≢ next).
-          let n : either (kept.ticket == next) (next + 1) kept.ticket ≡ kept.ticket = ap (λ (b : Bool). either b (next + 1) kept.ticket) (ne_eqb kept.ticket next ne) in (
-            me.0,
-            keeps,
-            tt,
-            subst (λ (k : ℕ). Kept record { words = k ∷ kept.serving ∷ length kept.history ∷ []; homes = s.homes; views = set s.views id me.0 }) (sym n) (stays s kept id me.0 at),
-            ((λ h. absurd (ne h)), (λ h. refl)),
-          )))
+      (λ (e : kept.ticket ≡ next).
+      let n : either (kept.ticket == next) (next + 1) kept.ticket ≡ kept.ticket + 1 = ap (λ (b : Bool). either b (next + 1) kept.ticket) (eq-eqb kept.ticket next e) ∙ ap (λ (k : ℕ). k + 1) (sym e) in (
+        at_stage (Drawn next) me.0,
+        keeps,
+        tt,
+        subst (λ (z : ℕ × ℕ). Kept record { words = z.0 ∷ kept.serving ∷ length kept.history ∷ []; homes = s.homes; views = set s.views id (at_stage (Drawn z.1) me.0) }) (λ i. (sym n i, e i))
+            (drawn s kept id me.0 at idle (subst (λ (k : ℕ). k + 1 < 18446744073709551616) (sym e) room)),
+        ((λ h. refl), (λ ne. absurd (ne e))),
+      ))
+      (λ (ne : kept.ticket ≢ next).
+      let n : either (kept.ticket == next) (next + 1) kept.ticket ≡ kept.ticket = ap (λ (b : Bool). either b (next + 1) kept.ticket) (ne_eqb kept.ticket next ne) in (
+        me.0,
+        keeps,
+        tt,
+        subst (λ (k : ℕ). Kept record { words = k ∷ kept.serving ∷ length kept.history ∷ []; homes = s.homes; views = set s.views id me.0 }) (sym n) (stays s kept id me.0 at),
+        ((λ h. absurd (ne h)), (λ h. refl)),
+      )))
 
   pub looks : (slots id : ℕ) (me : Place T E) (own : ℕ) → me.0.stage ≡ Drawn own → Allows Kept slots id me 1 (λ n. n) (looked (step slots 1 0 0 none) me)
   looks slots id me own is = allows slots id me 1 (λ n. n) (looked (step slots 1 0 0 none) me)
       (λ s kept at. dite (ℕ_discrete kept.serving own)
-        (λ (e : kept.serving ≡ own). (
-            at_stage (Found own) me.0,
-            keeps,
-            tt,
-            subst (λ (k : ℕ). Kept record { words = kept.ticket ∷ kept.serving ∷ length kept.history ∷ []; homes = s.homes; views = set s.views id (at_stage (Found k) me.0) }) e
-              (found s kept id me.0 at (is ∙ ap (λ (k : ℕ). Drawn k) (sym e))),
-            (λ own' is'. let same : own ≡ own' = cc (is, is') in ((λ h. ap (λ (k : ℕ). (at_stage (Found k) me.0, me.1)) same), (λ ne. absurd (ne (e ∙ same))))),
-          ))
-        (λ (ne : kept.serving ≢ own). (
-            me.0,
-            keeps,
-            tt,
-            stays s kept id me.0 at,
-            (λ own' is'. let same : own ≡ own' = cc (is, is') in ((λ h. absurd (ne (h ∙ sym same))), (λ h. refl))),
-          )))
+      (λ (e : kept.serving ≡ own). (
+        at_stage (Found own) me.0,
+        keeps,
+        tt,
+        subst (λ (k : ℕ). Kept record { words = kept.ticket ∷ kept.serving ∷ length kept.history ∷ []; homes = s.homes; views = set s.views id (at_stage (Found k) me.0) }) e
+            (found s kept id me.0 at (is ∙ ap (λ (k : ℕ). Drawn k) (sym e))),
+        (λ own' is'. let same : own ≡ own' = cc (is, is') in ((λ h. ap (λ (k : ℕ). (at_stage (Found k) me.0, me.1)) same), (λ ne. absurd (ne (e ∙ same))))),
+      ))
+      (λ (ne : kept.serving ≢ own). (
+        me.0,
+        keeps,
+        tt,
+        stays s kept id me.0 at,
+        (λ own' is'. let same : own ≡ own' = cc (is, is') in ((λ h. absurd (ne (h ∙ sym same))), (λ h. refl))),
+      )))

@@ -6,3 +6,4 @@ pub mod Turning
 pub mod Splitting
 pub mod Joining
 pub mod Ending
+pub mod Opening

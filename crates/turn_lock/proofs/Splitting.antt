@@ -40,7 +40,7 @@ module _ {T E : Type 0} (entries_of : T → List E) (number_of : E → ℕ) wher
       let mine = kept.each id v at in
       let all : are_below number_of kept.made (v.seen ++ mine.own.later) ≡ true = subst (λ (h : List E). are_below number_of kept.made h ≡ true) mine.own.begins kept.entries_below in
       subst (λ (n : ℕ). are_of_others number_of n v.seen ≡ true) (sym (mine.keeps_made joined is))
-        (below_others number_of kept.made v.seen (below_before number_of kept.made v.seen mine.own.later all))
+      (below_others number_of kept.made v.seen (below_before number_of kept.made v.seen mine.own.later all))
 
   pub tells : (slots id : ℕ) (me : Place T E) → Allows K slots id me 0 (λ n. n) (told number_of (step slots 0 0 0 none) me)
   tells slots id me = allows entries_of number_of slots id me 0 (λ n. n) (told number_of (step slots 0 0 0 none) me)
@@ -78,35 +78,35 @@ module _ {T E : Type 0} (entries_of : T → List E) (number_of : E → ℕ) wher
     parted_fits : (j : ℕ) (u : View E) → get_elem? parted j ≡ some u → Fits number_of kept.ticket kept.serving (kept.made + 1) kept.history u
     parted_fits j u e = ⊎_elim
         (λ d. each_set (Fits number_of kept.ticket kept.serving (kept.made + 1) kept.history) s.views id (with_one_more v)
-          (let mine = kept.each id v at in
-            record { turn = mine.turn; own = mine.own; other = mine.other; whole = mine.whole; lives = mine.lives; keeps_made = λ js is'. omega (arith, made_is) })
-          (λ k w ne d'. let fit = kept.each k w d' in
-            record {
-              turn = fit.turn;
-              own = fit.own;
-              other = fit.other;
-              whole = fit.whole;
-              lives = fit.lives;
-              keeps_made = λ js is'. absurd (
-                let mine = first_below s kept id v 0 joined at is in
-                let theirs = first_below s kept k w 0 js d' is' in
-                let two = sum-two (times_in {E = E} 0) s.views id k v w at d' ne in
-                let one = kept.numbers_differ 0 in
-                omega arith);
-            })
-          j u d)
+        (let mine = kept.each id v at in
+        record { turn = mine.turn; own = mine.own; other = mine.other; whole = mine.whole; lives = mine.lives; keeps_made = λ js is'. omega (arith, made_is) })
+        (λ k w ne d'. let fit = kept.each k w d' in
+        record {
+          turn = fit.turn;
+          own = fit.own;
+          other = fit.other;
+          whole = fit.whole;
+          lives = fit.lives;
+          keeps_made = λ js is'. absurd (
+              let mine = first_below s kept id v 0 joined at is in
+              let theirs = first_below s kept k w 0 js d' is' in
+              let two = sum-two (times_in {E = E} 0) s.views id k v w at d' ne in
+              let one = kept.numbers_differ 0 in
+              omega arith);
+        })
+        j u d)
         (λ (same : split_view v ≡ u). subst (Fits number_of kept.ticket kept.serving (kept.made + 1) kept.history) same
-          (let mine = kept.each id v at in
-            let behind : are_below number_of kept.made mine.own.later ≡ true = below_behind number_of kept.made v.seen mine.own.later (subst (λ (h : List E). are_below number_of kept.made h ≡ true) mine.own.begins kept.entries_below) in
-            let strange : are_of_others number_of v.made mine.own.later ≡ true = subst (λ (n : ℕ). are_of_others number_of n mine.own.later ≡ true) (sym made_is) (below_others number_of kept.made mine.own.later behind) in
-            record {
-              turn = tt;
-              own = record { later = mine.own.later; begins = mine.own.begins; others = strange_append number_of mine.own.later (v.made ∷ []) [] (Rattle.turn_lock.proofs.Entries.both _ _ strange refl) refl };
-              other = record { later = kept.history; begins = refl; others = refl };
-              whole = λ t. absurd (cc t);
-              lives = λ t. absurd (cc t);
-              keeps_made = λ js is'. absurd (let zero_made : v.made ≡ 0 = cc is' in let some = some_made in omega (arith, made_is));
-            }))
+        (let mine = kept.each id v at in
+        let behind : are_below number_of kept.made mine.own.later ≡ true = below_behind number_of kept.made v.seen mine.own.later (subst (λ (h : List E). are_below number_of kept.made h ≡ true) mine.own.begins kept.entries_below) in
+        let strange : are_of_others number_of v.made mine.own.later ≡ true = subst (λ (n : ℕ). are_of_others number_of n mine.own.later ≡ true) (sym made_is) (below_others number_of kept.made mine.own.later behind) in
+        record {
+          turn = tt;
+          own = record { later = mine.own.later; begins = mine.own.begins; others = strange_append number_of mine.own.later (v.made ∷ []) [] (Rattle.turn_lock.proofs.Entries.both _ _ strange refl) refl };
+          other = record { later = kept.history; begins = refl; others = refl };
+          whole = λ t. absurd (cc t);
+          lives = λ t. absurd (cc t);
+          keeps_made = λ js is'. absurd (let zero_made : v.made ≡ 0 = cc is' in let some = some_made in omega (arith, made_is));
+        }))
         (at_snoc (set s.views id (with_one_more v)) (split_view v) u j e)
 
     split_kept : K record { words = s.words; homes = s.homes; views = parted }
@@ -120,17 +120,17 @@ module _ {T E : Type 0} (entries_of : T → List E) (number_of : E → ℕ) wher
       tickets = omega (arith, kept.tickets, parted_sum (waits {E = E}) refl);
       differ = λ own. let held = parted_sum (holds {E = E} own) refl in let before = kept.differ own in omega (arith, held, before);
       numbers_differ = λ number. let t = parted_sum (times_in {E = E} number) refl in let b = kept.numbers_differ number in let p = parted_times number in
-        dite (ℕ_discrete number kept.made) (λ e. let q = p.0 e in omega arith) (λ ne. let q = p.1 ne in omega arith);
+          dite (ℕ_discrete number kept.made) (λ e. let q = p.0 e in omega arith) (λ ne. let q = p.1 ne in omega arith);
       numbers_below = λ number there. let t = parted_sum (times_in {E = E} number) refl in let p = parted_times number in
-        dite (ℕ_discrete number kept.made) (λ e. omega arith) (λ ne. let q = p.1 ne in let b = kept.numbers_below number (omega arith) in omega arith);
+          dite (ℕ_discrete number kept.made) (λ e. omega arith) (λ ne. let q = p.1 ne in let b = kept.numbers_below number (omega arith) in omega arith);
       entries_below = below_more number_of kept.made kept.history kept.entries_below;
       each = parted_fits;
       seen = let set_seen = seen_set entries_of number_of kept.history s.views id v (with_one_more v) kept.seen at (λ h. h) in
-        record { id = set_seen.id; view = set_seen.view; at = at_longer (set s.views id (with_one_more v)) (split_view v ∷ []) set_seen.id set_seen.view set_seen.at; all = set_seen.all };
+          record { id = set_seen.id; view = set_seen.view; at = at_longer (set s.views id (with_one_more v)) (split_view v ∷ []) set_seen.id set_seen.view set_seen.at; all = set_seen.all };
       value = let acting = parted_sum (acts {E = E}) refl in ⊎_elim
-        (λ (home : IsHome entries_of kept.history s.homes s.views). inl (record { value = home.value; slot = home.slot; entries = home.entries; nobody = omega (arith, acting, home.nobody) }))
-        (λ (out : IsOut entries_of s.homes s.views). inr (record { slot = out.slot; one = omega (arith, acting, out.one) }))
-        kept.value;
+          (λ (home : IsHome entries_of kept.history s.homes s.views). inl (record { value = home.value; slot = home.slot; entries = home.entries; nobody = omega (arith, acting, home.nobody) }))
+          (λ (out : IsOut entries_of s.homes s.views). inr (record { slot = out.slot; one = omega (arith, acting, out.one) }))
+          kept.value;
     }
 
   pub splits : (id : ℕ) (v : View E) (joined : List ℕ) → v.numbers ≡ 0 ∷ joined → Splits K id v (with_one_more v) (split_view v)

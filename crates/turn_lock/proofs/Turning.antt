@@ -99,21 +99,21 @@ module _ {T E : Type 0} (entries_of : T → List E) (number_of : E → ℕ) wher
         fits = kept.fits;
         tickets = omega (arith, kept.tickets, waiting, waited);
         differ = λ own. let held = sum-set (holds {E = E} own) s.views id v w at in let before = kept.differ own in
-          let was : holds own v ≡ one_if (nat_eq own kept.serving) = ap (λ (x : Stage). one_if (holds_ticket own x)) is in
-          omega (arith, held, was, before);
+            let was : holds own v ≡ one_if (nat_eq own kept.serving) = ap (λ (x : Stage). one_if (holds_ticket own x)) is in
+            omega (arith, held, was, before);
         numbers_differ = λ number. let t = sum-set (times_in {E = E} number) s.views id v w at in let b = kept.numbers_differ number in omega arith;
         numbers_below = λ number there. let t = sum-set (times_in {E = E} number) s.views id v w at in kept.numbers_below number (omega arith);
         entries_below = kept.entries_below;
         each = each_set (Fits number_of kept.ticket kept.serving kept.made kept.history) s.views id w
-          (record {
-            turn = turn;
-            own = record { later = []; begins = sym home.entries ∙ sym (append-nil (entries_of home.value)); others = strange_none number_of v.numbers };
-            other = mine.other;
-            whole = λ e. home.entries;
-            lives = λ e. named;
-            keeps_made = mine.keeps_made;
-          })
-          (λ j u ne e. kept.each j u e);
+            (record {
+              turn = turn;
+              own = record { later = []; begins = sym home.entries ∙ sym (append-nil (entries_of home.value)); others = strange_none number_of v.numbers };
+              other = mine.other;
+              whole = λ e. home.entries;
+              lives = λ e. named;
+              keeps_made = mine.keeps_made;
+            })
+            (λ j u ne e. kept.each j u e);
         seen = seen_set entries_of number_of kept.history s.views id v w kept.seen at (⊎_elim (λ (h : (0 < length v.numbers) × (v.seen ≡ kept.history)). inl (h.0, home.entries)) (λ (h : (0 < length v.other_numbers) × (v.other_seen ≡ kept.history)). inr h));
         value = inr (record { slot = refl; one = omega (arith, acting, acted, home.nobody) });
       }
@@ -121,17 +121,17 @@ module _ {T E : Type 0} (entries_of : T → List E) (number_of : E → ℕ) wher
   pub notes : (slots id : ℕ) (me : Place T E) → IsFound me.0.stage → 0 < length me.0.numbers → me.1 ≡ [] → Allows K slots id me 2 (λ n. n) (noted entries_of number_of (step slots 2 0 0 none) me)
   notes slots id me is named empty = allows entries_of number_of slots id me 2 (λ n. n) (noted entries_of number_of (step slots 2 0 0 none) me)
       (λ s kept at.
-        let mine = kept.each id me.0 at in
-        let turn : InTurn kept.ticket kept.serving (Found is.0) = subst (InTurn kept.ticket kept.serving) is.1 mine.turn in
-        let own : me.0.stage ≡ Found kept.serving = is.1 ∙ ap (λ (k : ℕ). Found k) turn.0 in
-        let home = home_found s kept id me.0 at own in
-        let x : T = home.value in (
-          noted_view kept.serving x me.0,
-          takes 0 (Some x),
-          ap (λ (h : List (maybe.Option (Option T))). get_elem? h 0) home.slot,
-          subst (λ (h : List (maybe.Option (Option T))). K record { words = kept.ticket ∷ kept.serving ∷ length kept.history ∷ []; homes = set h 0 none; views = set s.views id (noted_view kept.serving x me.0) })
+      let mine = kept.each id me.0 at in
+      let turn : InTurn kept.ticket kept.serving (Found is.0) = subst (InTurn kept.ticket kept.serving) is.1 mine.turn in
+      let own : me.0.stage ≡ Found kept.serving = is.1 ∙ ap (λ (k : ℕ). Found k) turn.0 in
+      let home = home_found s kept id me.0 at own in
+      let x : T = home.value in (
+        noted_view kept.serving x me.0,
+        takes 0 (Some x),
+        ap (λ (h : List (maybe.Option (Option T))). get_elem? h 0) home.slot,
+        subst (λ (h : List (maybe.Option (Option T))). K record { words = kept.ticket ∷ kept.serving ∷ length kept.history ∷ []; homes = set h 0 none; views = set s.views id (noted_view kept.serving x me.0) })
             (sym home.slot) (noted_kept s kept id me.0 at own named home),
-          (λ own' is'.
+        (λ own' is'.
             let same : kept.serving ≡ own' = cc (own, is') in
             record {
               value = x;
@@ -140,7 +140,7 @@ module _ {T E : Type 0} (entries_of : T → List E) (number_of : E → ℕ) wher
               count = ap length (sym home.entries);
               after_is = λ i. (noted_view (same i) x me.0, (0, Some x) ∷ empty i);
             }),
-        ))
+      ))
 
   -- an own number stands among the numbers of its view
   own_times : (number own : ℕ) (joined : List ℕ) (v : View E) → v.numbers ≡ own ∷ joined → number ≡ own → 0 < count_by (nat_eq number) v.numbers
@@ -187,15 +187,15 @@ module _ {T E : Type 0} (entries_of : T → List E) (number_of : E → ℕ) wher
         numbers_below = λ n h. let t = sum-set (times_in {E = E} n) s.views id v w at in kept.numbers_below n (omega arith);
         entries_below = below_push number_of kept.made kept.history e kept.entries_below (kept.numbers_below number (omega arith));
         each = each_set (Fits number_of kept.ticket kept.serving kept.made (kept.history ++ e ∷ [])) s.views id w
-          (record {
-            turn = mine.turn;
-            own = record { later = []; begins = ap (λ (h : List E). h ++ e ∷ []) (sym all) ∙ sym (append-nil (v.seen ++ e ∷ [])); others = strange_none number_of v.numbers };
-            other = goes_further v.other_numbers v.other_seen kept.history e mine.other (omega arith);
-            whole = λ t. ap (λ (h : List E). h ++ e ∷ []) all;
-            lives = mine.lives;
-            keeps_made = mine.keeps_made;
-          })
-          (λ j u ne d. let fit = kept.each j u d in let free = alone j u ne d in
+            (record {
+              turn = mine.turn;
+              own = record { later = []; begins = ap (λ (h : List E). h ++ e ∷ []) (sym all) ∙ sym (append-nil (v.seen ++ e ∷ [])); others = strange_none number_of v.numbers };
+              other = goes_further v.other_numbers v.other_seen kept.history e mine.other (omega arith);
+              whole = λ t. ap (λ (h : List E). h ++ e ∷ []) all;
+              lives = mine.lives;
+              keeps_made = mine.keeps_made;
+            })
+            (λ j u ne d. let fit = kept.each j u d in let free = alone j u ne d in
             record {
               turn = fit.turn;
               own = goes_further u.numbers u.seen kept.history e fit.own (omega arith);
@@ -212,17 +212,17 @@ module _ {T E : Type 0} (entries_of : T → List E) (number_of : E → ℕ) wher
       → length me.0.seen + 1 < 18446744073709551616 → Allows K slots id me 2 (λ n. (n + 1) % 2 ^ 64) (entered added (step slots 2 1 0 none) me)
   enters slots id me own joined e added turn is mark one room = allows entries_of number_of slots id me 2 (λ n. (n + 1) % 2 ^ 64) (entered added (step slots 2 1 0 none) me)
       (λ s kept at.
-        let all : me.0.seen ≡ kept.history = (kept.each id me.0 at).whole turn in
-        let long : length me.0.seen ≡ length kept.history = ap length all in
-        let fits : length kept.history + 1 < 2 ^ 64 = omega (arith, long, room) in
-        let sum : (length kept.history + 1) % 2 ^ 64 ≡ length kept.history + 1 = mod-eq_of_lt fits in (
-          more_seen added me.0,
-          keeps,
-          tt,
-          subst (λ (z : ℕ × List E). K record { words = kept.ticket ∷ kept.serving ∷ z.0 ∷ []; homes = s.homes; views = set s.views id (more_seen z.1 me.0) }) (λ i. (sym sum i, sym one i))
+      let all : me.0.seen ≡ kept.history = (kept.each id me.0 at).whole turn in
+      let long : length me.0.seen ≡ length kept.history = ap length all in
+      let fits : length kept.history + 1 < 2 ^ 64 = omega (arith, long, room) in
+      let sum : (length kept.history + 1) % 2 ^ 64 ≡ length kept.history + 1 = mod-eq_of_lt fits in (
+        more_seen added me.0,
+        keeps,
+        tt,
+        subst (λ (z : ℕ × List E). K record { words = kept.ticket ∷ kept.serving ∷ z.0 ∷ []; homes = s.homes; views = set s.views id (more_seen z.1 me.0) }) (λ i. (sym sum i, sym one i))
             (entered_kept s kept id me.0 own joined e at turn is mark),
-          refl,
-        ))
+        refl,
+      ))
 
   passed_kept : (s : State (Option T) (View E)) (kept : K s) (id : ℕ) (v : View E) (x : T) → get_elem? s.views id ≡ some v → has_turn v.stage ≡ true → entries_of x ≡ v.seen
       → K record { words = kept.ticket ∷ (kept.serving + 1) ∷ length kept.history ∷ []; homes = some (Some x) ∷ []; views = set s.views id (at_stage Idle v) }
@@ -248,8 +248,8 @@ module _ {T E : Type 0} (entries_of : T → List E) (number_of : E → ℕ) wher
         numbers_below = λ n h. let t = sum-set (times_in {E = E} n) s.views id v w at in kept.numbers_below n (omega arith);
         entries_below = kept.entries_below;
         each = each_set (Fits number_of kept.ticket (kept.serving + 1) kept.made kept.history) s.views id w
-          (record { turn = tt; own = mine.own; other = mine.other; whole = λ t. absurd (cc t); lives = λ t. absurd (cc t); keeps_made = mine.keeps_made })
-          (λ j u ne d. let fit = kept.each j u d in
+            (record { turn = tt; own = mine.own; other = mine.other; whole = λ t. absurd (cc t); lives = λ t. absurd (cc t); keeps_made = mine.keeps_made })
+            (λ j u ne d. let fit = kept.each j u d in
             record {
               turn = in_next_turn kept.ticket kept.serving u.stage fit.turn (sum-alone (holds {E = E} kept.serving) s.views id j v u at (omega (arith, hand.held)) one d ne);
               own = fit.own;
@@ -266,16 +266,16 @@ module _ {T E : Type 0} (entries_of : T → List E) (number_of : E → ℕ) wher
       → Allows K slots id me 1 (λ n. (n + 1) % 2 ^ 64) (passed (step slots 1 1 0 none) me)
   passes slots id me x turn carried same = allows entries_of number_of slots id me 1 (λ n. (n + 1) % 2 ^ 64) (passed (step slots 1 1 0 none) me)
       (λ s kept at.
-        let mine = kept.each id me.0 at in
-        let hand = in_hand kept.ticket kept.serving me.0.stage mine.turn turn in
-        let fits : kept.serving + 1 < 2 ^ 64 = omega (arith, hand.within, kept.fits) in
-        let sum : (kept.serving + 1) % 2 ^ 64 ≡ kept.serving + 1 = mod-eq_of_lt fits in
-        let out = out_turn s kept id me.0 at turn in
-        let home : homes_after s.homes me.1 gives ≡ some (Some x) ∷ [] = λ i. homes_after (out.slot i) (carried i) gives in (
-          at_stage Idle me.0,
-          gives,
-          tt,
-          subst (λ (z : ℕ × List (maybe.Option (Option T))). K record { words = kept.ticket ∷ z.0 ∷ length kept.history ∷ []; homes = z.1; views = set s.views id (at_stage Idle me.0) }) (λ i. (sym sum i, sym home i))
+      let mine = kept.each id me.0 at in
+      let hand = in_hand kept.ticket kept.serving me.0.stage mine.turn turn in
+      let fits : kept.serving + 1 < 2 ^ 64 = omega (arith, hand.within, kept.fits) in
+      let sum : (kept.serving + 1) % 2 ^ 64 ≡ kept.serving + 1 = mod-eq_of_lt fits in
+      let out = out_turn s kept id me.0 at turn in
+      let home : homes_after s.homes me.1 gives ≡ some (Some x) ∷ [] = λ i. homes_after (out.slot i) (carried i) gives in (
+        at_stage Idle me.0,
+        gives,
+        tt,
+        subst (λ (z : ℕ × List (maybe.Option (Option T))). K record { words = kept.ticket ∷ z.0 ∷ length kept.history ∷ []; homes = z.1; views = set s.views id (at_stage Idle me.0) }) (λ i. (sym sum i, sym home i))
             (passed_kept s kept id me.0 x at turn same),
-          refl,
-        ))
+        refl,
+      ))

@@ -1,5 +1,5 @@
-//! A lock whose holders take turns in the order in which they drew tickets. What lies under it has entries, and each pass knows
-//! which of them it has seen.
+//! A lock whose passes take turns in the order in which they drew tickets. The value under it has entries, each with the number of
+//! the pass that made it, and each pass knows which of them it has seen.
 #![tactic(auto)]
 
 mod pass;
@@ -7,7 +7,10 @@ mod plays;
 mod rule;
 mod steps;
 mod story;
+mod turns;
 mod view;
+mod waits;
 
 pub use pass::Pass;
 pub use story::Story;
+pub use turns::{NewFault, Turns};

@@ -1,13 +1,15 @@
 //! The steps on the lock's table, one function each.
-ghost use Rattle.std.specs.Prelude.{◌≡◌, ◌≢◌, ℕ, ◌+◌, ◌<◌, ◌^◌, List, [], ◌∷◌, ◌++◌, true, length, None, Some, MatchBool};
+ghost use Rattle.std.specs.Prelude.{◌≡◌, ◌≢◌, ℕ, ◌+◌, ◌<◌, ◌^◌, List, [], ◌∷◌, ◌++◌, ◌⊎◌, true, length, None, Some, MatchBool};
 ghost use Rattle.turn_meaning.specs.Numbers.{are_of_others};
+ghost use Rattle.turn_meaning.specs.Passes.{HasOneMore};
 ghost use Rattle.turn_lock.specs.declared.view.Stage.TheVariants.{Idle, Drawn, Found};
-ghost use Rattle.turn_lock.specs.Views.{at_stage, has_turn, with_one_more, split_view, with_other};
+ghost use Rattle.turn_lock.specs.Views.{at_stage, has_turn, joined_in, with_one_more, split_view, with_other};
 ghost use Rattle.turn_lock.specs.Steps.{IsTable, IsFound, IsAlone, Notes, Merges};
 
 use crate::plays::{Adding, Beside, Draw, Enter, Look, Merge, Note, OneMore, PassOn, Tell};
 use crate::rule::{Place, Top};
 use crate::story::Story;
+use std::marker::Brand;
 
 const TICKET: usize = 0;
 
@@ -69,8 +71,8 @@ pub fn take_out<T: Story>(top: &Top<T>, place: &mut Place<T>) -> T
     top.exchange(place, SLOT, None).unwrap()
 }
 
-/// Adds the entry of the pass's own number to the history.
-pub fn enter<T: Story, N: Adding<T::Entry>>(top: &Top<T>, place: &mut Place<T>)
+/// Adds the entry of the pass's own number to the history. The value, which has it, is for the proof alone.
+fn enter<T: Story, N: Adding<T::Entry>>(top: &Top<T>, place: &mut Place<T>, value: &T)
     requires table { IsTable top.now.table_id place.old.table_id }
     requires turn { has_turn place.old.me.0.stage ≡ true }
     requires entry { (own : ℕ) × (joined : List ℕ) × (e : T.Entry) × (place.old.me.0.numbers ≡ own ∷ joined) × (T.number e ≡ own) × (N.added ≡ e ∷ []) }
@@ -78,7 +80,32 @@ pub fn enter<T: Story, N: Adding<T::Entry>>(top: &Top<T>, place: &mut Place<T>)
     ensures table { place.new.table_id ≡ place.old.table_id }
     ensures entered { place.new.me ≡ (record place.old.me.0 { seen = place.old.me.0.seen ++ N.added }, place.old.me.1) }
 {
+    let _ = value;
     top.fetch_add::<Enter<N>>(place, COUNT, 1);
+}
+
+/// Enters what the value has beyond the entries seen, of which there are so many, and answers how many the value has.
+pub fn enter_new<T: Story>(
+    top: &Top<T>,
+    place: &mut Place<T>,
+    value: &T,
+    number: u32,
+    seen: u64,
+) -> u64
+    requires table { IsTable top.now.table_id place.old.table_id }
+    requires turn { has_turn place.old.me.0.stage ≡ true }
+    requires named { place.old.me.0.numbers ≡ number ∷ joined_in place.old.me.0.numbers }
+    requires seen { seen ≡ length place.old.me.0.seen }
+    requires entries { (T.entries value.now ≡ place.old.me.0.seen) ⊎ HasOneMore T.number number place.old.me.0.seen (T.entries value.now) }
+    ensures table { place.new.table_id ≡ place.old.table_id }
+    ensures entered { place.new.me ≡ (record place.old.me.0 { seen = T.entries value.now }, place.old.me.1) }
+    ensures count { result ≡ length (T.entries value.now) }
+{
+    let count = value.count();
+    if count != seen {
+        enter::<T, Brand>(top, place, value);
+    }
+    count
 }
 
 /// Puts the value into the slot in the hand.

@@ -51,39 +51,40 @@ module _ {Lock Entry : Type 0} where
   HasJoinedAll pass = (number : ℕ) → number < pass.made → number ≢ pass.number → Contains pass.joined number
 
 module _ {Entry : Type 0} (number_of : Entry → ℕ) where
-  -- these entries begin with those that the pass had seen, and every later one carries another number
-  pub record GoesOn {Lock : Type 0} (pass : Pass Lock Entry) (entries : List Entry) : Type 0 where
+  -- these entries begin with those that the pass of this number had seen, and every later one carries another number
+  pub record GoesOn (number : ℕ) (seen entries : List Entry) : Type 0 where
     pub later : List Entry
-    pub begins : entries ≡ pass.seen ++ later
-    pub others : are_of_others number_of pass.number later ≡ true
+    pub begins : entries ≡ seen ++ later
+    pub others : are_of_others number_of number later ≡ true
 
-  -- A turn begins with a value of these entries: they begin with all that the pass had seen, every later one carrying another
-  -- number. Where pass 0 takes, every number is below the number of passes made. The pass has then seen them all.
-  pub record Takes {Lock : Type 0} (before : Pass Lock Entry) (entries : List Entry) (after : Pass Lock Entry) : Type 0 where
-    pub goes_on : GoesOn before entries
-    pub below : before.number ≡ 0 → are_below number_of before.made entries ≡ true
-    pub sees : after ≡ in_turn before entries
-
-  -- the value that is given back has one entry more, with the number of the pass
-  pub record HasOneMore {Lock : Type 0} (pass : Pass Lock Entry) (entries : List Entry) : Type 0 where
+  -- these entries are those seen and one more, which carries this number
+  pub record HasOneMore (number : ℕ) (seen entries : List Entry) : Type 0 where
     pub entry : Entry
-    pub own : number_of entry ≡ pass.number
-    pub last : entries ≡ pass.seen ++ entry ∷ []
+    pub own : number_of entry ≡ number
+    pub last : entries ≡ seen ++ entry ∷ []
 
-  -- a value may be given back with the entries that it had, or with one more of the pass's own number
-  abbrev pub MayGive : {Lock : Type 0} → Pass Lock Entry → List Entry → Type 0
-  MayGive pass entries = (entries ≡ pass.seen) ⊎ HasOneMore pass entries
+  module _ {Lock : Type 0} where
+    -- A turn begins with a value of these entries: they begin with all that the pass had seen, every later one carrying another
+    -- number. Where pass 0 takes, every number is below the number of passes made. The pass has then seen them all.
+    pub record Takes (before : Pass Lock Entry) (entries : List Entry) (after : Pass Lock Entry) : Type 0 where
+      pub goes_on : GoesOn before.number before.seen entries
+      pub below : before.number ≡ 0 → are_below number_of before.made entries ≡ true
+      pub sees : after ≡ in_turn before entries
 
-  -- pass 0 splits: there is one pass more, whose number no entry carries that it has seen
-  pub record Splits {Lock : Type 0} (before after made : Pass Lock Entry) : Type 0 where
-    pub first : after ≡ with_one_more before
-    pub next : made ≡ split_from before
-    pub unused : are_of_others number_of made.number made.seen ≡ true
+    -- a value may be given back with the entries that it had, or with one more of the pass's own number
+    abbrev pub MayGive : Pass Lock Entry → List Entry → Type 0
+    MayGive pass entries = (entries ≡ pass.seen) ⊎ HasOneMore pass.number pass.seen entries
 
-  -- A pass takes in another: it has then seen the longer of both lists, which begins with the shorter, and no entry of it that
-  -- one of the two had not seen carries that one's number. The other is joined into it, with all that were joined into that.
-  pub record Joins {Lock : Type 0} (before other after : Pass Lock Entry) : Type 0 where
-    pub longer : (after.seen ≡ before.seen) ⊎ (after.seen ≡ other.seen)
-    pub goes_on : GoesOn before after.seen
-    pub other_goes_on : GoesOn other after.seen
-    pub joins : after ≡ record before { seen = after.seen; joined = before.joined ++ other.number ∷ other.joined }
+    -- pass 0 splits: there is one pass more, whose number no entry carries that it has seen
+    pub record Splits (before after made : Pass Lock Entry) : Type 0 where
+      pub first : after ≡ with_one_more before
+      pub next : made ≡ split_from before
+      pub unused : are_of_others number_of made.number made.seen ≡ true
+
+    -- A pass takes in another: it has then seen the longer of both lists, which begins with the shorter, and no entry of it that
+    -- one of the two had not seen carries that one's number. The other is joined into it, with all that were joined into that.
+    pub record Joins (before other after : Pass Lock Entry) : Type 0 where
+      pub longer : (after.seen ≡ before.seen) ⊎ (after.seen ≡ other.seen)
+      pub goes_on : GoesOn before.number before.seen after.seen
+      pub other_goes_on : GoesOn other.number other.seen after.seen
+      pub joins : after ≡ record before { seen = after.seen; joined = before.joined ++ other.number ∷ other.joined }
