@@ -1,6 +1,7 @@
 -- Where every pass is joined into pass 0, the value is home with what pass 0 has seen.
 use Rattle.std.proofs.Common.{◌≡◌, ◌≢◌, ℕ, zero, suc, ◌+◌, ◌<◌, ◌≤◌, Bool, true, false, List, [], ◌∷◌, ◌++◌, length, get_or, refl, sym, ap, ◌∙◌, subst, arith, inl, inr, ◌⊎◌, ⊎_elim, Option, Some}
-use Rattle.std.specs.Prelude.{nat_eq, Contains}
+use Rattle.std.specs.Prelude.{nat_eq, nat_lt}
+use Rattle.std.proofs.lemmas.Bool.Decides.{nat_tests}
 use Rattle.std.specs.List.{count_by, sum_by}
 use Rattle.std.proofs.lemmas.List.Sums.{sum_by-cons}
 use mathlib.Core.Option as maybe
@@ -24,10 +25,45 @@ use Rattle.turn_lock.proofs.Keeping.{Kept, one_if, acts, one_there}
 count_first : (number other : ℕ) (ns : List ℕ) → number ≡ other → 0 < count_by (nat_eq number) (other ∷ ns)
 count_first number other ns e = let t = one_there number other e in omega (arith, sum_by-cons (λ (m : ℕ). one_if (nat_eq number m)) other ns)
 
-count_there : (number : ℕ) (ns : List ℕ) (k : ℕ) → k < length ns → get_or ns k number ≡ number → 0 < count_by (nat_eq number) ns
-count_there number [] k lt e = absurd (omega arith)
-count_there number (n ∷ ns) zero lt e = count_first number n ns (sym e)
-count_there number (n ∷ ns) (suc k) lt e = let t = count_there number ns k (omega arith) e in omega (arith, sum_by-cons (λ (m : ℕ). one_if (nat_eq number m)) n ns)
+-- how many numbers of a list are below this one
+abbrev tally : ℕ → List ℕ → ℕ
+tally zero ns = 0
+tally (suc m) ns = count_by (nat_eq m) ns + tally m ns
+
+below_or_here : (m n : ℕ) → one_if (nat_lt n (suc m)) ≡ one_if (nat_eq m n) + one_if (nat_lt n m)
+below_or_here m n = grind (arith, nat_tests)
+
+tally_none : (m : ℕ) → tally m [] ≡ 0
+tally_none zero = refl
+tally_none (suc m) = let t = tally_none m in omega arith
+
+none_below : (n : ℕ) → one_if (nat_lt n 0) ≡ 0
+none_below n = grind (arith, nat_tests)
+
+tally_first : (m n : ℕ) (ns : List ℕ) → tally m (n ∷ ns) ≡ one_if (nat_lt n m) + tally m ns
+tally_first zero n ns = let t = none_below n in omega arith
+tally_first (suc m) n ns = let t = tally_first m n ns in let b = below_or_here m n in omega (arith, sum_by-cons (λ (k : ℕ). one_if (nat_eq m k)) n ns)
+
+is_below : (n m : ℕ) → n < m → one_if (nat_lt n m) ≡ 1
+is_below n m lt = grind (arith, nat_tests)
+
+tally_all : (m : ℕ) (ns : List ℕ) → ((n : ℕ) → 0 < count_by (nat_eq n) ns → n < m) → tally m ns ≡ length ns
+tally_all m [] h = tally_none m
+tally_all m (n ∷ ns) h =
+    let rest = tally_all m ns (λ k some_there. h k (omega (arith, sum_by-cons (λ (j : ℕ). one_if (nat_eq k j)) n ns))) in
+    let here = is_below n m (h n (count_first n n ns refl)) in
+    omega (arith, tally_first m n ns)
+
+tally_most : (m : ℕ) (ns : List ℕ) → ((n : ℕ) → count_by (nat_eq n) ns ≤ 1) → tally m ns ≤ m
+tally_most zero ns h = omega arith
+tally_most (suc m) ns h = let t = tally_most m ns h in let u = h m in omega arith
+
+-- where as many numbers stand below m as there are, and none twice, each does
+tally_each : (m : ℕ) (ns : List ℕ) → ((n : ℕ) → count_by (nat_eq n) ns ≤ 1) → tally m ns ≡ m → (n : ℕ) → n < m → 0 < count_by (nat_eq n) ns
+tally_each zero ns h full n lt = absurd (omega arith)
+tally_each (suc m) ns h full n lt =
+    let t = tally_most m ns h in let u = h m in
+    dite (ℕ_discrete n m) (λ e. subst (λ (k : ℕ). 0 < count_by (nat_eq k) ns) (sym e) (omega arith)) (λ ne. tally_each m ns h (omega arith) n (omega arith))
 
 -- a list that is not empty has a number
 some_number : (ns : List ℕ) → 0 < length ns → (n : ℕ) × (0 < count_by (nat_eq n) ns)
@@ -35,15 +71,18 @@ some_number [] lt = absurd (omega arith)
 some_number (n ∷ ns) lt = (n, count_first n n ns refl)
 
 module _ {T E : Type 0} (entries_of : T → List E) (number_of : E → ℕ) (s : State (Option T) (View E)) (kept : Kept entries_of number_of s) (id : ℕ) (v : View E) (joined : List ℕ) (at : get_elem? s.views id ≡ some v)
-    (is : v.numbers ≡ 0 ∷ joined) (mine : IsAlone v) (all : (number : ℕ) → number < v.made → number ≢ 0 → Contains joined number) where
+    (is : v.numbers ≡ 0 ∷ joined) (mine : IsAlone v) (all : v.made ≡ length joined + 1) where
   made_is : v.made ≡ kept.made
   made_is = (kept.each id v at).keeps_made joined is
 
   -- every number that was given is among those of pass 0
   counted : (number : ℕ) → number < kept.made → 0 < times_in number v
-  counted number lt = let listed : 0 < count_by (nat_eq number) v.numbers = subst (λ (ns : List ℕ). 0 < count_by (nat_eq number) ns) (sym is)
-      (dite (ℕ_discrete number 0) (λ e. count_first number 0 joined e)
-      (λ ne. let c = all number (omega (arith, made_is, lt)) ne in let t = count_there number joined c.0 c.1 c.2 in omega (arith, sum_by-cons (λ (m : ℕ). one_if (nat_eq number m)) 0 joined))) in omega arith
+  counted number lt =
+      let once : (n : ℕ) → count_by (nat_eq n) v.numbers ≤ 1 = λ n. let t = sum-at (times_in {E = E} n) s.views id v at in let u = kept.numbers_differ n in omega arith in
+      let below : (n : ℕ) → 0 < count_by (nat_eq n) v.numbers → n < kept.made = λ n h. let t = sum-at (times_in {E = E} n) s.views id v at in kept.numbers_below n (omega arith) in
+      let many : length v.numbers ≡ kept.made = omega (arith, ap length is, made_is, all) in
+      let listed = tally_each kept.made v.numbers once (tally_all kept.made v.numbers below ∙ many) number lt in
+      omega arith
 
   -- so no other view has a number
   no_number : (j : ℕ) (u : View E) (number : ℕ) → j ≢ id → get_elem? s.views j ≡ some u → ¬ (0 < times_in number u)
@@ -108,6 +147,6 @@ ended {T} entries_of number_of number made count place pass at is idle first all
     let resting : place.me.0.stage ≡ Idle = settled_idle place.me.0.stage place.me.1 at.settled (ap (λ p. p.has_turn) is ∙ idle) in
     let found = ends entries_of number_of last.0 last.1.0 place.id place.me.0 joined last.1.1 (at.numbers ∙ ap (λ (n : ℕ). n ∷ joined) own)
           (record { idle = resting; no_numbers = at.no_other_numbers; no_seen = at.no_other_seen })
-          (λ n lt ne. each n (omega (arith, at.made_is own, lt)) (λ e. ne (e ∙ own))) in
+          (at.made_is own ∙ each) in
     let full : get_elem? slots 0 ≡ some (Some found.0) = last.4 0 (Some found.0) (ap (λ (homes : List (maybe.Option (Option T))). get_elem? homes 0) found.1) in
     record { value = found.0; full = some-injective slot (Some found.0) (sym there ∙ full); entries = found.2 ∙ ap (λ p. p.seen) is }

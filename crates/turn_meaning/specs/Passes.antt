@@ -1,7 +1,7 @@
 -- What is seen of a pass, and what the calls of a lock do to it.
 -- A value is under a lock and has entries, each with the number of the pass that made it. Passes of the lock take turns with the
 -- value, and a pass has seen the entries that the value had when it last had a turn.
-use Rattle.std.specs.Prelude.{◌≡◌, ◌≢◌, ◌⊎◌, ℕ, ◌+◌, ◌<◌, Bool, true, false, List, [], ◌∷◌, ◌++◌, Contains}
+use Rattle.std.specs.Prelude.{◌≡◌, ◌⊎◌, ℕ, ◌+◌, Bool, true, false, List, [], ◌∷◌, ◌++◌, length}
 use Rattle.turn_meaning.specs.Numbers.{are_of_others, are_below}
 
 -- What is seen of a pass: the lock that it is of, its number, how many passes were made, itself counted, if it is pass 0 (else
@@ -46,9 +46,9 @@ module _ {Lock Entry : Type 0} where
   abbrev pub split_from : Pass Lock Entry → Pass Lock Entry
   split_from first = record { lock = first.lock; number = first.made; made = 0; has_turn = false; seen = first.seen; joined = [] }
 
-  -- every pass that was made beside this one is joined into it
+  -- as many passes are joined into this one as were made beside it: that is every other pass, since their numbers differ
   abbrev pub HasJoinedAll : Pass Lock Entry → Type 0
-  HasJoinedAll pass = (number : ℕ) → number < pass.made → number ≢ pass.number → Contains pass.joined number
+  HasJoinedAll pass = pass.made ≡ length pass.joined + 1
 
 module _ {Entry : Type 0} (number_of : Entry → ℕ) where
   -- these entries begin with those that the pass of this number had seen, and every later one carries another number
