@@ -3,6 +3,5 @@
 
 mod marks;
 mod runs;
-
 #[cfg(test)]
 mod tests;
