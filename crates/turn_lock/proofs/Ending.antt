@@ -1,5 +1,5 @@
 -- Where every pass is joined into pass 0, the value is home with what pass 0 has seen.
-use Rattle.std.proofs.Common.{◌≡◌, ◌≢◌, ℕ, zero, suc, ◌+◌, ◌<◌, ◌≤◌, Bool, true, false, List, [], ◌∷◌, ◌++◌, length, get_or, refl, sym, ap, ◌∙◌, subst, arith, inl, inr, ◌⊎◌, ⊎_elim, Option, Some}
+use Rattle.std.proofs.Common.{◌≡◌, ◌≢◌, ℕ, zero, suc, ◌+◌, ◌<◌, ◌≤◌, Bool, true, false, List, [], ◌∷◌, length, refl, sym, ap, ◌∙◌, subst, arith, ⊎_elim, Option, Some}
 use Rattle.std.specs.Prelude.{nat_eq, nat_lt}
 use Rattle.std.proofs.lemmas.Bool.Decides.{nat_tests}
 use Rattle.std.specs.List.{count_by, sum_by}
@@ -17,7 +17,7 @@ use Rattle.atomic_table.specs.declared.shared.Seat.{Seat}
 use Rattle.turn_meaning.specs.Passes.{Pass, HasJoinedAll}
 use Rattle.atomic_table.specs.Seated.{TableId}
 use Rattle.turn_lock.specs.Views.{has_turn, joined_in, read_pass, IsSettled, IsPassAt}
-use Rattle.turn_lock.specs.Rule.{times_in, Fits, HasSeenAll, IsHome, IsOut, IsKept}
+use Rattle.turn_lock.specs.Rule.{times_in, HasSeenAll, IsHome, IsOut}
 use Rattle.turn_lock.proofs.Counts.{sum-at, sum-two, sum-zero}
 use Rattle.turn_lock.specs.Steps.{IsAlone}
 use Rattle.turn_lock.proofs.Keeping.{Kept, one_if, acts, one_there}
@@ -146,7 +146,7 @@ ended {T} entries_of number_of number made count place pass at is idle first all
     let each : HasJoinedAll (read_pass number made place) = subst HasJoinedAll (sym is) all in
     let resting : place.me.0.stage ≡ Idle = settled_idle place.me.0.stage place.me.1 at.settled (ap (λ p. p.has_turn) is ∙ idle) in
     let found = ends entries_of number_of last.0 last.1.0 place.id place.me.0 joined last.1.1 (at.numbers ∙ ap (λ (n : ℕ). n ∷ joined) own)
-          (record { idle = resting; no_numbers = at.no_other_numbers; no_seen = at.no_other_seen })
-          (at.made_is own ∙ each) in
+    (record { idle = resting; no_numbers = at.no_other_numbers; no_seen = at.no_other_seen })
+    (at.made_is own ∙ each) in
     let full : get_elem? slots 0 ≡ some (Some found.0) = last.4 0 (Some found.0) (ap (λ (homes : List (maybe.Option (Option T))). get_elem? homes 0) found.1) in
     record { value = found.0; full = some-injective slot (Some found.0) (sym there ∙ full); entries = found.2 ∙ ap (λ p. p.seen) is }

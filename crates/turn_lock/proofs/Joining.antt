@@ -1,5 +1,5 @@
 -- Joining keeps the rule of the lock.
-use Rattle.std.proofs.Common.{◌≡◌, ◌≢◌, ℕ, zero, suc, ◌+◌, ◌<◌, ◌≤◌, Bool, true, false, List, [], ◌∷◌, ◌++◌, length, set, refl, sym, ap, ◌∙◌, subst, arith, inl, inr, ◌⊎◌, ⊎_elim, cond, Option, Some, length-append}
+use Rattle.std.proofs.Common.{◌≡◌, ◌≢◌, ℕ, ◌+◌, ◌<◌, ◌≤◌, Bool, true, false, List, [], ◌∷◌, ◌++◌, length, set, refl, sym, ap, ◌∙◌, subst, arith, inl, inr, ⊎_elim, cond, Option, length-append}
 use Rattle.std.specs.Prelude.{nat_eq, nat_lt}
 use Rattle.std.specs.List.{count_by, sum_by}
 use Rattle.std.proofs.lemmas.List.Sums.{sum_by-append}
@@ -14,8 +14,8 @@ use Rattle.turn_lock.specs.declared.view.View.{View}
 use Rattle.turn_lock.specs.declared.view.Stage.{Stage}
 use Rattle.turn_lock.specs.declared.view.Stage.TheVariants.{Idle}
 use Rattle.turn_lock.specs.Views.{has_ticket, holds_ticket, has_turn, with_other, spent_view, longer, joined_view}
-use Rattle.turn_lock.specs.Rule.{InTurn, times_in, Begins, Fits, HasSeenAll, IsSeen, IsHome, IsOut, IsKept}
-use Rattle.turn_lock.specs.Steps.{Place, IsAlone, Merges, merged}
+use Rattle.turn_lock.specs.Rule.{times_in, Begins, Fits, HasSeenAll, IsSeen, IsHome, IsOut}
+use Rattle.turn_lock.specs.Steps.{Place, IsAlone, merged}
 use Rattle.turn_lock.proofs.Beginnings.{further, longer-first, longer-second}
 use Rattle.turn_lock.proofs.Counts.{set_at, each_set, sum-set}
 use Rattle.turn_lock.proofs.Entries.{strange_append, strange_before, strange_behind, AreStrange}

@@ -1,7 +1,7 @@
 -- The steps on the ticket and on the turn keep the rule of the lock.
-use Rattle.std.proofs.Common.{◌≡◌, ◌≢◌, ◌==◌, ℕ, zero, suc, ◌+◌, ◌%◌, ◌^◌, ◌<◌, ◌≤◌, Bool, true, false, List, [], ◌∷◌, ◌++◌, length, set, get_or, eqb, refl, sym, ap, ◌∙◌, subst, arith, inl, inr, ◌⊎◌, ⊎_elim, cond, Option, Some, eq-eqb, ne_eqb}
+use Rattle.std.proofs.Common.{◌≡◌, ◌≢◌, ◌==◌, ℕ, ◌+◌, ◌<◌, ◌≤◌, Bool, List, [], ◌∷◌, length, set, get_or, refl, sym, ap, ◌∙◌, subst, arith, inl, inr, ⊎_elim, cond, Option, eq-eqb, ne_eqb}
 use Rattle.std.specs.Prelude.{nat_eq}
-use Rattle.std.specs.List.{count_by, sum_by}
+use Rattle.std.specs.List.{sum_by}
 use Rattle.std.proofs.lemmas.Bool.Decides.{nat_tests}
 use mathlib.Core.Option as maybe
 use mathlib.Core.Option.{some, none, some-injective}
@@ -9,14 +9,14 @@ use mathlib.Core.Logic.{dite}
 use native.Mathlib.Decide.{ℕ_discrete}
 use lib.ListN.{get_elem?}
 use prog.Atomic.{either}
-use Rattle.atomic_table.specs.Table.{State, Me, step, Act, keeps, takes, gives, Valid, stepped, carried_after, homes_after, Allows}
+use Rattle.atomic_table.specs.Table.{State, Me, step, Act, keeps, Valid, carried_after, homes_after, Allows}
 use Rattle.turn_lock.specs.declared.view.View.{View}
 use Rattle.turn_lock.specs.declared.view.Stage.{Stage}
 use Rattle.turn_lock.specs.declared.view.Stage.TheVariants.{Idle, Drawn, Found, Noted}
 use Rattle.turn_lock.specs.Views.{has_ticket, holds_ticket, has_turn, at_stage}
-use Rattle.turn_lock.specs.Rule.{InTurn, times_in, Begins, Fits, HasSeenAll, IsSeen, IsHome, IsOut, IsKept}
+use Rattle.turn_lock.specs.Rule.{InTurn, times_in, Fits, HasSeenAll, IsSeen, IsHome, IsOut, IsKept}
 use Rattle.turn_lock.specs.Steps.{Place, drew, looked}
-use Rattle.turn_lock.proofs.Counts.{set_at, each_set, sum-set, sum-zero, sum-at, sum-two}
+use Rattle.turn_lock.proofs.Counts.{set_at, each_set, sum-set, sum-zero}
 
 -- what a step owes, where the words are these
 abbrev pub Goes : {S V : Type 0} → (State S V → Type 0) → List ℕ → List (maybe.Option S) → List V → ℕ → Me S V → ℕ → (ℕ → ℕ) → (ℕ → Me S V → Type 0) → Type 0

@@ -1,25 +1,21 @@
 -- Splitting keeps the rule of the lock.
-use Rattle.std.proofs.Common.{◌≡◌, ◌≢◌, ℕ, zero, suc, ◌+◌, ◌<◌, ◌≤◌, Bool, true, false, List, [], ◌∷◌, ◌++◌, length, set, refl, sym, ap, ◌∙◌, subst, arith, inl, inr, ◌⊎◌, ⊎_elim, cond, Option, Some, length-append}
-use Rattle.std.specs.Prelude.{nat_eq, nat_lt}
+use Rattle.std.proofs.Common.{◌≡◌, ◌≢◌, ℕ, ◌+◌, ◌<◌, true, List, [], ◌∷◌, ◌++◌, set, refl, sym, ◌∙◌, subst, arith, inl, inr, ⊎_elim, Option}
+use Rattle.std.specs.Prelude.{nat_eq}
 use Rattle.std.specs.List.{count_by, sum_by}
-use Rattle.std.proofs.lemmas.List.Sums.{sum_by-cons, sum_by-append, sum_by_push}
-use Rattle.std.proofs.lemmas.Bool.Decides.{nat_tests}
-use mathlib.Core.Option.{some, none, some-injective}
+use Rattle.std.proofs.lemmas.List.Sums.{sum_by-cons, sum_by_push}
+use mathlib.Core.Option.{some, none}
 use mathlib.Core.Logic.{dite}
 use Rattle.std.proofs.Math.Decide.{dec_lt}
 use native.Mathlib.Decide.{ℕ_discrete}
 use lib.ListN.{get_elem?}
-use Rattle.atomic_table.specs.Table.{State, step, keeps, Allows, Splits, Joins}
-use Rattle.atomic_table.proofs.Lists.{set_else, at_snoc, at_longer}
+use Rattle.atomic_table.specs.Table.{State, step, keeps, Allows, Splits}
+use Rattle.atomic_table.proofs.Lists.{at_snoc, at_longer}
 use Rattle.turn_meaning.specs.Numbers.{are_of_others, are_below}
 use Rattle.turn_lock.specs.declared.view.View.{View}
-use Rattle.turn_lock.specs.declared.view.Stage.{Stage}
-use Rattle.turn_lock.specs.declared.view.Stage.TheVariants.{Idle}
-use Rattle.turn_lock.specs.Views.{has_ticket, holds_ticket, has_turn, with_one_more, split_view, with_other, spent_view, longer, joined_view}
-use Rattle.turn_lock.specs.Rule.{InTurn, times_in, Begins, Fits, HasSeenAll, IsSeen, IsHome, IsOut, IsKept}
-use Rattle.turn_lock.specs.Steps.{Place, told, Merges, merged}
-use Rattle.turn_lock.proofs.Beginnings.{Further, further, longer-first, longer-second}
-use Rattle.turn_lock.proofs.Counts.{set_at, each_set, sum-set, sum-at, sum-two, sum-alone}
+use Rattle.turn_lock.specs.Views.{with_one_more, split_view}
+use Rattle.turn_lock.specs.Rule.{times_in, Fits, IsHome, IsOut}
+use Rattle.turn_lock.specs.Steps.{Place, told}
+use Rattle.turn_lock.proofs.Counts.{each_set, sum-set, sum-at, sum-two}
 use Rattle.turn_lock.proofs.Entries.{below_before, below_behind, below_others, below_more, strange_append, strange_before, strange_behind, AreStrange}
 use Rattle.turn_lock.proofs.Keeping.{Kept, allows, one_if, waits, holds, acts, one_there, none_there, seen_set, stays}
 

@@ -1,27 +1,24 @@
 -- The steps within a turn keep the rule of the lock.
-use Rattle.std.proofs.Common.{◌≡◌, ◌≢◌, ◌==◌, ℕ, zero, suc, ◌+◌, ◌%◌, ◌^◌, ◌<◌, ◌≤◌, Bool, true, false, List, [], ◌∷◌, ◌++◌, length, set, get_or, refl, sym, ap, ◌∙◌, subst, arith, inl, inr, ◌⊎◌, ⊎_elim, cond, Option, Some, length-append, append_assoc}
+use Rattle.std.proofs.Common.{◌≡◌, ◌≢◌, ℕ, ◌+◌, ◌%◌, ◌^◌, ◌<◌, ◌≤◌, true, List, [], ◌∷◌, ◌++◌, length, set, refl, sym, ap, ◌∙◌, subst, arith, inl, inr, ⊎_elim, Option, Some, length-append, append_assoc}
 use Rattle.std.specs.Prelude.{nat_eq}
 use Rattle.std.specs.List.{count_by, sum_by}
 use Rattle.std.proofs.Math.Nat.{mod-eq_of_lt}
 use Rattle.std.proofs.lemmas.List.{append-nil}
 use Rattle.std.proofs.lemmas.List.Sums.{sum_by-cons}
-use Rattle.std.proofs.lemmas.Bool.Decides.{nat_tests}
 use mathlib.Core.Option as maybe
 use mathlib.Core.Option.{some, none, some-injective}
-use mathlib.Core.Logic.{dite}
-use native.Mathlib.Decide.{ℕ_discrete}
 use lib.ListN.{get_elem?}
-use Rattle.atomic_table.specs.Table.{State, Me, step, rest, Act, keeps, takes, gives, Valid, stepped, carried_after, homes_after, Allows}
-use Rattle.turn_meaning.specs.Numbers.{are_of_others, are_below}
+use Rattle.atomic_table.specs.Table.{State, step, keeps, takes, gives, homes_after, Allows}
+use Rattle.turn_meaning.specs.Numbers.{are_below}
 use Rattle.turn_lock.specs.declared.view.View.{View}
 use Rattle.turn_lock.specs.declared.view.Stage.{Stage}
 use Rattle.turn_lock.specs.declared.view.Stage.TheVariants.{Idle, Drawn, Found, Noted}
 use Rattle.turn_lock.specs.Views.{has_ticket, holds_ticket, has_turn, at_stage}
-use Rattle.turn_lock.specs.Rule.{InTurn, times_in, Begins, Fits, HasSeenAll, IsSeen, IsHome, IsOut, IsKept}
-use Rattle.turn_lock.specs.Steps.{Place, IsFound, Notes, noted, entered, passed}
-use Rattle.turn_lock.proofs.Counts.{set_at, each_set, sum-set, sum-zero, sum-at, sum-two, sum-alone, sum-le_but}
+use Rattle.turn_lock.specs.Rule.{InTurn, times_in, Begins, Fits, IsHome, IsOut}
+use Rattle.turn_lock.specs.Steps.{Place, IsFound, noted, entered, passed}
+use Rattle.turn_lock.proofs.Counts.{set_at, each_set, sum-set, sum-at, sum-alone, sum-le_but}
 use Rattle.turn_lock.proofs.Entries.{strange_none, strange_push, below_push}
-use Rattle.turn_lock.proofs.Keeping.{Goes, Kept, allows, one_if, waits, holds, acts, one_there, none_there, seen_set, stays}
+use Rattle.turn_lock.proofs.Keeping.{Kept, allows, one_if, waits, holds, acts, one_there, none_there, seen_set}
 
 -- who has made a note holds the ticket that has its turn
 acts_within : (ticket serving : ℕ) (stage : Stage) → InTurn ticket serving stage → one_if (has_turn stage) ≤ one_if (holds_ticket serving stage)

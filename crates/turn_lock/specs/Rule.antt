@@ -1,7 +1,7 @@
 -- The rule of the lock: what holds between any two steps on its table, of the words, the slot and all views.
 -- Word 0 is the ticket that is drawn next, word 1 the ticket that has its turn, and word 2 how many entries there are. The slot
 -- has the value, or nothing while it is in a hand.
-use Rattle.std.specs.Prelude.{◌≡◌, ◌⊎◌, ℕ, ◌+◌, ◌^◌, ◌<◌, ◌≤◌, Bool, true, List, [], ◌∷◌, ◌++◌, length, nat_eq, Option, Some}
+use Rattle.std.specs.Prelude.{◌≡◌, ◌⊎◌, ℕ, ◌+◌, ◌<◌, ◌≤◌, true, List, [], ◌∷◌, ◌++◌, length, nat_eq, Option, Some}
 use Rattle.std.specs.List.{list_all, count_by, sum_by}
 use mathlib.Core.Option as maybe
 use mathlib.Core.Option.{some, none}

@@ -1,4 +1,4 @@
-use Rattle.std.proofs.Common.{arith, ◌<◌}
+use Rattle.std.proofs.Common.{arith}
 use Rattle.turn_lock.proofs.Turning.{enters}
 use Rattle.turn_lock.proofs.steps.enter.Goals as goal
 

@@ -1,4 +1,4 @@
-use Rattle.std.proofs.Common.{arith, ◌<◌, ◌∙◌, ap}
+use Rattle.std.proofs.Common.{arith, ◌∙◌, ap}
 use Rattle.turn_lock.proofs.Joining.{joins, merges}
 use Rattle.turn_lock.proofs.steps.join_in.Goals as goal
 

@@ -1,4 +1,4 @@
-use Rattle.std.proofs.Common.{arith, ◌≡◌, ◌<◌}
+use Rattle.std.proofs.Common.{arith}
 use Rattle.turn_lock.proofs.Keeping.{looks}
 use Rattle.turn_lock.proofs.steps.look.Goals as goal
 

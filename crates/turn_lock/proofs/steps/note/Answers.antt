@@ -1,4 +1,4 @@
-use Rattle.std.proofs.Common.{arith, ◌<◌}
+use Rattle.std.proofs.Common.{arith}
 use Rattle.turn_lock.proofs.Turning.{notes}
 use Rattle.turn_lock.proofs.steps.note.Goals as goal
 

@@ -1,4 +1,4 @@
-use Rattle.std.proofs.Common.{arith, ◌<◌}
+use Rattle.std.proofs.Common.{arith}
 use Rattle.turn_lock.proofs.Turning.{passes}
 use Rattle.turn_lock.proofs.steps.pass_on.Goals as goal
 

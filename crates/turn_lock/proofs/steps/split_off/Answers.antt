@@ -1,4 +1,4 @@
-use Rattle.std.proofs.Common.{arith, ◌<◌, ◌∙◌, ap}
+use Rattle.std.proofs.Common.{arith, ◌∙◌, ap}
 use Rattle.turn_lock.proofs.Splitting.{tells, splits}
 use Rattle.turn_lock.proofs.steps.split_off.Goals as goal
 

@@ -1,4 +1,4 @@
-use Rattle.std.proofs.Common.{◌∙◌, ◌∷◌, sym, ap, [], Some}
+use Rattle.std.proofs.Common.{◌∙◌, ◌∷◌, sym, ap, Some}
 use Rattle.atomic_table.specs.Table.{rest}
 use Rattle.turn_lock.proofs.steps.take_out.Goals as goal
 
