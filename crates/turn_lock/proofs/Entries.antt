@@ -57,35 +57,35 @@ module _ {E : Type 0} (number_of : E → ℕ) where
   others_push number [] e h n = both _ _ n refl
   others_push number (x ∷ xs) e h n = both _ _ (left_of _ _ h) (others_push number xs e (right_of _ _ h) n)
 
-  absent : (number own rest : ℕ) → cond (nat_eq own number) 1 0 + rest ≡ 0 → not (nat_eq number own) ≡ true
-  absent number own rest h = grind (arith, nat_tests)
+  not_carried : (number own rest : ℕ) → cond (nat_eq own number) 1 0 + rest ≡ 0 → not (nat_eq number own) ≡ true
+  not_carried number own rest h = grind (arith, nat_tests)
 
-  absent_rest : (b : Bool) (rest : ℕ) → cond b 1 0 + rest ≡ 0 → rest ≡ 0
-  absent_rest true rest h = absurd (omega arith)
-  absent_rest false rest h = omega arith
+  none_carried : (b : Bool) (rest : ℕ) → cond b 1 0 + rest ≡ 0 → rest ≡ 0
+  none_carried true rest h = absurd (omega arith)
+  none_carried false rest h = omega arith
 
-  -- All of these numbers are none of the later entries', the first fact of each of them.
-  abbrev pub AreStrange : List E → List ℕ → Type 0
-  AreStrange later numbers = list_all (λ (number : ℕ). are_of_others number_of number later) numbers ≡ true
+  -- no later entry carries one of these numbers
+  abbrev pub AreAbsent : List E → List ℕ → Type 0
+  AreAbsent later numbers = list_all (λ (number : ℕ). are_of_others number_of number later) numbers ≡ true
 
-  pub strange_none : (numbers : List ℕ) → AreStrange [] numbers
-  strange_none [] = refl
-  strange_none (n ∷ ns) = strange_none ns
+  pub absent_none : (numbers : List ℕ) → AreAbsent [] numbers
+  absent_none [] = refl
+  absent_none (n ∷ ns) = absent_none ns
 
-  pub strange_push : (later : List E) (e : E) (numbers : List ℕ) → AreStrange later numbers → count_by (nat_eq (number_of e)) numbers ≡ 0 → AreStrange (later ++ e ∷ []) numbers
-  strange_push later e [] h none = refl
-  strange_push later e (n ∷ ns) h none =
+  pub absent_push : (later : List E) (e : E) (numbers : List ℕ) → AreAbsent later numbers → count_by (nat_eq (number_of e)) numbers ≡ 0 → AreAbsent (later ++ e ∷ []) numbers
+  absent_push later e [] h none = refl
+  absent_push later e (n ∷ ns) h none =
       let c : cond (nat_eq (number_of e) n) 1 0 + count_by (nat_eq (number_of e)) ns ≡ 0 = sym (sum_by-cons (λ (m : ℕ). cond (nat_eq (number_of e) m) 1 0) n ns) ∙ none in
-      both _ _ (others_push n later e (left_of _ _ h) (absent n (number_of e) (count_by (nat_eq (number_of e)) ns) c)) (strange_push later e ns (right_of _ _ h) (absent_rest (nat_eq (number_of e) n) _ c))
+      both _ _ (others_push n later e (left_of _ _ h) (not_carried n (number_of e) (count_by (nat_eq (number_of e)) ns) c)) (absent_push later e ns (right_of _ _ h) (none_carried (nat_eq (number_of e) n) _ c))
 
-  pub strange_behind : (xs ys : List E) (numbers : List ℕ) → AreStrange (xs ++ ys) numbers → AreStrange ys numbers
-  strange_behind xs ys [] h = refl
-  strange_behind xs ys (n ∷ ns) h = both _ _ (others_behind n xs ys (left_of _ _ h)) (strange_behind xs ys ns (right_of _ _ h))
+  pub absent_behind : (xs ys : List E) (numbers : List ℕ) → AreAbsent (xs ++ ys) numbers → AreAbsent ys numbers
+  absent_behind xs ys [] h = refl
+  absent_behind xs ys (n ∷ ns) h = both _ _ (others_behind n xs ys (left_of _ _ h)) (absent_behind xs ys ns (right_of _ _ h))
 
-  pub strange_before : (xs ys : List E) (numbers : List ℕ) → AreStrange (xs ++ ys) numbers → AreStrange xs numbers
-  strange_before xs ys [] h = refl
-  strange_before xs ys (n ∷ ns) h = both _ _ (others_before n xs ys (left_of _ _ h)) (strange_before xs ys ns (right_of _ _ h))
+  pub absent_before : (xs ys : List E) (numbers : List ℕ) → AreAbsent (xs ++ ys) numbers → AreAbsent xs numbers
+  absent_before xs ys [] h = refl
+  absent_before xs ys (n ∷ ns) h = both _ _ (others_before n xs ys (left_of _ _ h)) (absent_before xs ys ns (right_of _ _ h))
 
-  pub strange_append : (later : List E) (numbers more : List ℕ) → AreStrange later numbers → AreStrange later more → AreStrange later (numbers ++ more)
-  strange_append later [] more h k = k
-  strange_append later (n ∷ ns) more h k = both _ _ (left_of _ _ h) (strange_append later ns more (right_of _ _ h) k)
+  pub absent_append : (later : List E) (numbers more : List ℕ) → AreAbsent later numbers → AreAbsent later more → AreAbsent later (numbers ++ more)
+  absent_append later [] more h k = k
+  absent_append later (n ∷ ns) more h k = both _ _ (left_of _ _ h) (absent_append later ns more (right_of _ _ h) k)

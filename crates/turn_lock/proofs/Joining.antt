@@ -2,6 +2,7 @@
 use Rattle.std.proofs.Common.{◌≡◌, ◌≢◌, ℕ, ◌+◌, ◌<◌, ◌≤◌, Bool, true, false, List, [], ◌∷◌, ◌++◌, length, set, refl, sym, ap, ◌∙◌, subst, arith, inl, inr, ⊎_elim, cond, Option, length-append}
 use Rattle.std.specs.Prelude.{nat_eq, nat_lt}
 use Rattle.std.specs.List.{count_by, sum_by}
+use Rattle.std.proofs.lemmas.List.{append-nil}
 use Rattle.std.proofs.lemmas.List.Sums.{sum_by-append}
 use Rattle.std.proofs.lemmas.Bool.Decides.{nat_tests}
 use mathlib.Core.Option.{some, none, some-injective}
@@ -18,7 +19,7 @@ use Rattle.turn_lock.specs.Rule.{times_in, Begins, Fits, HasSeenAll, IsSeen, IsH
 use Rattle.turn_lock.specs.Steps.{Place, IsAlone, merged}
 use Rattle.turn_lock.proofs.Beginnings.{further, longer-first, longer-second}
 use Rattle.turn_lock.proofs.Counts.{set_at, each_set, sum-set}
-use Rattle.turn_lock.proofs.Entries.{strange_append, strange_before, strange_behind, AreStrange}
+use Rattle.turn_lock.proofs.Entries.{absent_none, absent_append, absent_before, absent_behind, AreAbsent}
 use Rattle.turn_lock.proofs.Keeping.{Kept, allows, one_if, waits, holds, acts, seen_set}
 
 module _ {T E : Type 0} (entries_of : T → List E) (number_of : E → ℕ) where
@@ -124,35 +125,35 @@ module _ {T E : Type 0} (entries_of : T → List E) (number_of : E → ℕ) wher
     own : Begins number_of (v.numbers ++ v.other_numbers) (longer v.seen v.other_seen) history
 
   self : (numbers : List ℕ) (xs ys : List E) → ys ≡ xs → Begins number_of numbers xs ys
-  self numbers xs ys e = record { later = []; begins = e ∙ sym (Rattle.std.proofs.lemmas.List.append-nil xs); others = Rattle.turn_lock.proofs.Entries.strange_none number_of numbers }
+  self numbers xs ys e = record { later = []; begins = e ∙ sym (append-nil xs); others = absent_none number_of numbers }
 
   merge_at : (v : View E) (history : List E) → Begins number_of v.numbers v.seen history → Begins number_of v.other_numbers v.other_seen history → (b : Bool) → nat_lt (length v.seen) (length v.other_seen) ≡ b → AreMerged v history
   merge_at v history own other true is =
       let le : length v.seen ≤ length v.other_seen = grind (arith, nat_tests) in
       let f = further v.seen v.other_seen own.later other.later (sym own.begins ∙ other.begins) le in
       let long : longer v.seen v.other_seen ≡ v.other_seen = ap (λ (b : Bool). cond b v.other_seen v.seen) is in
-      let split_own : AreStrange number_of (f.between ++ other.later) v.numbers = subst (λ (l : List E). AreStrange number_of l v.numbers) f.ends own.others in
+      let split_own : AreAbsent number_of (f.between ++ other.later) v.numbers = subst (λ (l : List E). AreAbsent number_of l v.numbers) f.ends own.others in
       record {
-        goes_on = record { later = f.between; begins = long ∙ f.begins; others = strange_before number_of f.between other.later v.numbers split_own };
+        goes_on = record { later = f.between; begins = long ∙ f.begins; others = absent_before number_of f.between other.later v.numbers split_own };
         other_goes_on = self v.other_numbers v.other_seen (longer v.seen v.other_seen) long;
         own = record {
           later = other.later;
           begins = other.begins ∙ ap (λ (l : List E). l ++ other.later) (sym long);
-          others = strange_append number_of other.later v.numbers v.other_numbers (strange_behind number_of f.between other.later v.numbers split_own) other.others;
+          others = absent_append number_of other.later v.numbers v.other_numbers (absent_behind number_of f.between other.later v.numbers split_own) other.others;
         };
       }
   merge_at v history own other false is =
       let le : length v.other_seen ≤ length v.seen = grind (arith, nat_tests) in
       let f = further v.other_seen v.seen other.later own.later (sym other.begins ∙ own.begins) le in
       let long : longer v.seen v.other_seen ≡ v.seen = ap (λ (b : Bool). cond b v.other_seen v.seen) is in
-      let split_other : AreStrange number_of (f.between ++ own.later) v.other_numbers = subst (λ (l : List E). AreStrange number_of l v.other_numbers) f.ends other.others in
+      let split_other : AreAbsent number_of (f.between ++ own.later) v.other_numbers = subst (λ (l : List E). AreAbsent number_of l v.other_numbers) f.ends other.others in
       record {
         goes_on = self v.numbers v.seen (longer v.seen v.other_seen) long;
-        other_goes_on = record { later = f.between; begins = long ∙ f.begins; others = strange_before number_of f.between own.later v.other_numbers split_other };
+        other_goes_on = record { later = f.between; begins = long ∙ f.begins; others = absent_before number_of f.between own.later v.other_numbers split_other };
         own = record {
           later = own.later;
           begins = own.begins ∙ ap (λ (l : List E). l ++ own.later) (sym long);
-          others = strange_append number_of own.later v.numbers v.other_numbers own.others (strange_behind number_of f.between own.later v.other_numbers split_other);
+          others = absent_append number_of own.later v.numbers v.other_numbers own.others (absent_behind number_of f.between own.later v.other_numbers split_other);
         };
       }
 

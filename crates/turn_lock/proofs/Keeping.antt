@@ -10,6 +10,7 @@ use native.Mathlib.Decide.{ℕ_discrete}
 use lib.ListN.{get_elem?}
 use prog.Atomic.{either}
 use Rattle.atomic_table.specs.Table.{State, Me, step, Act, keeps, Valid, carried_after, homes_after, Allows}
+use Rattle.atomic_table.proofs.Lists.{set_else, set_again}
 use Rattle.turn_lock.specs.declared.view.View.{View}
 use Rattle.turn_lock.specs.declared.view.Stage.{Stage}
 use Rattle.turn_lock.specs.declared.view.Stage.TheVariants.{Idle, Drawn, Found, Noted}
@@ -72,7 +73,7 @@ module _ {T E : Type 0} (entries_of : T → List E) (number_of : E → ℕ) wher
   seen_set history views id v w seen at same = dite (ℕ_discrete seen.id id)
       (λ (e : seen.id ≡ id). let is : seen.view ≡ v = some-injective seen.view v (sym seen.at ∙ (ap (get_elem? views) e ∙ at)) in
       record { id = id; view = w; at = set_at views id v w at; all = same (subst (HasSeenAll history) is seen.all) })
-      (λ (ne : seen.id ≢ id). record { id = seen.id; view = seen.view; at = Rattle.atomic_table.proofs.Lists.set_else views id seen.id w ne ∙ seen.at; all = seen.all })
+      (λ (ne : seen.id ≢ id). record { id = seen.id; view = seen.view; at = set_else views id seen.id w ne ∙ seen.at; all = seen.all })
 
   -- the ticket `kept.ticket` was drawn
   drawn : (s : State (Option T) (View E)) (kept : Kept s) (id : ℕ) (v : View E) → get_elem? s.views id ≡ some v → v.stage ≡ Idle → kept.ticket + 1 < 18446744073709551616
@@ -151,7 +152,7 @@ module _ {T E : Type 0} (entries_of : T → List E) (number_of : E → ℕ) wher
   -- nothing changes where a view is set to itself
   pub stays : (s : State (Option T) (View E)) (kept : Kept s) (id : ℕ) (v : View E) → get_elem? s.views id ≡ some v
       → Kept record { words = kept.ticket ∷ kept.serving ∷ length kept.history ∷ []; homes = s.homes; views = set s.views id v }
-  stays s kept id v at = subst (λ (z : List ℕ × List (View E)). Kept record { words = z.0; homes = s.homes; views = z.1 }) (λ i. (kept.words i, sym (Rattle.atomic_table.proofs.Lists.set_again s.views id v at) i)) kept
+  stays s kept id v at = subst (λ (z : List ℕ × List (View E)). Kept record { words = z.0; homes = s.homes; views = z.1 }) (λ i. (kept.words i, sym (set_again s.views id v at) i)) kept
 
   pub draws : (slots id : ℕ) (me : Place T E) (next : ℕ) → me.0.stage ≡ Idle → next + 1 < 18446744073709551616
       → Allows Kept slots id me 0 (λ n. either (n == next) (next + 1) n) (drew (step slots 0 next (next + 1) none) me)

@@ -5,5 +5,6 @@ pub mod Keeping
 pub mod Turning
 pub mod Splitting
 pub mod Joining
+pub mod Tallies
 pub mod Ending
 pub mod Opening

@@ -16,7 +16,7 @@ use Rattle.turn_lock.specs.Views.{with_one_more, split_view}
 use Rattle.turn_lock.specs.Rule.{times_in, Fits, IsHome, IsOut}
 use Rattle.turn_lock.specs.Steps.{Place, told}
 use Rattle.turn_lock.proofs.Counts.{each_set, sum-set, sum-at, sum-two}
-use Rattle.turn_lock.proofs.Entries.{below_before, below_behind, below_others, below_more, strange_append, strange_before, strange_behind, AreStrange}
+use Rattle.turn_lock.proofs.Entries.{both, below_before, below_behind, below_others, below_more, absent_append}
 use Rattle.turn_lock.proofs.Keeping.{Kept, allows, one_if, waits, holds, acts, one_there, none_there, seen_set, stays}
 
 module _ {T E : Type 0} (entries_of : T → List E) (number_of : E → ℕ) where
@@ -94,10 +94,10 @@ module _ {T E : Type 0} (entries_of : T → List E) (number_of : E → ℕ) wher
         (λ (same : split_view v ≡ u). subst (Fits number_of kept.ticket kept.serving (kept.made + 1) kept.history) same
         (let mine = kept.each id v at in
         let behind : are_below number_of kept.made mine.own.later ≡ true = below_behind number_of kept.made v.seen mine.own.later (subst (λ (h : List E). are_below number_of kept.made h ≡ true) mine.own.begins kept.entries_below) in
-        let strange : are_of_others number_of v.made mine.own.later ≡ true = subst (λ (n : ℕ). are_of_others number_of n mine.own.later ≡ true) (sym made_is) (below_others number_of kept.made mine.own.later behind) in
+        let free_later : are_of_others number_of v.made mine.own.later ≡ true = subst (λ (n : ℕ). are_of_others number_of n mine.own.later ≡ true) (sym made_is) (below_others number_of kept.made mine.own.later behind) in
         record {
           turn = tt;
-          own = record { later = mine.own.later; begins = mine.own.begins; others = strange_append number_of mine.own.later (v.made ∷ []) [] (Rattle.turn_lock.proofs.Entries.both _ _ strange refl) refl };
+          own = record { later = mine.own.later; begins = mine.own.begins; others = absent_append number_of mine.own.later (v.made ∷ []) [] (both _ _ free_later refl) refl };
           other = record { later = kept.history; begins = refl; others = refl };
           whole = λ t. absurd (cc t);
           lives = λ t. absurd (cc t);

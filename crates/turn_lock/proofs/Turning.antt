@@ -17,7 +17,7 @@ use Rattle.turn_lock.specs.Views.{has_ticket, holds_ticket, has_turn, at_stage}
 use Rattle.turn_lock.specs.Rule.{InTurn, times_in, Begins, Fits, IsHome, IsOut}
 use Rattle.turn_lock.specs.Steps.{Place, IsFound, noted, entered, passed}
 use Rattle.turn_lock.proofs.Counts.{set_at, each_set, sum-set, sum-at, sum-alone, sum-le_but}
-use Rattle.turn_lock.proofs.Entries.{strange_none, strange_push, below_push}
+use Rattle.turn_lock.proofs.Entries.{absent_none, absent_push, below_push}
 use Rattle.turn_lock.proofs.Keeping.{Kept, allows, one_if, waits, holds, acts, one_there, none_there, seen_set}
 
 -- who has made a note holds the ticket that has its turn
@@ -104,7 +104,7 @@ module _ {T E : Type 0} (entries_of : T → List E) (number_of : E → ℕ) wher
         each = each_set (Fits number_of kept.ticket kept.serving kept.made kept.history) s.views id w
             (record {
               turn = turn;
-              own = record { later = []; begins = sym home.entries ∙ sym (append-nil (entries_of home.value)); others = strange_none number_of v.numbers };
+              own = record { later = []; begins = sym home.entries ∙ sym (append-nil (entries_of home.value)); others = absent_none number_of v.numbers };
               other = mine.other;
               whole = λ e. home.entries;
               lives = λ e. named;
@@ -154,7 +154,7 @@ module _ {T E : Type 0} (entries_of : T → List E) (number_of : E → ℕ) wher
       record {
         later = b.later ++ e ∷ [];
         begins = ap (λ (h : List E). h ++ e ∷ []) b.begins ∙ append_assoc seen b.later (e ∷ []);
-        others = strange_push number_of b.later e numbers b.others free;
+        others = absent_push number_of b.later e numbers b.others free;
       }
 
   entered_kept : (s : State (Option T) (View E)) (kept : K s) (id : ℕ) (v : View E) (own : ℕ) (joined : List ℕ) (e : E) → get_elem? s.views id ≡ some v → has_turn v.stage ≡ true → v.numbers ≡ own ∷ joined → number_of e ≡ own
@@ -186,7 +186,7 @@ module _ {T E : Type 0} (entries_of : T → List E) (number_of : E → ℕ) wher
         each = each_set (Fits number_of kept.ticket kept.serving kept.made (kept.history ++ e ∷ [])) s.views id w
             (record {
               turn = mine.turn;
-              own = record { later = []; begins = ap (λ (h : List E). h ++ e ∷ []) (sym all) ∙ sym (append-nil (v.seen ++ e ∷ [])); others = strange_none number_of v.numbers };
+              own = record { later = []; begins = ap (λ (h : List E). h ++ e ∷ []) (sym all) ∙ sym (append-nil (v.seen ++ e ∷ [])); others = absent_none number_of v.numbers };
               other = goes_further v.other_numbers v.other_seen kept.history e mine.other (omega arith);
               whole = λ t. ap (λ (h : List E). h ++ e ∷ []) all;
               lives = mine.lives;

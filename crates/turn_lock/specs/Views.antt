@@ -1,5 +1,5 @@
 -- What a seat at the lock's table knows, and what of it a pass shows.
-use Rattle.std.specs.Prelude.{◌≡◌, ℕ, ◌+◌, Bool, true, false, List, [], ◌∷◌, ◌++◌, length, cond, nat_eq, nat_lt, Option}
+use Rattle.std.specs.Prelude.{◌≡◌, ℕ, ◌+◌, Bool, true, false, List, [], ◌∷◌, ◌++◌, length, cond, nat_eq, nat_lt, Option, None}
 use Rattle.atomic_table.specs.Seated.{TableId}
 use Rattle.atomic_table.specs.declared.shared.Seat.{Seat}
 use Rattle.turn_meaning.specs.Passes.{Pass}
@@ -88,7 +88,7 @@ abbrev pub IsSettled : {T : Type 0} → Stage → List (ℕ × Option T) → Typ
 IsSettled Idle carried = carried ≡ []
 IsSettled (Drawn own) carried = ⊥
 IsSettled (Found own) carried = ⊥
-IsSettled (Noted own) carried = carried ≡ (0, Rattle.std.specs.Prelude.None) ∷ []
+IsSettled (Noted own) carried = carried ≡ (0, None) ∷ []
 
 -- The number and the count of passes made that a pass keeps are those of its seat, and it knows how many entries it has seen.
 pub record IsPassAt {T E : Type 0} (number made count : ℕ) (seat : Seat (Option T) (View E)) : Type 0 where

@@ -44,7 +44,7 @@ pub enum NewFault<T> {
 impl<T: Story> Turns<T> {
     /// A lock over a value whose entries all carry the number 0, and its pass 0, which has seen them.
     pub fn new(alloc: Global, value: T) -> Result<(Turns<T>, Pass<T>), NewFault<T>>
-        requires { are_of T.number 0 (T.entries value) ≡ true }
+        requires zeros { are_of T.number 0 (T.entries value) ≡ true }
         ensures first { IfOk result (λ made. made.1 ≡ first_pass made.0 (T.entries value)) }
         ensures back { IfErr result (λ fault. fault ≡ NoMemory value) }
     {
@@ -77,8 +77,8 @@ impl<T: Story> Turns<T> {
     /// Waits for a turn and takes the value. It draws no turn once all 2^64 - 1 tickets are drawn, and then does not return. It
     /// takes no memory.
     pub fn take<R: Wait>(&self, rt: &R, pass: &mut Pass<T>) -> T
-        requires { IsIdleOf self.now pass.old }
-        ensures { Takes T.number pass.old (T.entries result) pass.new }
+        requires idle { IsIdleOf self.now pass.old }
+        ensures takes { Takes T.number pass.old (T.entries result) pass.new }
     {
         let top = &self.table.shared;
         let own = draw_ticket(rt, top, &mut pass.place);
@@ -91,7 +91,7 @@ impl<T: Story> Turns<T> {
     pub fn give(&self, pass: &mut Pass<T>, value: T)
         requires turn { HasTurnOf self.now pass.old }
         requires entries { MayGive T.number pass.old (T.entries value) }
-        ensures { pass.new ≡ after_turn pass.old (T.entries value) }
+        ensures gives { pass.new ≡ after_turn pass.old (T.entries value) }
     {
         let top = &self.table.shared;
         pass.count = enter_new(top, &mut pass.place, &value, pass.number, pass.count);
@@ -121,7 +121,7 @@ impl<T: Story> Turns<T> {
     pub fn join(&self, pass: &mut Pass<T>, other: Pass<T>)
         requires pass { IsIdleOf self.now pass.old }
         requires other { IsIdleOf self.now other × (other.number ≢ 0) }
-        ensures { Joins T.number pass.old other pass.new }
+        ensures joins { Joins T.number pass.old other pass.new }
     {
         let Pass {
             number: _,
@@ -135,15 +135,15 @@ impl<T: Story> Turns<T> {
 
     /// The pass's number.
     pub fn number(pass: &Pass<T>) -> u32
-        ensures { result ≡ pass.now.number }
+        ensures number { result ≡ pass.now.number }
     {
         pass.number
     }
 
     /// How many passes were made, pass 0 counted, of which the pass has to be pass 0.
     pub fn made(pass: &Pass<T>) -> u32
-        requires { pass.now.number ≡ 0 }
-        ensures { result ≡ pass.now.made }
+        requires first { pass.now.number ≡ 0 }
+        ensures made { result ≡ pass.now.made }
     {
         pass.made
     }
@@ -153,7 +153,7 @@ impl<T: Story> Turns<T> {
     pub fn end(self, pass: Pass<T>) -> T
         requires first { IsIdleOf self pass × (pass.number ≡ 0) }
         requires joined { HasJoinedAll pass }
-        ensures { T.entries result ≡ pass.seen }
+        ensures seen { T.entries result ≡ pass.seen }
     {
         let Turns { table } = self;
         let Pass {

@@ -1,4 +1,5 @@
 use Rattle.std.proofs.Common.{arith, ◌∙◌, ap}
+use Rattle.turn_lock.specs.Steps.{Place}
 use Rattle.turn_lock.proofs.Joining.{joins, merges}
 use Rattle.turn_lock.proofs.steps.join_in.Goals as goal
 
@@ -20,5 +21,5 @@ load-requires g c =
       joined.0 ∙ c.requires.table.0.same,
       omega (arith, c.requires.table.0.words),
       merges g.T.Story.entries g.T.Story.number c.args.top.now.table_id.slots c.join_seat.new.seat.id c.join_seat.new.seat.me named.0 named.1
-          (ap (λ me. me.0.stage) joined.2 ∙ c.requires.alone.0.idle) (ap (λ me. me.0.numbers) joined.2 ∙ named.2),
+          (ap (λ (me : Place g.row.T.Denot g.row.T-Entry.Denot). me.0.stage) joined.2 ∙ c.requires.alone.0.idle) (ap (λ (me : Place g.row.T.Denot g.row.T-Entry.Denot). me.0.numbers) joined.2 ∙ named.2),
     )

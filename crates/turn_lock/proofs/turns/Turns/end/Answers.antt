@@ -18,4 +18,4 @@ returns g c =
     let last = c.close_with-closed.ensures.values.2 in
     let there = ended g.T.Story.entries g.T.Story.number pass.number pass.made pass.count pass.place c.args.pass c.pass.invariant c.pass.view_is first.0.idle first.1 c.requires.joined _ _ last c.take-value.result c.take-value.ensures.value in
     let same : c.unwrap.result ≡ there.value = cc (c.unwrap.ensures, there.full) in
-    ap g.T.Story.entries same ∙ there.entries
+    record { seen = ap g.T.Story.entries same ∙ there.entries }
