@@ -19,7 +19,7 @@ use Rattle.board_machine_laws.proofs.Claiming.{claim_within, claim_front}
 use Rattle.board_laws.proofs.Legality.{edit_event_edit, close_event, claim_event, follows_event, legal_call}
 
 pub seen_point : (dependencies : Dependencies) (seen : History) (pass : ℕ) → IsLegal dependencies seen → IsPoint dependencies seen pass seen
-seen_point dependencies seen pass l = record { later = []; begins = sym (append-nil seen); others = refl; legal = l }
+seen_point dependencies seen pass l = record { goes_on = record { later = []; begins = sym (append-nil seen); others = refl }; legal = l }
 
 install_ends : (c d : ℕ) (r : Installed) → ends_claim c (install_event d r) ≡ true → c ≡ d
 install_ends c d IsInstalled h = eqb-true c d h
@@ -111,18 +111,18 @@ point_ends_no_claim dependencies seen pass point c p = (stays, stays)
   where
     stays : may_call seen pass (InstallCall c) ≡ true → may_call point pass (InstallCall c) ≡ true
     stays m =
-        subst (λ z. may_call z pass (InstallCall c) ≡ true) (sym p.begins)
-        (open_later dependencies seen p.later pass c (subst (IsLegal dependencies) p.begins p.legal) p.others m)
+        subst (λ z. may_call z pass (InstallCall c) ≡ true) (sym p.goes_on.begins)
+        (open_later dependencies seen p.goes_on.later pass c (subst (IsLegal dependencies) p.goes_on.begins p.legal) p.goes_on.others m)
 
 pub point_keeps_job : {Answer : Type 0} (subject : Subject Answer) (seen : History) (pass : ℕ) (point : History) (c : ℕ) (n : Name) → IsPoint subject.dependencies seen pass point
     → claim_at seen c ≡ Some n → (job_of subject point c ≡ job_of subject seen c) × (take c point ≡ take c seen)
 unfolding job_of
 point_keeps_job subject seen pass point c n p h =
     let within = claim_within seen c n h in
-    let before : take c (seen ++ p.later) ≡ take c seen = take_front seen p.later c (omega (arith, within)) in (
-      ap (λ z. option_and_then (job_after subject (take c z)) (claim_at z c)) p.begins
-          ∙ ap₂ (λ B o. option_and_then (job_after subject B) o) before (claim_front seen p.later c within),
-      ap (take c) p.begins ∙ before,
+    let before : take c (seen ++ p.goes_on.later) ≡ take c seen = take_front seen p.goes_on.later c (omega (arith, within)) in (
+      ap (λ z. option_and_then (job_after subject (take c z)) (claim_at z c)) p.goes_on.begins
+          ∙ ap₂ (λ B o. option_and_then (job_after subject B) o) before (claim_front seen p.goes_on.later c within),
+      ap (take c) p.goes_on.begins ∙ before,
     )
 
 -- ---- a pass's own entries
@@ -146,7 +146,7 @@ others_have_none pass (x ∷ xs) h = let q = and_parts (not (nat_eq pass x.pass)
 
 pub point_has_own : (dependencies : Dependencies) (seen : History) (pass : ℕ) (point : History) → IsPoint dependencies seen pass point → entries_of pass point ≡ entries_of pass seen
 point_has_own dependencies seen pass point p =
-    ap (entries_of pass) p.begins ∙ own_append pass seen p.later ∙ ap (λ (zs : History). entries_of pass seen ++ zs) (others_have_none pass p.later p.others) ∙ append-nil (entries_of pass seen)
+    ap (entries_of pass) p.goes_on.begins ∙ own_append pass seen p.goes_on.later ∙ ap (λ (zs : History). entries_of pass seen ++ zs) (others_have_none pass p.goes_on.later p.goes_on.others) ∙ append-nil (entries_of pass seen)
 
 -- what a call adds is its pass's own
 added_own : (dependencies : Dependencies) (H : History) (pass : ℕ) (call : BoardCall) → entries_of pass (added_by dependencies H pass call) ≡ added_by dependencies H pass call
@@ -172,8 +172,8 @@ calls_are_seen subject seen pass call reply after h =
     let added : History = added_by subject.dependencies h.point pass call in
     record {
       legal = subst (IsLegal subject.dependencies) (sym h.sees) (added_legal subject.dependencies h.point pass call h.at_point.legal h.may);
-      later = h.at_point.later ++ added;
-      begins = h.sees ∙ ap (λ (z : History). z ++ added) h.at_point.begins ∙ append_assoc seen h.at_point.later added;
+      later = h.at_point.goes_on.later ++ added;
+      begins = h.sees ∙ ap (λ (z : History). z ++ added) h.at_point.goes_on.begins ∙ append_assoc seen h.at_point.goes_on.later added;
       own = ap (entries_of pass) h.sees ∙ own_append pass h.point added
           ∙ ap (λ (z : History). z ++ entries_of pass added) (point_has_own subject.dependencies seen pass h.point h.at_point)
           ∙ ap (λ (z : History). entries_of pass seen ++ z) (added_own subject.dependencies h.point pass call);
@@ -186,8 +186,8 @@ wants_are_seen dependencies seen pass call after w =
     let p : IsPoint dependencies seen pass after = subst (IsPoint dependencies seen pass) (sym w.sees) w.at_point in (
       record {
         legal = p.legal;
-        later = p.later;
-        begins = p.begins;
+        later = p.goes_on.later;
+        begins = p.goes_on.begins;
         own = point_has_own dependencies seen pass after p ∙ sym (append-nil (entries_of pass seen));
       },
       λ c. (point_ends_no_claim dependencies seen pass after c p).0,

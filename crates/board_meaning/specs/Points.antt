@@ -1,33 +1,36 @@
 -- What a pass has seen of a board that several threads share, and the point at which a call of it happens (this profile).
-use Rattle.std.specs.Prelude.{◌≡◌, ℕ, Bool, true, List, [], ◌++◌, not, filter, nat_eq, nat_lt, Option, option_to_list}
-use Rattle.std.specs.List.{list_all}
+use Rattle.std.specs.Prelude.{◌≡◌, ℕ, Bool, true, List, [], ◌++◌, Option, option_to_list}
 use Rattle.name_meaning.specs.Names.{Name}
 use Rattle.log_meaning.specs.Append.{Edited}
 use Rattle.walk_meaning.specs.Walks.{Dependencies}
 use Rattle.walk_meaning.specs.Subject.{Subject}
+use Rattle.turn_meaning.specs.Numbers as numbers
+use Rattle.turn_meaning.specs.Passes.{GoesOn}
 use Rattle.board_meaning.specs.Events.{Entry, History}
 use Rattle.board_meaning.specs.Ready.{is_closed}
 use Rattle.board_meaning.specs.Machine.{Job, Installed, Told, Call, EditCall, ClaimCall, InstallCall, ReleaseCall, CloseCall, edit_reply, claim_reply, install_reply, report_reply, answers_reply, may_call, entry_by}
 use Rattle.board_meaning.specs.Legal.{IsLegal}
 
+-- What an entry carries: the number of its pass.
+abbrev pub number_of : Entry → ℕ
+number_of entry = entry.pass
+
 -- No entry is of this pass.
 abbrev pub are_of_others : ℕ → History → Bool
-are_of_others pass history = list_all (λ (entry : Entry). not (nat_eq pass entry.pass)) history
+are_of_others pass history = numbers.are_of_others number_of pass history
 
 -- Each entry is of a pass with a number below this one.
 abbrev pub are_below : ℕ → History → Bool
-are_below made history = list_all (λ (entry : Entry). nat_lt entry.pass made) history
+are_below made history = numbers.are_below number_of made history
 
 -- The entries of this pass, in order.
 abbrev pub entries_of : ℕ → History → History
-entries_of pass history = filter (λ (entry : Entry). nat_eq pass entry.pass) history
+entries_of pass history = numbers.entries_of number_of pass history
 
 -- The point of a call through a pass that has seen these entries: a legal history that begins with them, all
 -- later entries being those of other passes.
 pub record IsPoint (dependencies : Dependencies) (seen : History) (pass : ℕ) (point : History) : Type 0 where
-  pub later : History
-  pub begins : point ≡ seen ++ later
-  pub others : are_of_others pass later ≡ true
+  pub goes_on : GoesOn number_of pass seen point
   pub legal : IsLegal dependencies point
 
 -- Any call of a board: one that may make an entry, or one that asks for a verdict, for the answers of a reach, or

@@ -1,0 +1,7 @@
+//! Tests of the turn lock: threads that take turns with one value, passes that split, join and end.
+#![tactic(auto)]
+
+mod marks;
+mod runs;
+#[cfg(test)]
+mod tests;

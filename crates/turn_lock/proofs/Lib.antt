@@ -1,0 +1,10 @@
+pub mod Counts
+pub mod Beginnings
+pub mod Entries
+pub mod Keeping
+pub mod Turning
+pub mod Splitting
+pub mod Joining
+pub mod Tallies
+pub mod Ending
+pub mod Opening
