@@ -3,3 +3,4 @@ pub mod Order
 pub mod Libraries
 pub mod Limits
 pub mod Places
+pub mod RowLaws

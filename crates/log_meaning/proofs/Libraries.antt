@@ -11,22 +11,22 @@ use Rattle.log_meaning.proofs.Order.{same_sound, same_of, with_ascending}
 -- ---- texts
 
 module _ {X : Type 0} where
-  same_branch : (a b : Bool) (x y z : X) → a ≡ b → cond a x y ≡ cond a x (cond b z y)
+  pub same_branch : (a b : Bool) (x y z : X) → a ≡ b → cond a x y ≡ cond a x (cond b z y)
   same_branch true b x y z e = refl
   same_branch false true x y z e = absurd (true≢false (sym e))
   same_branch false false x y z e = refl
 
-  other_branch : (a b : Bool) (x y z rest : X) → (a ≡ true → b ≡ true → ⊥) → rest ≡ cond a x y → cond b z rest ≡ cond a x (cond b z y)
+  pub other_branch : (a b : Bool) (x y z rest : X) → (a ≡ true → b ≡ true → ⊥) → rest ≡ cond a x y → cond b z rest ≡ cond a x (cond b z y)
   other_branch true true x y z rest f e = absurd (f refl refl)
   other_branch true false x y z rest f e = e
   other_branch false true x y z rest f e = refl
   other_branch false false x y z rest f e = e
 
 -- two names that a third name equals are one
-not_both : (n m k : Name) → same_name n k ≡ false → same_name m n ≡ true → same_name m k ≡ true → ⊥
+pub not_both : (n m k : Name) → same_name n k ≡ false → same_name m n ≡ true → same_name m k ≡ true → ⊥
 not_both n m k h f g = true≢false (sym (same_of n k (sym (same_sound m n f) ∙ same_sound m k g)) ∙ h)
 
-same_as : (n m k : Name) → same_name n k ≡ true → same_name m n ≡ same_name m k
+pub same_as : (n m k : Name) → same_name n k ≡ true → same_name m n ≡ same_name m k
 same_as n m k h = ap (same_name m) (same_sound n k h)
 
 module_of : Name → Text → Module
@@ -56,7 +56,7 @@ drop_by n o library rest m true s h = h ∙ same_branch (same_name m n) (same_na
 drop_by n o library rest m false s h =
     other_branch (same_name m n) (same_name m o.name) None (text_of library m) (Some o.text) (text_of rest m) (not_both n m o.name s) h
 
-same_either : {X : Type 0} (b : Bool) (x : X) → x ≡ cond b x x
+pub same_either : {X : Type 0} (b : Bool) (x : X) → x ≡ cond b x x
 same_either true x = refl
 same_either false x = refl
 
