@@ -1,15 +1,12 @@
 -- A theory is accepted exactly where its declarations lead from the empty theory to its face.
 use Rattle.std.proofs.Common.{◌≡◌, List, ℕ, length, Some, Ok, refl, sym, ap, ◌∙◌, subst}
-use Rattle.log_meaning.specs.Names.{Name}
+use Rattle.name_meaning.specs.Names.{Name}
 use Rattle.log_meaning.specs.Log.{Library}
-use Rattle.text_meaning.specs.Trees.{Written, Decl, Module, SigModule}
+use Rattle.text_meaning.specs.Trees.{Written, Decl, Module, SigModule, first_name}
 use Rattle.library_meaning.specs.Faces.{TheoryFace, flat_signature}
-use Rattle.expansion_meaning.proofs.Binding.{goes_by}
-use Rattle.verdict_meaning.specs.Dependencies.{first_name}
 use Rattle.verdict_meaning.specs.Modules.{empty_theory, declare_all}
 use Rattle.verdict_meaning.specs.Verdicts.{Theory, Accepted, checked}
-use Rattle.verdict_meaning.specs.Rounds.{verdict_of}
-use Rattle.verdict_meaning.specs.VerdictLaws.{known_to}
+use Rattle.verdict_meaning.specs.Rounds.{verdict_of, known_to}
 use Rattle.acceptance_laws.specs.ViewLaws.{IsModule}
 use Rattle.acceptance_laws.specs.Declares.{DeclaresAll}
 use Rattle.acceptance_laws.specs.TheoryLaws.{IsAcceptedTheory, AcceptedTheories, WrittenTheories}
@@ -17,6 +14,7 @@ use Rattle.coherence_laws.proofs.LibrariesHold.{grounded_know_coherent}
 use Rattle.coherence_laws.proofs.AcceptedTrees.{from_declarations}
 use Rattle.acceptance_laws.proofs.AcceptedModules.{passed, accepted, one_tree}
 use Rattle.acceptance_laws.proofs.Declared.{declared_sound, declared_complete}
+use Rattle.list_laws.proofs.Answers.{goes_by}
 
 module _ (library : Library) (name : Name) where
   tree_declares : (tree : Module) (face : TheoryFace) (size : ℕ) → IsModule library name tree → checked (known_to library name) tree ≡ Ok (Theory face size) → IsAcceptedTheory library (known_to library name) name face size

@@ -1,24 +1,22 @@
 -- A view is accepted exactly where its ends are accepted theories, and its map is that of the link between them.
 use Rattle.std.proofs.Common.{◌≡◌, List, ℕ, Some, is_some, Ok, refl, sym, ap, ◌∙◌, subst}
-use Rattle.log_meaning.specs.Names.{Name}
+use Rattle.name_meaning.specs.Names.{Name}
 use Rattle.log_meaning.specs.Log.{Library}
-use Rattle.text_meaning.specs.Trees.{Written, Assign, Module, SigModule, ViewModule}
-use Rattle.translation_meaning.specs.HeadMaps.{HeadMap}
+use Rattle.text_meaning.specs.Trees.{Written, Assign, Module, SigModule, ViewModule, first_name}
+use Rattle.lf_meaning.specs.HeadMaps.{HeadMap}
 use Rattle.library_meaning.specs.Faces.{TheoryFace, ViewFace, Environment, theory_of}
 use Rattle.library_meaning.specs.Coherence.{IsCoherent}
-use Rattle.expansion_meaning.proofs.Binding.{came_by, goes_by}
 use Rattle.link_meaning.specs.Passes.{link_map}
-use Rattle.link_meaning.proofs.Covered.{good_same}
-use Rattle.link_meaning.proofs.Linked.{link_map_meets_equations}
-use Rattle.verdict_meaning.specs.Dependencies.{first_name}
+use Rattle.link_laws.proofs.Covered.{good_same}
+use Rattle.link_laws.proofs.Linked.{link_map_meets_equations}
 use Rattle.verdict_meaning.specs.Modules.{module_test, empty_theory, declare_all, view_setting, checked_view}
 use Rattle.verdict_meaning.specs.Verdicts.{Theory, View, Accepted, checked}
-use Rattle.verdict_meaning.specs.Rounds.{verdict_of}
-use Rattle.verdict_meaning.specs.VerdictLaws.{known_to}
+use Rattle.verdict_meaning.specs.Rounds.{verdict_of, known_to}
 use Rattle.acceptance_laws.specs.ViewLaws.{IsModule, IsViewBetween, IsAcceptedView, face_between, AcceptedViews, WrittenViews}
 use Rattle.coherence_laws.proofs.ModulesHold.{known_by_test, theory_there}
 use Rattle.coherence_laws.proofs.LibrariesHold.{grounded_know_coherent}
 use Rattle.acceptance_laws.proofs.AcceptedModules.{test_passed, some_passes, passed, accepted, one_tree}
+use Rattle.list_laws.proofs.Answers.{came_by, goes_by}
 
 module _ (environment : Environment) (coherent : IsCoherent environment) (written domain codomain : Written) (assigns : List Assign) where
   -- ---- the tests of a view

@@ -1,17 +1,17 @@
 -- Two environments that agree on some names, which are closed under what the faces there name: what is read of them is alike.
 use Rattle.std.proofs.Common.{◌≡◌, Bool, true, false, cond, List, [], ◌∷◌, ◌++◌, filter_map, Option, Some, None, inl, inr, refl, sym, ap, ap₂, ◌∙◌, subst}
 use Rattle.std.specs.List.{cons_option}
-use Rattle.lf_meaning.specs.Terms.{Name, Path}
+use Rattle.name_meaning.specs.Names.{Name, Path}
 use Rattle.lf_meaning.specs.Signatures.{Signature}
-use Rattle.log_meaning.proofs.Members.{Member}
-use Rattle.log_meaning.proofs.Order.{among_member}
+use Rattle.list_laws.proofs.Members.{Member}
+use Rattle.name_laws.proofs.Order.{among_member}
 use Rattle.library_meaning.specs.Faces.{StructureFace, TheoryFace, ViewFace, IsTheory, IsView, theory_face, Environment, theory_of, includes_of, own_of, own_part, own_parts, flat_of}
 use Rattle.library_meaning.specs.Closure.{sees}
 use Rattle.library_meaning.specs.Resolution.{Scope, Variables, own_at, qualified, bound_variable, the_only, or_variable, or_declared, Resolved, resolve}
 use Rattle.library_meaning.specs.StandsFor.{StandsFor}
 use Rattle.library_meaning.specs.Words.{structures_of}
-use Rattle.library_meaning.proofs.Resolving.{resolution_stands}
-use Rattle.link_meaning.proofs.Linked.{known_theory}
+use Rattle.library_laws.proofs.Resolving.{resolution_stands}
+use Rattle.link_laws.proofs.Linked.{known_theory}
 
 -- the names have, with a theory, what it includes and the domains of its structures, and with a view its domain
 pub record Alike (names : Name → Bool) (first second : Environment) : Type 0 where

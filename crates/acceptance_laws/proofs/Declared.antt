@@ -1,34 +1,33 @@
 -- The tests of declarations answer a face exactly where the declarations lead to it.
 use Rattle.std.proofs.Common.{◌≡◌, ◌↔◌, ℕ, true, not, ◌||◌, List, [], ◌∷◌, slice_get, Option, Some, None, is_some, Ok, refl, sym, ap, ap₂, ◌∙◌}
 use Rattle.std.specs.Prelude.{⊤}
-use Rattle.lf_meaning.specs.Terms.{Name, Path}
-use Rattle.lf_meaning.specs.Signatures.{Class, Value, Declaration, Signature, same_name}
-use Rattle.lf_meaning.proofs.Equality.{pointwise_sound, same_name_sound}
-use Rattle.log_meaning.proofs.Members.{find_found}
-use Rattle.translation_meaning.specs.HeadMaps.{HeadMap}
+use Rattle.name_meaning.specs.Names.{Name, Path, same_name}
+use Rattle.lf_meaning.specs.Signatures.{Class, Value, Declaration, Signature}
+use Rattle.lf_term_laws.proofs.Equality.{pointwise_sound}
+use Rattle.list_laws.proofs.Members.{find_found, place_member}
+use Rattle.lf_meaning.specs.HeadMaps.{HeadMap}
 use Rattle.library_meaning.specs.Faces.{StructureFace, TheoryFace, Environment, theory_of, structure_of}
 use Rattle.library_meaning.specs.Resolution.{Scope, has_path, own_at}
 use Rattle.library_meaning.specs.Coherence.{IsCoherent}
-use Rattle.text_meaning.specs.Trees.{Expr, Written, Assign, Decl, IncludeDecl, StructDecl, ConstDecl}
+use Rattle.text_meaning.specs.Trees.{Expr, Written, Assign, Decl, IncludeDecl, StructDecl, ConstDecl, first_name}
 use Rattle.expansion_meaning.specs.Rules.{Rule}
 use Rattle.expansion_meaning.specs.Values.{expand_class, expand_value}
-use Rattle.expansion_meaning.proofs.Binding.{came_by, goes_by}
-use Rattle.expansion_meaning.proofs.ValuesStand.{class_sound, class_complete, value_sound, value_complete}
+use Rattle.expansion_laws.proofs.ValuesStand.{class_sound, class_complete, value_sound, value_complete}
 use Rattle.holding_laws.proofs.Declared.{place_of}
 use Rattle.link_meaning.specs.Refusals.{labelled}
 use Rattle.link_meaning.specs.Passes.{link_map}
-use Rattle.link_meaning.specs.LinkLaws.{IsMapOfLink}
-use Rattle.link_meaning.proofs.Covered.{good_same}
-use Rattle.link_meaning.proofs.Valued.{label_came, demand_by}
-use Rattle.link_meaning.proofs.Linked.{link_map_meets_equations}
-use Rattle.link_coherence_laws.proofs.Onces.{place_member}
-use Rattle.verdict_meaning.specs.Dependencies.{first_name}
+use Rattle.link_meaning.specs.LinkMaps.{IsMapOfLink}
+use Rattle.link_laws.proofs.Covered.{good_same}
+use Rattle.link_laws.proofs.Valued.{label_came, demand_by}
+use Rattle.link_laws.proofs.Linked.{link_map_meets_equations}
 use Rattle.verdict_meaning.specs.Modules.{module_test, scope_in, is_used, unused_test, declared_value, structure_setting, declare, declare_all}
 use Rattle.acceptance_laws.specs.Declares.{IsNew, StandsIfWritten, Declares, DeclaresAll}
 use Rattle.acceptance_laws.specs.TheoryLaws.{TestsAnswerDeclared, OneFaceDeclared}
 use Rattle.coherence_laws.proofs.TheoriesHold.{not_at, no_structure, structure_found}
 use Rattle.coherence_laws.proofs.ModulesHold.{known_by_test, theory_there, unused_by}
 use Rattle.acceptance_laws.proofs.AcceptedModules.{some_passes}
+use Rattle.name_laws.proofs.Order.{same_sound}
+use Rattle.list_laws.proofs.Answers.{came_by, goes_by}
 
 -- ---- new names
 
@@ -40,7 +39,7 @@ nobody_at own path f = by (own_at own path) refl
     by (Some d) e =
         let m = find_found (has_path path) own d e in
         let p = place_of own d m.0 in
-        absurd (f p.0 d p.1 (pointwise_sound same_name same_name_sound d.name.path path m.1))
+        absurd (f p.0 d p.1 (pointwise_sound same_name same_sound d.name.path path m.1))
 
 no_structure_at : (structures : List StructureFace) (name : Name) → ((i : ℕ) (x : StructureFace) → slice_get structures i ≡ Some x → x.name ≡ name → ⊥) → structure_of structures name ≡ None
 no_structure_at structures name f = by (structure_of structures name) refl

@@ -1,19 +1,19 @@
 -- Declarations and views lead to the same over environments that agree on what they name.
 use Rattle.std.proofs.Common.{◌≡◌, Bool, true, false, List, [], ◌∷◌, ◌++◌, flat_map, filter_map, Option, Some, None, is_some, inl, inr, ⊎_elim, refl, sym, ap, ◌∙◌, subst}
-use Rattle.lf_meaning.specs.Terms.{Name, Path}
-use Rattle.lf_meaning.specs.Signatures.{Class, Value, same_name}
-use Rattle.log_meaning.proofs.Members.{Member, in_append, append_left, append_right, flat_map_in}
-use Rattle.translation_meaning.specs.HeadMaps.{HeadMap}
+use Rattle.name_meaning.specs.Names.{Name, Path, same_name}
+use Rattle.lf_meaning.specs.Signatures.{Class, Value}
+use Rattle.list_laws.proofs.Members.{Member, in_append, append_left, append_right, flat_map_in}
+use Rattle.lf_meaning.specs.HeadMaps.{HeadMap}
 use Rattle.library_meaning.specs.Faces.{StructureFace, TheoryFace, Environment, theory_of, includes_of}
 use Rattle.library_meaning.specs.Closure.{with_all, with_inclusion}
 use Rattle.library_meaning.specs.Coherence.{IsCoherent}
 use Rattle.library_meaning.specs.Words.{is_here}
-use Rattle.library_meaning.proofs.ClosureMembers.{inclusion_member}
+use Rattle.library_laws.proofs.ClosureMembers.{inclusion_member}
 use Rattle.text_meaning.specs.Tokens.{Span}
-use Rattle.text_meaning.specs.Trees.{Expr, Written, Assign, IncludeAssign, StructAssign, ConstAssign, Decl, IncludeDecl, StructDecl, ConstDecl}
-use Rattle.link_meaning.specs.Assignments.{label_in}
+use Rattle.text_meaning.specs.Trees.{Expr, Written, Assign, IncludeAssign, StructAssign, ConstAssign, Decl, IncludeDecl, StructDecl, ConstDecl, first_name}
+use Rattle.text_meaning.specs.Labels.{label_in}
 use Rattle.link_meaning.specs.Induced.{induced_from, with_structure}
-use Rattle.verdict_meaning.specs.Dependencies.{Dependency, first_name, is_own_word, unless_own, at_written, word_dependencies, assign_dependencies, decl_dependencies}
+use Rattle.text_meaning.specs.Dependencies.{Dependency, is_own_word, unless_own, at_written, word_dependencies, assign_dependencies, decl_dependencies}
 use Rattle.verdict_meaning.specs.Modules.{scope_in, structure_setting, empty_theory}
 use Rattle.acceptance_laws.specs.ViewLaws.{IsViewBetween}
 use Rattle.acceptance_laws.specs.Declares.{StandsIfWritten, Declares, DeclaresAll}

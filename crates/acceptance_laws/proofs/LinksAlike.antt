@@ -2,11 +2,11 @@
 use Rattle.std.proofs.Common.{◌≡◌, ℕ, Bool, true, false, List, [], ◌∷◌, ◌&&◌, ◌||◌, slice_get, Option, Some, None, IsSome, option_map, inl, inr, refl, sym, ap, ap₂, ◌∙◌, subst}
 use Rattle.std.specs.Prelude.{⊤}
 use Rattle.std.specs.List.{list_any, cons_option}
-use Rattle.lf_meaning.specs.Terms.{Name, Path}
-use Rattle.lf_meaning.specs.Signatures.{Class, Value, Declaration, Signature, same_name}
-use Rattle.log_meaning.proofs.Members.{Member}
-use Rattle.log_meaning.proofs.Order.{among_member}
-use Rattle.translation_meaning.specs.HeadMaps.{HeadMap}
+use Rattle.name_meaning.specs.Names.{Name, Path, same_name}
+use Rattle.lf_meaning.specs.Signatures.{Class, Value, Declaration, Signature}
+use Rattle.list_laws.proofs.Members.{Member}
+use Rattle.name_laws.proofs.Order.{among_member}
+use Rattle.lf_meaning.specs.HeadMaps.{HeadMap}
 use Rattle.translation_meaning.specs.Translation.{translate_class, translate_value}
 use Rattle.library_meaning.specs.Faces.{TheoryFace, Environment, theory_of, includes_of, flat_of}
 use Rattle.library_meaning.specs.Closure.{sees}
@@ -20,9 +20,9 @@ use Rattle.link_meaning.specs.AssignmentsRead.{AssignReads, AssignsRead}
 use Rattle.link_meaning.specs.Coverings.{cover_if, cover_by, covers_of, is_none_of, identity_covers, is_identity_covering}
 use Rattle.link_meaning.specs.Passes.{Reached, ByNone, ByValue, ByStructure, reached_by, is_own}
 use Rattle.link_meaning.specs.Equations.{IsCovering, ByIdentity, ByAssignment, CoveringsGive, IsCopied, IsUnassigned, OwnHasValue, HasValueBy, MeetsEquations}
-use Rattle.link_meaning.specs.LinkLaws.{IsSettled, IsMapOfLink}
-use Rattle.link_meaning.proofs.Listing.{member_at}
-use Rattle.link_meaning.proofs.Linked.{included_in}
+use Rattle.link_meaning.specs.LinkMaps.{IsSettled, IsMapOfLink}
+use Rattle.link_laws.proofs.Listing.{member_at}
+use Rattle.link_laws.proofs.Linked.{included_in}
 use Rattle.acceptance_laws.proofs.Alike.{Alike, alike_back, scope_over, AllNamed, DomainsNamed, theory_alike, part_alike, includes_named, included_parts_alike, structures_named, flat_alike, stands_for_alike}
 use Rattle.acceptance_laws.proofs.StandsAlike.{value_alike}
 use Rattle.acceptance_laws.proofs.WordsAlike.{WordsNamed, links_alike, link_domain, row_alike, row_domain}

@@ -1,13 +1,12 @@
 -- A module is refused exactly where it is present and no face makes it accepted.
 use Rattle.std.proofs.Common.{◌≡◌, ◌↔◌, ℕ, Option, Some, None, is_some, refl, sym, ap, ◌∙◌, true≢false}
-use Rattle.log_meaning.specs.Names.{Name}
+use Rattle.name_meaning.specs.Names.{Name}
 use Rattle.log_meaning.specs.Log.{Library}
 use Rattle.library_meaning.specs.Faces.{TheoryFace, ViewFace, Environment}
 use Rattle.link_meaning.specs.Refusals.{Refusal}
 use Rattle.verdict_meaning.specs.Verdicts.{Interface, Theory, View, Verdict, Accepted, Refused}
-use Rattle.verdict_meaning.specs.Rounds.{verdict_of, told_by}
-use Rattle.verdict_meaning.specs.VerdictLaws.{known_to}
-use Rattle.verdict_meaning.proofs.Verdicts.{verdict_exactly}
+use Rattle.verdict_meaning.specs.Rounds.{verdict_of, told_by, known_to}
+use Rattle.verdict_laws.proofs.Verdicts.{verdict_exactly}
 use Rattle.acceptance_laws.specs.ViewLaws.{IsAcceptedView}
 use Rattle.acceptance_laws.specs.TheoryLaws.{IsAcceptedTheory}
 use Rattle.acceptance_laws.specs.RefusedModules.{HasNoFace, RefusedModules, RefusedModulesTold}

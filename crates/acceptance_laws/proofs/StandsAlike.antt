@@ -1,6 +1,7 @@
 -- What stands in a scope stands in another one in which each path stands for the same.
 use Rattle.std.proofs.Common.{[], None}
-use Rattle.lf_meaning.specs.Terms.{Path, Object, Family, Kind, Ty}
+use Rattle.name_meaning.specs.Names.{Path}
+use Rattle.lf_meaning.specs.Terms.{Object, Family, Kind, Ty}
 use Rattle.lf_meaning.specs.Signatures.{Class, FamilyClass, KindClass, Value}
 use Rattle.translation_meaning.specs.Heads.{Head, ObjectHead, FamilyHead}
 use Rattle.library_meaning.specs.Resolution.{Scope, Variables, Resolved, Declared}

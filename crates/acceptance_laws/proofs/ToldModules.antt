@@ -2,23 +2,22 @@
 -- is over the other.
 use Rattle.std.proofs.Common.{◌≡◌, ◌↔◌, ℕ, zero, suc, Bool, true, false, List, map, flat_map, length, Some, is_some, inl, inr, ⊎_elim, refl, sym, ap, ◌∙◌, subst, true≢false}
 use Rattle.std.proofs.lemmas.Bool.{cases_Bool}
-use Rattle.log_meaning.specs.Names.{Name, same_name, is_among}
+use Rattle.name_meaning.specs.Names.{Name, same_name, is_among}
 use Rattle.log_meaning.specs.Log.{Library}
-use Rattle.log_meaning.proofs.Members.{Member, map_in}
-use Rattle.log_meaning.proofs.Order.{member_among, same_sound}
+use Rattle.list_laws.proofs.Members.{Member, map_in}
+use Rattle.name_laws.proofs.Order.{member_among, same_sound}
 use Rattle.walk_meaning.specs.Walks.{of_text, direct, walking, is_grounded}
-use Rattle.walk_meaning.proofs.Walking.{present_in, depends_present}
-use Rattle.walk_meaning.proofs.Reaching.{reach_closed, reach_first}
+use Rattle.walk_laws.proofs.Walking.{present_in, depends_present}
+use Rattle.walk_laws.proofs.Reaching.{reach_closed, reach_first}
 use Rattle.holding_laws.proofs.Declared.{place_of}
 use Rattle.text_meaning.specs.Trees.{Written, Assign, Decl, Module, SigModule, ViewModule}
-use Rattle.translation_meaning.specs.HeadMaps.{HeadMap}
+use Rattle.lf_meaning.specs.HeadMaps.{HeadMap}
 use Rattle.library_meaning.specs.Faces.{TheoryFace, ViewFace, theory_face, Environment, theory_of, flat_signature}
-use Rattle.verdict_meaning.specs.Dependencies.{Dependency, at_written, decl_dependencies, module_dependencies, answer_dependencies, dependencies}
+use Rattle.text_meaning.specs.Dependencies.{Dependency, at_written, decl_dependencies, module_dependencies, answer_dependencies, dependencies}
 use Rattle.verdict_meaning.specs.Modules.{empty_theory}
 use Rattle.verdict_meaning.specs.Verdicts.{Theory, Accepted}
-use Rattle.verdict_meaning.specs.Rounds.{others_reached, told_by}
-use Rattle.verdict_meaning.specs.VerdictLaws.{known_to}
-use Rattle.verdict_meaning.proofs.Shortness.{Short, short_step}
+use Rattle.verdict_meaning.specs.Rounds.{others_reached, told_by, known_to}
+use Rattle.verdict_laws.proofs.Shortness.{Short, short_step}
 use Rattle.acceptance_laws.specs.ViewLaws.{IsModule, IsViewBetween, IsAcceptedView, AcceptedViewsTold, WrittenViewsTold}
 use Rattle.acceptance_laws.specs.Declares.{DeclaresAll}
 use Rattle.acceptance_laws.specs.TheoryLaws.{AcceptedTheoriesTold, WrittenTheoriesTold}

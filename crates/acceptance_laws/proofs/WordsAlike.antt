@@ -1,17 +1,16 @@
 -- Words and rows of them mean the same over environments that agree on what they name.
 use Rattle.std.proofs.Common.{◌≡◌, ℕ, suc, Bool, true, false, cond, ◌||◌, List, [], ◌∷◌, Option, Some, None, inl, inr, refl, sym, ap, ◌∙◌, subst}
 use Rattle.std.specs.Prelude.{⊤}
-use Rattle.lf_meaning.specs.Terms.{Name, Path}
-use Rattle.lf_meaning.specs.Signatures.{same_name}
-use Rattle.log_meaning.proofs.Members.{Member}
+use Rattle.name_meaning.specs.Names.{Name, Path, same_name}
+use Rattle.list_laws.proofs.Members.{Member}
 use Rattle.library_meaning.specs.Faces.{StructureFace, TheoryFace, Known, IsAbsent, IsRefused, IsTheory, IsView, Environment, theory_of, structure_of, includes_of}
 use Rattle.library_meaning.specs.Closure.{sees}
 use Rattle.library_meaning.specs.Words.{Link, structure_link, followed_by, behind_structure, structures_of, link_by, is_empty, structures_link, Meaning, Means, Faulty, or_unknown, simple_word, longer_word, is_here, word_meaning, meets, RowMeaning, RowMeans, RowFaulty, EndsApart, next_by, row_from, first_by, row_meaning}
 use Rattle.text_meaning.specs.Trees.{Written}
-use Rattle.expansion_meaning.proofs.Binding.{some_same}
 use Rattle.link_meaning.specs.Assignments.{paths_of}
 use Rattle.acceptance_laws.proofs.Alike.{Alike, DomainsNamed, theory_alike, structures_named}
 use Rattle.coherence_laws.proofs.TheoriesHold.{structure_found}
+use Rattle.std.proofs.lemmas.Option.{same_Some}
 
 -- the first name of a word is among these, unless the word is one of the theory's own
 abbrev pub WordNamed : (Name → Bool) → Option TheoryFace → Path → Type 0
@@ -44,13 +43,13 @@ module _ (names : Name → Bool) (first second : Environment) (alike : Alike nam
 
   behind_by : (o : Option Link) (outer link : Link) → behind_structure o outer ≡ Some link → (inner : Link) × (o ≡ Some inner) × (link.domain ≡ inner.domain)
   behind_by None outer link h = absurd (cc)
-  behind_by (Some inner) outer link h = (inner, refl, ap (λ (z : Link). z.domain) (sym (some_same h)))
+  behind_by (Some inner) outer link h = (inner, refl, ap (λ (z : Link). z.domain) (sym (same_Some _ _ h)))
 
   domain_by : (theory : Name) (o : Option StructureFace) (last : Bool) (inner : Name → Option Link) (link : Link) → ((structure : StructureFace) → o ≡ Some structure → names structure.domain ≡ true)
       → ((structure : StructureFace) (found : Link) → o ≡ Some structure → inner structure.domain ≡ Some found → names found.domain ≡ true)
       → link_by theory o last inner ≡ Some link → names link.domain ≡ true
   domain_by theory None last inner link f g h = absurd (cc)
-  domain_by theory (Some structure) true inner link f g h = subst (λ (z : Link). names z.domain ≡ true) (some_same h) (f structure refl)
+  domain_by theory (Some structure) true inner link f g h = subst (λ (z : Link). names z.domain ≡ true) (same_Some _ _ h) (f structure refl)
   domain_by theory (Some structure) false inner link f g h =
       let b = behind_by (inner structure.domain) (structure_link theory structure) link h in
       ap names b.2 ∙ g structure b.0 refl b.1

@@ -1,21 +1,20 @@
 -- What makes a view accepted, with no order of tests (Rabe and Kohlhase 2013, section 3: views; the rest is this profile).
 use Rattle.std.specs.Prelude.{◌≡◌, ◌↔◌, true, List, Some, IsSome}
-use Rattle.log_meaning.specs.Names.{Name, Text}
+use Rattle.name_meaning.specs.Names.{Name, Text}
 use Rattle.log_meaning.specs.Log.{Library, text_of}
 use Rattle.walk_meaning.specs.Walks.{is_grounded}
-use Rattle.text_meaning.specs.Trees.{Written, Assign, Module, ViewModule}
+use Rattle.text_meaning.specs.Trees.{Written, Assign, Module, ViewModule, first_name}
 use Rattle.text_meaning.specs.Reading.{ModuleText, ModuleTree, Read}
-use Rattle.text_laws.specs.ReadingLaws.{read}
-use Rattle.translation_meaning.specs.HeadMaps.{HeadMap}
+use Rattle.text_meaning.specs.TextAnswers.{read}
+use Rattle.lf_meaning.specs.HeadMaps.{HeadMap}
 use Rattle.library_meaning.specs.Faces.{TheoryFace, ViewFace, Environment, theory_of}
-use Rattle.link_meaning.specs.LinkLaws.{IsMapOfLink}
-use Rattle.verdict_meaning.specs.Dependencies.{first_name, dependencies}
+use Rattle.link_meaning.specs.LinkMaps.{IsMapOfLink}
+use Rattle.text_meaning.specs.Dependencies.{dependencies}
 use Rattle.verdict_meaning.specs.Modules.{view_setting}
 use Rattle.verdict_meaning.specs.Verdicts.{View, Accepted, written_name}
-use Rattle.verdict_meaning.specs.Rounds.{verdict_of, told_by}
-use Rattle.verdict_meaning.specs.VerdictLaws.{known_to}
+use Rattle.verdict_meaning.specs.Rounds.{verdict_of, told_by, known_to}
 
--- Read: the name is grounded, and its text is read as this module, which is written with the name.
+-- The name is grounded, and its text is read as this module, which is written with the name.
 pub record IsModule (library : Library) (name : Name) (tree : Module) : Type 0 where
   pub text : Text
   pub has : text_of library name ≡ Some text
@@ -23,7 +22,7 @@ pub record IsModule (library : Library) (name : Name) (tree : Module) : Type 0 w
   pub grounded : is_grounded dependencies library name ≡ true
   pub named : first_name (written_name tree).path ≡ name
 
--- Read: over what is known, both ends of the written view are accepted theories, and the map is that of the link between them:
+-- Over what is known, both ends of the written view are accepted theories, and the map is that of the link between them:
 -- the assignments have a reading, and the map meets its equations.
 pub record IsViewBetween (environment : Environment) (written domain codomain : Written) (assigns : List Assign) (along : HeadMap) : Type 0 where
   pub from : IsSome (theory_of environment (first_name domain.path))
@@ -31,7 +30,7 @@ pub record IsViewBetween (environment : Environment) (written domain codomain : 
   pub to : theory_of environment (first_name codomain.path) ≡ Some target
   pub map_is : IsMapOfLink (view_setting environment written (first_name domain.path) target (first_name codomain.path)) assigns along
 
--- Read: the module under this name is a view, and over what is known its ends and its map are those of the face.
+-- The module under this name is a view, and over what is known its ends and its map are those of the face.
 pub record IsAcceptedView (library : Library) (environment : Environment) (name : Name) (face : ViewFace) : Type 0 where
   pub written : Written
   pub domain : Written
@@ -43,18 +42,18 @@ pub record IsAcceptedView (library : Library) (environment : Environment) (name 
   pub to : face.codomain ≡ first_name codomain.path
   pub view_is : IsViewBetween environment written domain codomain assigns face.map
 
--- Read: the face of a written view with this map.
+-- The face of a written view with this map.
 abbrev pub face_between : Name → Written → Written → HeadMap → ViewFace
 face_between name domain codomain along =
     record { name = name; domain = first_name domain.path; codomain = first_name codomain.path; map = along }
 
--- Read: a view is accepted with a face exactly where its text is such a view, over what it knows of others.
+-- A view is accepted with a face exactly where its text is such a view, over what it knows of others.
 abbrev pub AcceptedViews : Type 0
 AcceptedViews =
     (library : Library) (name : Name) (face : ViewFace)
     → (verdict_of library name ≡ Some (Accepted (View face))) ↔ IsAcceptedView library (known_to library name) name face
 
--- Read: so a written view is accepted with a map exactly where its ends are accepted theories, and the map is that of the link
+-- So a written view is accepted with a map exactly where its ends are accepted theories, and the map is that of the link
 -- between them.
 abbrev pub WrittenViews : Type 0
 WrittenViews =
@@ -62,13 +61,13 @@ WrittenViews =
     → IsModule library name (ViewModule written domain codomain assigns)
     → (verdict_of library name ≡ Some (Accepted (View (face_between name domain codomain along)))) ↔ IsViewBetween (known_to library name) written domain codomain assigns along
 
--- Read: it is all one whether this is over what the module knows, or over all that the library's verdicts tell.
+-- It is all one whether this is over what the module knows, or over all that the library's verdicts tell.
 abbrev pub AcceptedViewsTold : Type 0
 AcceptedViewsTold =
     (library : Library) (name : Name) (face : ViewFace)
     → (verdict_of library name ≡ Some (Accepted (View face))) ↔ IsAcceptedView library (told_by library) name face
 
--- Read: so it is of a written view.
+-- So it is of a written view.
 abbrev pub WrittenViewsTold : Type 0
 WrittenViewsTold =
     (library : Library) (name : Name) (written domain codomain : Written) (assigns : List Assign) (along : HeadMap)

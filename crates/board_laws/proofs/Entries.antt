@@ -2,12 +2,12 @@
 use Rattle.std.proofs.Common.{◌≡◌, ℕ, zero, suc, ◌<◌, ◌≤◌, Bool, true, false, not, List, [], ◌∷◌, ◌++◌, length, take, slice_get, find, cond, Option, Some, None, option_map, option_to_list, inl, inr, ⊎_elim, refl, sym, ap, ◌∙◌, subst, true≢false, arith, eqb-true, append-nil}
 use Rattle.std.specs.List.{list_all}
 use Rattle.std.proofs.lemmas.Bool.{and_parts, cases_Bool}
-use Rattle.log_meaning.specs.Names.{Name, comes_before, is_ascending}
+use Rattle.name_meaning.specs.Names.{Name, comes_before, is_ascending}
 use Rattle.log_meaning.specs.Log.{Edit, Log, names_of, is_present}
 use Rattle.log_meaning.specs.Append.{Edited, Made, Same, Absent, Full, TooLong, TooMany, append_answer, log_after, appended}
-use Rattle.log_meaning.proofs.Members.{Member, all_at}
-use Rattle.log_meaning.proofs.Order.{before_trans, not_before_itself, among_member}
-use Rattle.log_meaning.proofs.Libraries.{present_among, library_ascending}
+use Rattle.list_laws.proofs.Members.{Member, all_at}
+use Rattle.name_laws.proofs.Order.{before_trans, not_before_itself, among_member}
+use Rattle.log_laws.proofs.Libraries.{present_among, library_ascending}
 use Rattle.walk_meaning.specs.Walks.{Dependencies, is_ungrounded}
 use Rattle.board_meaning.specs.Events.{Event, EditMade, Claim, Stale, Release, Close, Entry, History, edit_of, log_of, library_after, entry_of}
 use Rattle.board_meaning.specs.Claims.{ends_claim, is_open}
@@ -15,8 +15,8 @@ use Rattle.board_meaning.specs.Ready.{is_closed, is_ready, least_ready}
 use Rattle.board_meaning.specs.Machine.{edit_reply, edit_event, Installed, IsInstalled, IsStale, install_event, install_reply, Call, EditCall, ClaimCall, InstallCall, ReleaseCall, CloseCall, event_of, is_by, may_call, after_call}
 use Rattle.board_meaning.specs.Legal.{IsLegal}
 use Rattle.board_laws.specs.HistoryLaws.{is_edit_call}
-use Rattle.log_meaning.proofs.Places.{get_take}
-use Rattle.board_meaning.proofs.Histories.{log_append}
+use Rattle.list_laws.proofs.Places.{get_take}
+use Rattle.board_machine_laws.proofs.Histories.{log_append}
 use Rattle.board_laws.proofs.Legality.{follows_event, edit_event_edit, close_event, claim_event, least_is_ready}
 use Rattle.board_laws.proofs.Standings.{ready_parts}
 use Rattle.board_laws.proofs.Pointing.{ending_call, by_within}
@@ -43,7 +43,7 @@ unfolding log_of
 unlogged H pass None h = refl
 unlogged H pass (Some e) h = rw (h e refl) refl
 
-install_no_edit : (c : ℕ) (r : Installed) → edit_of (install_event c r) ≡ None
+pub install_no_edit : (c : ℕ) (r : Installed) → edit_of (install_event c r) ≡ None
 install_no_edit c IsInstalled = refl
 install_no_edit c (IsStale n k) = refl
 

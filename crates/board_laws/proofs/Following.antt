@@ -2,29 +2,26 @@
 use Rattle.std.proofs.Common.{◌≡◌, ℕ, suc, ◌<◌, Bool, true, false, not, [], ◌∷◌, ◌++◌, length, take, drop, Option, Some, None, option_to_list, is_some, ◌||◌, ◌&&◌, inl, inr, ⊎_elim, refl, sym, ap, ◌∙◌, subst, true≢false, arith, append-nil}
 use Rattle.std.specs.Cmp.{both_ways}
 use Rattle.std.proofs.lemmas.Bool.{or_cases, or_parts, or_from, or_left, or_right, and_parts, and_from, not_from_false, false_from_ne_true}
-use Rattle.log_meaning.specs.Names.{Name, same_name, is_among}
+use Rattle.name_meaning.specs.Names.{Name, same_name, is_among}
 use Rattle.log_meaning.specs.Log.{Edit, edited_name}
 use Rattle.walk_meaning.specs.Walks.{Dependencies}
 use Rattle.walk_meaning.specs.Reach.{reach}
-use Rattle.log_meaning.proofs.Members.{Member, in_append, append_left, append_right}
-use Rattle.log_meaning.proofs.Order.{among_member, member_among, same_sound, same_itself}
+use Rattle.list_laws.proofs.Members.{Member, in_append, append_left, append_right}
+use Rattle.name_laws.proofs.Order.{among_member, member_among, same_sound, same_itself}
 use Rattle.board_meaning.specs.Events.{Entry, History, edit_in, library_after}
 use Rattle.board_meaning.specs.Claims.{claim_at, is_open, is_ended, is_claim_of}
 use Rattle.board_meaning.specs.Standing.{installed_claim, installed_claims, is_edit_of, is_edited, is_edited_after, is_unedited, stands}
 use Rattle.board_meaning.specs.Machine.{IsInstalled, install_reply}
 use Rattle.board_meaning.specs.Legal.{IsLegal}
-use Rattle.log_meaning.proofs.Places.{take_front, drop_front}
-use Rattle.board_meaning.proofs.Histories.{filter_map_last, edited_append}
-use Rattle.board_meaning.proofs.Claiming.{claim_within, claim_front, is_name_some, some_is_name, unedited_input, unedited_from, installed_unedited}
+use Rattle.list_laws.proofs.Places.{take_front, drop_front}
+use Rattle.board_machine_laws.proofs.Histories.{filter_map_last, edited_append}
+use Rattle.board_machine_laws.proofs.Claiming.{claim_within, claim_front, is_name_some, some_is_name, unedited_input, unedited_from, installed_unedited}
 use Rattle.board_laws.proofs.Standings.{Supported, stands_by, by_stands, installed_claimed, reach_now}
-
-or_none : (b : Bool) → (b || false) ≡ b
-or_none true = refl
-or_none false = refl
+use Rattle.std.proofs.Math.Bool.{or-false}
 
 edited_last : (e : Entry) (n : Name) → is_edited (e ∷ []) n ≡ is_edit_of n (edit_in e)
 unfolding is_edited
-edited_last e n = or_none (is_edit_of n (edit_in e))
+edited_last e n = or-false (is_edit_of n (edit_in e))
 
 pub installed_last : (H : History) (e : Entry) → installed_claims (H ++ e ∷ []) ≡ installed_claims H ++ option_to_list (installed_claim e.event)
 unfolding installed_claims

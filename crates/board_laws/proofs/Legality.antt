@@ -1,22 +1,23 @@
 -- Legal histories: what each entry tells of those before it, and one more entry.
 use Rattle.std.proofs.Common.{◌≡◌, ℕ, zero, suc, Bool, true, false, List, [], ◌∷◌, ◌++◌, length, take, slice_get, Option, Some, None, option_map, option_to_list, cond, ⊎_elim, refl, sym, ap, ◌∙◌, subst, arith, append-nil, length-append}
 use Rattle.std.proofs.lemmas.Bool.{and_parts}
-use Rattle.log_meaning.specs.Names.{Name}
+use Rattle.name_meaning.specs.Names.{Name}
 use Rattle.log_meaning.specs.Log.{Edit, names_of}
-use Rattle.log_meaning.specs.Append.{Edited, Made, Same, Absent, Full, TooLong, TooMany, append_answer}
-use Rattle.log_meaning.specs.LogLaws.{IsWithinLimits}
+use Rattle.log_meaning.specs.Append.{Edited, Made, Same, Absent, Full, TooLong, TooMany, append_answer, IsWithinLimits}
 use Rattle.walk_meaning.specs.Walks.{Dependencies}
-use Rattle.log_meaning.proofs.Members.{find_found}
-use Rattle.log_meaning.proofs.Limits.{made_not_full, made_within, empty_within}
+use Rattle.list_laws.proofs.Members.{find_found}
+use Rattle.log_laws.proofs.Limits.{made_not_full, made_within, empty_within}
 use Rattle.board_meaning.specs.Events.{Event, EditMade, Claim, Release, Close, Entry, History, edit_of, edit_in, log_of, library_after, version_after, version_with, entry_of}
 use Rattle.board_meaning.specs.Claims.{claimed_name, claim_at}
 use Rattle.board_meaning.specs.Standing.{installed_claim}
 use Rattle.board_meaning.specs.Ready.{is_closed, is_ready, least_ready}
 use Rattle.board_meaning.specs.Machine.{edit_reply, edit_event, Installed, IsInstalled, IsStale, install_event, install_reply, Call, EditCall, ClaimCall, InstallCall, ReleaseCall, CloseCall, event_of, may_call, after_call}
 use Rattle.board_meaning.specs.Legal.{MayFollow, IsLegal, PassCall, after_calls, may_make_all}
-use Rattle.log_meaning.proofs.Places.{place_within, get_front, get_last, get_more, take_front, take_length, take_more, take_past}
-use Rattle.board_meaning.proofs.Histories.{log_none, log_some}
-use Rattle.board_meaning.proofs.Claiming.{claim_entry}
+use Rattle.list_laws.proofs.Places.{place_within, get_front, get_last, get_more, take_front, take_length, take_more, take_past}
+use Rattle.board_machine_laws.proofs.Histories.{log_none, log_some}
+use Rattle.board_machine_laws.proofs.Claiming.{claim_entry}
+use Rattle.list_laws.proofs.Options.{clash}
+use Rattle.board_laws.proofs.Entries.{install_no_edit}
 
 -- ---- histories that grow
 
@@ -98,16 +99,9 @@ install_claims : (c : ℕ) (r : Installed) → claimed_name (install_event c r) 
 install_claims c IsInstalled = refl
 install_claims c (IsStale n k) = refl
 
-install_edits : (c : ℕ) (r : Installed) → edit_of (install_event c r) ≡ None
-install_edits c IsInstalled = refl
-install_edits c (IsStale n k) = refl
-
 install_installs : (c d : ℕ) (r : Installed) → installed_claim (install_event c r) ≡ Some d → (c ≡ d) × (r ≡ IsInstalled)
 install_installs c d IsInstalled h = (cc, refl)
 install_installs c d (IsStale n k) h = absurd (cc)
-
-clash : {A : Type 0} {x : A} (o : Option A) → o ≡ None → o ≡ Some x → ⊥
-clash o e f = absurd (cc)
 
 -- a claim is of the least ready name
 pub event_claim : (dependencies : Dependencies) (H : History) (call : Call) (e : Event) (m : Name) → event_of dependencies H call ≡ Some e → claimed_name e ≡ Some m → least_ready dependencies H ≡ Some m
@@ -149,7 +143,7 @@ event_edit dependencies H (EditCall x) e edit h g =
 event_edit dependencies H ClaimCall e edit h g = absurd (clash (edit_of e) (ap edit_of (claim_event (least_ready dependencies H) e h).2) g)
 event_edit dependencies H (InstallCall d) e edit h g =
     let q : install_event d (install_reply dependencies H d) ≡ e = cc in
-    absurd (clash (edit_of e) (sym (ap edit_of q) ∙ install_edits d (install_reply dependencies H d)) g)
+    absurd (clash (edit_of e) (sym (ap edit_of q) ∙ install_no_edit d (install_reply dependencies H d)) g)
 event_edit dependencies H (ReleaseCall d) e edit h g = let q : Release d ≡ e = cc in absurd (clash (edit_of e) (sym (ap edit_of q)) g)
 event_edit dependencies H CloseCall e edit h g = absurd (clash (edit_of e) (ap edit_of (close_event (is_closed H) e h).0) g)
 

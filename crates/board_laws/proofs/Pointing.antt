@@ -2,20 +2,20 @@
 use Rattle.std.proofs.Common.{◌≡◌, ℕ, zero, suc, ◌+◌, ◌<◌, Bool, true, false, not, [], ◌∷◌, ◌++◌, length, take, slice_get, nat_eq, Option, Some, None, option_map, option_and_then, option_to_list, is_some, ◌&&◌, inl, inr, ⊎_elim, refl, sym, ap, ap₂, ◌∙◌, subst, true≢false, arith, eqb-true, eq-eqb, append-nil, append_assoc, cond}
 use Rattle.std.proofs.lemmas.Bool.{cases_Bool, or_from, and_parts, and_from, not_from_false}
 use Rattle.std.proofs.lemmas.List.Folds.{list_any-append}
-use Rattle.log_meaning.specs.Names.{Name, Text}
+use Rattle.name_meaning.specs.Names.{Name, Text}
 use Rattle.log_meaning.specs.Log.{text_of}
 use Rattle.walk_meaning.specs.Walks.{Dependencies}
-use Rattle.walk_meaning.specs.Subject.{Subject}
-use Rattle.log_meaning.proofs.Members.{Member, all_at, any_none}
+use Rattle.walk_meaning.specs.Subject.{Subject, answers_of}
+use Rattle.list_laws.proofs.Members.{Member, all_at, any_none}
 use Rattle.board_meaning.specs.Events.{Event, Claim, Release, Entry, History, library_after, entry_of}
 use Rattle.board_meaning.specs.Claims.{claimed_name, claim_at, ends_claim, is_ended, is_open, inputs_after}
 use Rattle.board_meaning.specs.Ready.{is_closed, least_ready}
-use Rattle.board_meaning.specs.Machine.{Job, answers_of, job_after, job_of, claim_reply, edit_reply, Installed, IsInstalled, IsStale, install_event, install_reply, Call, EditCall, ClaimCall, InstallCall, ReleaseCall, CloseCall, event_of, is_by, may_call, after_call}
+use Rattle.board_meaning.specs.Machine.{Job, job_after, job_of, claim_reply, edit_reply, Installed, IsInstalled, IsStale, install_event, install_reply, Call, EditCall, ClaimCall, InstallCall, ReleaseCall, CloseCall, event_of, is_by, may_call, after_call}
 use Rattle.board_meaning.specs.Legal.{MayFollow, IsLegal}
 use Rattle.board_meaning.specs.Points.{entries_of, are_of_others, IsPoint, BoardCall, Makes, Reports, AsksAnswers, AsksClosed, Reply, may_ask, added_by, Happens, FindsNoMemory}
 use Rattle.board_laws.specs.PointLaws.{IsSeenAfter}
-use Rattle.log_meaning.proofs.Places.{place_within, get_front, get_last, get_take, get_behind, take_front, take_length, length_take}
-use Rattle.board_meaning.proofs.Claiming.{claim_within, claim_front}
+use Rattle.list_laws.proofs.Places.{place_within, get_front, get_last, get_take, get_behind, take_front, take_length, length_take}
+use Rattle.board_machine_laws.proofs.Claiming.{claim_within, claim_front}
 use Rattle.board_laws.proofs.Legality.{edit_event_edit, close_event, claim_event, follows_event, legal_call}
 
 pub seen_point : (dependencies : Dependencies) (seen : History) (pass : ℕ) → IsLegal dependencies seen → IsPoint dependencies seen pass seen

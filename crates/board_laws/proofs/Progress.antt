@@ -1,13 +1,13 @@
 -- Some name is ready, while a grounded name does not stand and no claim is open.
 use Rattle.std.proofs.Common.{◌≡◌, ℕ, zero, suc, Bool, true, false, not, [], length, is_some, ◌||◌, ◌&&◌, ⊎_elim, refl, sym, ap, ◌∙◌, true≢false}
 use Rattle.std.specs.List.{list_any, list_all}
-use Rattle.std.proofs.lemmas.Bool.{cases_Bool, or_parts, and_parts}
-use Rattle.log_meaning.specs.Names.{Name}
+use Rattle.std.proofs.lemmas.Bool.{cases_Bool, or_parts, and_parts, not-false}
+use Rattle.name_meaning.specs.Names.{Name}
 use Rattle.log_meaning.specs.Log.{names_of, is_present}
 use Rattle.walk_meaning.specs.Walks.{Dependencies, direct, walking, is_ungrounded, is_grounded}
-use Rattle.log_meaning.proofs.Members.{Member, all_not, find_some}
-use Rattle.log_meaning.proofs.Order.{member_among}
-use Rattle.walk_meaning.proofs.Walking.{present_in, walking_step, in_ungrounded, grounded_dependency}
+use Rattle.list_laws.proofs.Members.{Member, all_not, find_some}
+use Rattle.name_laws.proofs.Order.{member_among}
+use Rattle.walk_laws.proofs.Walking.{present_in, walking_step, in_ungrounded, grounded_dependency}
 use Rattle.board_meaning.specs.Events.{History, library_after}
 use Rattle.board_meaning.specs.Claims.{open_claims, has_current_claim, is_claim_of, is_unchanged, inputs_of}
 use Rattle.board_meaning.specs.Standing.{stands}
@@ -16,10 +16,6 @@ use Rattle.board_laws.proofs.Standings.{ready_from}
 
 not_false : (b : Bool) → b ≡ false → not b ≡ true
 not_false b h = ap not h
-
-not_true : (b : Bool) → not b ≡ false → b ≡ true
-not_true true h = refl
-not_true false h = absurd (true≢false h)
 
 module _ (dependencies : Dependencies) (H : History) (closed : is_closed H ≡ false) (none : open_claims H ≡ []) where
   Waiting : Name → Type 0
@@ -41,7 +37,7 @@ module _ (dependencies : Dependencies) (H : History) (closed : is_closed H ≡ f
   waiting_dependency n w h =
       let q = all_not (λ (other : Name). not (is_present (library_after H) other) || stands dependencies H other) (direct dependencies (library_after H) n) h in
       let p = or_parts (not (is_present (library_after H) q.0)) (stands dependencies H q.0) q.2 in
-      (q.0, q.1, (grounded_dependency dependencies (library_after H) n q.0 w.0 (member_among (direct dependencies (library_after H) n) q.0 q.1) (not_true (is_present (library_after H) q.0) p.0), p.1))
+      (q.0, q.1, (grounded_dependency dependencies (library_after H) n q.0 w.0 (member_among (direct dependencies (library_after H) n) q.0 q.1) (not-false (is_present (library_after H) q.0) p.0), p.1))
 
   ready_now : (n : Name) → Waiting n → dependencies_stand dependencies H n ≡ true → is_some (least_ready dependencies H) ≡ true
   unfolding Waiting

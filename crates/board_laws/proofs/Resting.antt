@@ -1,29 +1,30 @@
 -- Standing names rest on standing names.
 use Rattle.std.proofs.Common.{◌≡◌, ℕ, suc, ◌<◌, Bool, true, false, not, List, ◌++◌, take, drop, slice_get, filter, Some, is_some, ◌||◌, ⊎_elim, sym, ap, ◌∙◌, subst, true≢false, arith, take-append-drop}
 use Rattle.std.proofs.lemmas.Bool.{cases_Bool, or_cases, or_from, or_left, or_right}
-use Rattle.log_meaning.specs.Names.{Name, same_name}
+use Rattle.name_meaning.specs.Names.{Name, same_name}
 use Rattle.log_meaning.specs.Log.{text_of, is_present}
 use Rattle.walk_meaning.specs.Walks.{Dependencies, direct}
 use Rattle.walk_meaning.specs.Reach.{reach}
-use Rattle.log_meaning.proofs.Members.{Member, append_left, in_filter, filter_in}
-use Rattle.log_meaning.proofs.Order.{same_sound, same_itself}
-use Rattle.walk_meaning.proofs.Walking.{depends_present}
-use Rattle.walk_meaning.proofs.Reaching.{reach_closed, reach_first, reach_least}
-use Rattle.walk_meaning.proofs.Agreement.{direct_same}
+use Rattle.list_laws.proofs.Members.{Member, append_left, in_filter, filter_in}
+use Rattle.name_laws.proofs.Order.{same_sound, same_itself}
+use Rattle.walk_laws.proofs.Walking.{depends_present}
+use Rattle.walk_laws.proofs.Reaching.{reach_closed, reach_first, reach_least}
+use Rattle.walk_laws.proofs.Agreement.{direct_same}
 use Rattle.board_meaning.specs.Events.{Entry, History, library_after}
 use Rattle.board_meaning.specs.Claims.{claimed_name, claim_at}
 use Rattle.board_meaning.specs.Standing.{installed_claim, installed_claims, is_edited, is_edited_after, is_unedited, stands}
 use Rattle.board_meaning.specs.Ready.{is_ready}
 use Rattle.board_meaning.specs.Legal.{IsLegal}
-use Rattle.log_meaning.proofs.Places.{take_take, drop_parts, drop_here, length_take}
-use Rattle.board_meaning.proofs.Histories.{filter_map_append, edited_append}
-use Rattle.board_meaning.proofs.Claiming.{claim_entry, claim_within, claim_front, since_claim, text_since, unedited_input, unedited_from}
+use Rattle.list_laws.proofs.Places.{take_take, drop_parts, drop_here, length_take}
+use Rattle.board_machine_laws.proofs.Histories.{edited_append}
+use Rattle.board_machine_laws.proofs.Claiming.{claim_entry, claim_within, claim_front, since_claim, text_since, unedited_input, unedited_from}
 use Rattle.board_laws.proofs.Legality.{legal_claim, legal_front}
 use Rattle.board_laws.proofs.Standings.{Supported, stands_by, by_stands, ready_parts, rests_on, reach_now}
+use Rattle.std.proofs.lemmas.List.Elements.{filter_map-append}
 
 pub installed_append : (H K : History) → installed_claims (H ++ K) ≡ installed_claims H ++ installed_claims K
 unfolding installed_claims
-installed_append H K = filter_map_append (λ (entry : Entry). installed_claim entry.event) H K
+installed_append H K = filter_map-append (λ (entry : Entry). installed_claim entry.event) H K
 
 module _ (dependencies : Dependencies) (H : History) (l : IsLegal dependencies H) where
   legal_before : (c : ℕ) → IsLegal dependencies (take c H)

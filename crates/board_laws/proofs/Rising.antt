@@ -1,19 +1,19 @@
 -- An install is of a name that did not stand before it.
 use Rattle.std.proofs.Common.{◌≡◌, ℕ, ◌<◌, ◌≤◌, true, false, not, length, take, slice_get, Some, is_some, ◌&&◌, ◌⊎◌, inl, inr, ⊎_elim, sym, ap, ◌∙◌, subst, true≢false, arith, eq-eqb}
-use Rattle.std.proofs.lemmas.Bool.{and_parts, false_from_ne_true}
-use Rattle.log_meaning.specs.Names.{Name}
+use Rattle.std.proofs.lemmas.Bool.{and_parts, false_from_ne_true, not-true}
+use Rattle.name_meaning.specs.Names.{Name}
 use Rattle.walk_meaning.specs.Walks.{Dependencies}
-use Rattle.log_meaning.proofs.Members.{any_of}
-use Rattle.log_meaning.proofs.Places.{place_within, take_length, get_take}
+use Rattle.list_laws.proofs.Members.{any_of}
+use Rattle.list_laws.proofs.Places.{place_within, take_length, get_take}
 use Rattle.board_meaning.specs.Events.{Install, Entry, History}
 use Rattle.board_meaning.specs.Claims.{claim_at, ends_claim, is_ended, is_open, is_claim_of, has_current_claim}
 use Rattle.board_meaning.specs.Standing.{installed_claim, is_unedited, installed_claims, stands}
 use Rattle.board_meaning.specs.Machine.{InstallCall, is_by, may_call}
 use Rattle.board_meaning.specs.Legal.{MayFollow, IsLegal}
-use Rattle.board_meaning.proofs.Claiming.{claim_within, installed_unedited, is_name_some}
+use Rattle.board_machine_laws.proofs.Claiming.{claim_within, installed_unedited, is_name_some}
 use Rattle.board_laws.proofs.Legality.{legal_claim, legal_install, event_install, follows_event}
 use Rattle.board_laws.proofs.Standings.{Supported, stands_by, by_stands, ready_parts, installed_is, in_filter_map, filter_map_in}
-use Rattle.board_meaning.proofs.Earlier.{not_true, place_member, current, claim_before, unedited_before, open_before}
+use Rattle.board_machine_laws.proofs.Earlier.{place_member, current, claim_before, unedited_before, open_before}
 
 module _ (dependencies : Dependencies) where
   pub stood_not : (H : History) → IsLegal dependencies H → (c : ℕ) (n : Name) → claim_at H c ≡ Some n → is_open H c ≡ true → is_unedited dependencies H c ≡ true → stands dependencies H n ≡ false
@@ -30,10 +30,10 @@ module _ (dependencies : Dependencies) where
           within m g = let w = claim_within H m n g in omega (arith, w)
 
           claimed_not : (m : ℕ) (g : claim_at H m ≡ Some n) → has_current_claim dependencies (take m H) n ≡ true → ⊥
-          claimed_not m g e = true≢false (sym e ∙ not_true (has_current_claim dependencies (take m H) n) (ready_parts dependencies (take m H) n (legal_claim dependencies H l m n g)).claimed_not)
+          claimed_not m g e = true≢false (sym e ∙ not-true (has_current_claim dependencies (take m H) n) (ready_parts dependencies (take m H) n (legal_claim dependencies H l m n g)).claimed_not)
 
           stands_not : stands dependencies (take c H) n ≡ true → ⊥
-          stands_not e = true≢false (sym e ∙ not_true (stands dependencies (take c H) n) (ready_parts dependencies (take c H) n (legal_claim dependencies H l c n h)).stands_not)
+          stands_not e = true≢false (sym e ∙ not-true (stands dependencies (take c H) n) (ready_parts dependencies (take c H) n (legal_claim dependencies H l c n h)).stands_not)
 
           order : (i j : ℕ) → (i < j) ⊎ ((j < i) ⊎ (i ≡ j))
           order i j = grind arith
@@ -71,7 +71,7 @@ module _ (dependencies : Dependencies) where
               same : d ≡ c → ⊥
               same m =
                   true≢false (sym (any_of (λ (entry : Entry). ends_claim c entry.event) H r.1 (place_member H r.0 r.1 r.2) (ap (ends_claim c) (installed_is r.1.event d r.3) ∙ eq-eqb c d (sym m)))
-                  ∙ not_true (is_ended H c) (and_parts (is_some (claim_at H c)) (not (is_ended H c)) o).1)
+                  ∙ not-true (is_ended H c) (and_parts (is_some (claim_at H c)) (not (is_ended H c)) o).1)
 
   pub install_of_waiting : (H : History) (e : Entry) (c : ℕ) (n : Name) → IsLegal dependencies H → MayFollow dependencies H e → e.event ≡ Install c → is_claim_of H n c ≡ true → stands dependencies H n ≡ false
   unfolding may_call

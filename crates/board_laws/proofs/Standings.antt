@@ -2,23 +2,23 @@
 use Rattle.std.proofs.Common.{◌≡◌, ℕ, zero, suc, ◌<◌, Bool, true, false, not, List, [], ◌∷◌, ◌++◌, length, take, drop, slice_get, filter_map, Option, Some, None, is_some, ◌||◌, ◌&&◌, ◌⊎◌, inl, inr, ⊎_elim, refl, sym, ap, ◌∙◌, subst, true≢false, Decides}
 use Rattle.std.specs.List.{list_any, cons_option}
 use Rattle.std.proofs.lemmas.Bool.{and_parts, and_from, not_from_false}
-use Rattle.log_meaning.specs.Names.{Name}
+use Rattle.name_meaning.specs.Names.{Name}
 use Rattle.log_meaning.specs.Log.{Library, is_present}
 use Rattle.walk_meaning.specs.Walks.{Dependencies, direct, is_grounded}
 use Rattle.walk_meaning.specs.Reach.{reach}
 use Rattle.walk_meaning.specs.Subject.{KeepsToReach}
-use Rattle.log_meaning.proofs.Members.{Member, any_found, any_of, any_not, any_none, all_at}
-use Rattle.log_meaning.proofs.Order.{among_member, member_among}
-use Rattle.log_meaning.proofs.Libraries.{library_ascending}
-use Rattle.walk_meaning.proofs.Agreement.{reach_same, grounded_same}
+use Rattle.list_laws.proofs.Members.{Member, any_found, any_of, any_not, any_none, all_at, in_option, option_first, option_rest}
+use Rattle.name_laws.proofs.Order.{among_member, member_among}
+use Rattle.log_laws.proofs.Libraries.{library_ascending}
+use Rattle.walk_laws.proofs.Agreement.{reach_same, grounded_same}
 use Rattle.board_meaning.specs.Events.{Event, EditMade, Claim, Install, Stale, Release, Close, Entry, History, log_of, library_after}
 use Rattle.board_meaning.specs.Claims.{claim_at, is_open, is_ended, inputs_of, input_names, is_claim_of, has_current_claim}
 use Rattle.board_meaning.specs.Standing.{installed_claim, installed_claims, is_edited_after, is_unedited, supports, stands, Stands}
 use Rattle.board_meaning.specs.Ready.{dependencies_stand, is_ready, is_closed}
 use Rattle.board_meaning.specs.Machine.{IsInstalled, install_reply, is_by, may_call}
 use Rattle.board_meaning.specs.Legal.{IsLegal}
-use Rattle.log_meaning.proofs.Places.{place_within}
-use Rattle.board_meaning.proofs.Claiming.{claim_within, claim_front, is_name_some, some_is_name, agrees_since}
+use Rattle.list_laws.proofs.Places.{place_within}
+use Rattle.board_machine_laws.proofs.Claiming.{claim_within, claim_front, is_name_some, some_is_name, agrees_since}
 use Rattle.board_laws.proofs.Legality.{legal_claim, legal_install}
 
 pub installed_is : (e : Event) (c : ℕ) → installed_claim e ≡ Some c → e ≡ Install c
@@ -36,19 +36,6 @@ installed_entry dependencies H l p c e s g = (legal_install dependencies H l p c
 
 -- ---- members of what a list gives, with their places
 
-in_option : {A : Type 0} (o : Option A) (xs : List A) (x : A) → Member x (cons_option o xs) → (o ≡ Some x) ⊎ Member x xs
-in_option None xs x m = inr m
-in_option (Some y) xs x (inl e) = inl (ap Some (sym e))
-in_option (Some y) xs x (inr m) = inr m
-
-option_in : {A : Type 0} (o : Option A) (xs : List A) (x : A) → o ≡ Some x → Member x (cons_option o xs)
-option_in None xs x e = absurd (cc)
-option_in (Some y) xs x e = inl (sym cc)
-
-option_rest : {A : Type 0} (o : Option A) (xs : List A) (x : A) → Member x xs → Member x (cons_option o xs)
-option_rest None xs x m = m
-option_rest (Some y) xs x m = inr m
-
 pub in_filter_map : {A B : Type 0} (f : A → Option B) (xs : List A) (y : B) → Member y (filter_map f xs) → (i : ℕ) × (x : A) × (slice_get xs i ≡ Some x) × (f x ≡ Some y)
 in_filter_map f [] y m = absurd m
 in_filter_map f (x ∷ xs) y m =
@@ -56,7 +43,7 @@ in_filter_map f (x ∷ xs) y m =
 
 pub filter_map_in : {A B : Type 0} (f : A → Option B) (xs : List A) (i : ℕ) (x : A) (y : B) → slice_get xs i ≡ Some x → f x ≡ Some y → Member y (filter_map f xs)
 filter_map_in f [] i x y s e = absurd (cc)
-filter_map_in f (z ∷ xs) zero x y s e = let q : z ≡ x = cc in option_in (f z) (filter_map f xs) y (ap f q ∙ e)
+filter_map_in f (z ∷ xs) zero x y s e = let q : z ≡ x = cc in option_first (f z) (filter_map f xs) y (ap f q ∙ e)
 filter_map_in f (z ∷ xs) (suc i) x y s e = option_rest (f z) (filter_map f xs) y (filter_map_in f xs i x y s e)
 
 -- ---- the test decides what it means

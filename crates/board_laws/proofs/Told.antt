@@ -2,27 +2,27 @@
 use Rattle.std.proofs.Common.{◌≡◌, ◌≢◌, ℕ, suc, Bool, true, false, not, List, [], ◌∷◌, ◌++◌, take, slice_get, find, cond, arith, Option, Some, None, option_map, option_and_then, option_to_list, length, is_some, ◌||◌, ◌&&◌, refl, sym, ap, ◌∙◌, subst, true≢false, eqb-true, append-nil, Decides}
 use Rattle.std.specs.List.{list_any, list_all}
 use Rattle.std.proofs.lemmas.Bool.{and_parts, and_from, not_from_false, false_from_ne_true}
-use Rattle.log_meaning.specs.Names.{Text, Name, same_name, is_among}
+use Rattle.name_meaning.specs.Names.{Text, Name, same_name, is_among}
 use Rattle.log_meaning.specs.Log.{Edit, edited_name, is_present, text_of}
 use Rattle.log_meaning.specs.Append.{Made, append_answer}
 use Rattle.walk_meaning.specs.Walks.{Dependencies, is_ungrounded}
 use Rattle.walk_meaning.specs.Reach.{reach}
-use Rattle.walk_meaning.specs.Subject.{Subject, KeepsToReach, AnswersPresent}
-use Rattle.log_meaning.proofs.Members.{Member, any_none, all_at, find_found}
-use Rattle.log_meaning.proofs.Order.{among_member, member_among, same_sound}
+use Rattle.walk_meaning.specs.Subject.{Subject, KeepsToReach, AnswersPresent, answers_of}
+use Rattle.list_laws.proofs.Members.{Member, any_none, all_at, find_found}
+use Rattle.name_laws.proofs.Order.{among_member, member_among, same_sound}
 use Rattle.board_meaning.specs.Events.{EditMade, Install, Entry, History, edit_of, edit_in, log_of, library_after, version_after, stamp_after}
 use Rattle.board_meaning.specs.Claims.{claim_at, is_open, Input, inputs_of, inputs_by, input_names, is_claim_of, inputs_after, is_unchanged, first_changed}
 use Rattle.board_meaning.specs.Standing.{installed_claim, is_edited_after, is_unedited, stands, Stands}
 use Rattle.board_meaning.specs.Ready.{is_ready, least_ready}
-use Rattle.board_meaning.specs.Machine.{Job, IsInstalled, IsStale, install_reply, IsVerdict, told_by, report_reply, is_by, may_call, answers_of, job_after, claim_reply, IsAbsent, IsPending, is_known, installed_by}
+use Rattle.board_meaning.specs.Machine.{Job, IsInstalled, IsStale, install_reply, IsVerdict, told_by, report_reply, is_by, may_call, job_after, claim_reply, IsAbsent, IsPending, is_known, installed_by}
 use Rattle.board_meaning.specs.Legal.{MayFollow, IsLegal}
 use Rattle.board_laws.specs.HistoryLaws.{log_with}
 use Rattle.board_laws.specs.StandingLaws.{IsFirstChanged, IsToldVerdict}
-use Rattle.board_meaning.proofs.Histories.{log_last}
-use Rattle.board_meaning.proofs.Claiming.{names_are, changed_later, unedited_installed, installed_unedited, installed_unchanged}
+use Rattle.board_machine_laws.proofs.Histories.{log_last}
+use Rattle.board_machine_laws.proofs.Claiming.{names_are, changed_later, unedited_installed, installed_unedited, installed_unchanged}
 use Rattle.board_laws.proofs.Legality.{legal_edit, event_install, follows_event, least_is_ready}
 use Rattle.board_laws.proofs.Standings.{answer_now, reach_now, ready_parts}
-use Rattle.log_meaning.proofs.Libraries.{library_ascending}
+use Rattle.log_laws.proofs.Libraries.{library_ascending}
 use Rattle.board_laws.proofs.Resting.{standing_reach, ready_rests}
 use Rattle.board_laws.proofs.Following.{edit_leaves, install_makes}
 

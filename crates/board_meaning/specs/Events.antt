@@ -1,9 +1,9 @@
 -- The history of a board: its entries, and the log and library that they determine (this profile).
 use Rattle.std.specs.Prelude.{ℕ, suc, List, filter_map, Option, Some, None}
-use Rattle.log_meaning.specs.Names.{Name}
+use Rattle.name_meaning.specs.Names.{Name}
 use Rattle.log_meaning.specs.Log.{Edit, Log, Library, library_of, version_of, stamp_of}
 
--- Read: an edit was made; a name was claimed; or the claim at this place of the history ended: its verdict was
+-- An edit was made; a name was claimed; or the claim at this place of the history ended: its verdict was
 -- installed, or it was found stale by an input of this name with this present stamp, or it was released; or the board
 -- was closed.
 pub data Event : Type 0 where
@@ -14,17 +14,17 @@ pub data Event : Type 0 where
   Release : ℕ → Event
   Close : Event
 
--- Read: what happened, the number of the pass that did it, and the version afterwards.
+-- What happened, the number of the pass that did it, and the version afterwards.
 pub record Entry : Type 0 where
   pub pass : ℕ
   pub version : ℕ
   pub event : Event
 
--- Read: all entries, in order.
+-- All entries, in order.
 abbrev pub History : Type 0
 History = List Entry
 
--- Read: the edit that was made, if that is what happened.
+-- The edit that was made, if that is what happened.
 abbrev pub edit_of : Event → Option Edit
 edit_of (EditMade edit) = Some edit
 edit_of (Claim name) = None
@@ -33,31 +33,31 @@ edit_of (Stale claim name newer) = None
 edit_of (Release claim) = None
 edit_of Close = None
 
--- Read: the edit of the entry, if it is one.
+-- The edit of the entry, if it is one.
 abbrev pub edit_in : Entry → Option Edit
 edit_in entry = edit_of entry.event
 
--- Read: the log that a history determines: the edits made, in order.
+-- The log that a history determines: the edits made, in order.
 unfoldable pub log_of : History → Log
 log_of history = filter_map edit_in history
 
--- Read: the library and the version that the log leaves.
+-- The library and the version that the log leaves.
 abbrev pub library_after : History → Library
 library_after history = library_of (log_of history)
 
 abbrev pub version_after : History → ℕ
 version_after history = version_of (log_of history)
 
--- Read: the version of the last edit of this name, else 0.
+-- The version of the last edit of this name, else 0.
 abbrev pub stamp_after : History → Name → ℕ
 stamp_after history name = stamp_of (log_of history) name
 
--- Read: the version after one more event, which an edit alone raises.
+-- The version after one more event, which an edit alone raises.
 abbrev pub version_with : ℕ → Option Edit → ℕ
 version_with version None = version
 version_with version (Some edit) = suc version
 
--- Read: the entry of this event, made by this pass after this history.
+-- The entry of this event, made by this pass after this history.
 abbrev pub entry_of : History → ℕ → Event → Entry
 entry_of history pass event =
     record { pass = pass; version = version_with (version_after history) (edit_of event); event = event }

@@ -5,4 +5,3 @@ pub mod Ready
 pub mod Machine
 pub mod Legal
 pub mod Points
-pub mod Examples

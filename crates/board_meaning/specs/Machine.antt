@@ -1,27 +1,17 @@
 -- The board as a machine: the reply and the entry of each call, from the history alone (this profile).
+use Rattle.walk_meaning.specs.Subject.{answers_of, present_answer, Subject}
 use Rattle.std.specs.Prelude.{ℕ, Bool, true, false, List, ◌++◌, ◌&&◌, ◌||◌, not, map, take, length, filter, nat_eq, slice_get, Option, Some, None, option_map, option_and_then, option_to_list, if◌then◌else◌}
-use Rattle.log_meaning.specs.Names.{Name, Text, same_name}
+use Rattle.name_meaning.specs.Names.{Name, Text, same_name}
 use Rattle.log_meaning.specs.Log.{Edit, Library, text_of, is_present}
 use Rattle.log_meaning.specs.Append.{Edited, Made, Same, Absent, Full, TooLong, TooMany, append_answer}
 use Rattle.walk_meaning.specs.Walks.{Dependencies, is_grounded, is_ungrounded}
 use Rattle.walk_meaning.specs.Reach.{reach}
-use Rattle.walk_meaning.specs.Subject.{Subject}
 use Rattle.board_meaning.specs.Events.{Event, EditMade, Claim, Install, Stale, Release, Close, Entry, History, log_of, library_after, version_after, entry_of}
 use Rattle.board_meaning.specs.Claims.{Input, claim_at, is_open, inputs_after, inputs_of, first_changed}
 use Rattle.board_meaning.specs.Standing.{stands}
 use Rattle.board_meaning.specs.Ready.{is_closed, least_ready}
 
--- Read: the subject's answer of a name, if the library has the name.
-abbrev pub present_answer : {Answer : Type 0} → Subject Answer → Library → Name → Option Answer
-present_answer subject library name = if is_present library name then subject.answer library name else None
-
--- Read: the subject's answers of the reach of a name, the name itself left out, in byte order. A name that is absent has
--- none.
-unfoldable pub answers_of : {Answer : Type 0} → Subject Answer → Library → Name → List (Name × Option Answer)
-answers_of subject library name =
-    map (λ (other : Name). (other, present_answer subject library other)) (filter (λ (other : Name). not (same_name name other)) (reach subject.dependencies library name))
-
--- Read: what a worker is handed: the place of its claim, the name and its text, the inputs with their stamps, and the
+-- What a worker is handed: the place of its claim, the name and its text, the inputs with their stamps, and the
 -- answers of the reach.
 pub record Job (Answer : Type 0) : Type 0 where
   pub claim : ℕ
@@ -30,44 +20,44 @@ pub record Job (Answer : Type 0) : Type 0 where
   pub inputs : List Input
   pub answers : List (Name × Option Answer)
 
--- Read: the job of a claim of this name that is made after this history. There is one where the name is present.
+-- The job of a claim of this name that is made after this history. There is one where the name is present.
 unfoldable pub job_after : {Answer : Type 0} → Subject Answer → History → Name → Option (Job Answer)
 job_after subject history name =
     option_map (λ (text : Text). record { claim = length history; name = name; text = text; inputs = inputs_after subject.dependencies history name; answers = answers_of subject (library_after history) name }) (text_of (library_after history) name)
 
--- Read: the job of the claim at this place.
+-- The job of the claim at this place.
 unfoldable pub job_of : {Answer : Type 0} → Subject Answer → History → ℕ → Option (Job Answer)
 job_of subject history place = option_and_then (job_after subject (take place history)) (claim_at history place)
 
--- Read: the reply to an edit is the log's.
+-- The reply to an edit is the log's.
 abbrev pub edit_reply : History → Edit → Edited
 edit_reply history edit = append_answer (log_of history) edit
 
--- Read: the reply to a claim is the job of the least ready name, if one is ready.
+-- The reply to a claim is the job of the least ready name, if one is ready.
 abbrev pub claim_reply : {Answer : Type 0} → Subject Answer → History → Option (Job Answer)
 claim_reply subject history = option_and_then (job_after subject history) (least_ready subject.dependencies history)
 
--- Read: the verdict was installed; or an input has changed, which is named with its present stamp.
+-- The verdict was installed; or an input has changed, which is named with its present stamp.
 pub data Installed : Type 0 where
   IsInstalled : Installed
   IsStale : Name → ℕ → Installed
 
--- Read: installed where no input has changed.
+-- Installed where no input has changed.
 abbrev pub installed_by : Option Input → Installed
 installed_by None = IsInstalled
 installed_by (Some input) = IsStale input.name input.stamp
 
--- Read: the reply to an install of the claim at this place.
+-- The reply to an install of the claim at this place.
 unfoldable pub install_reply : Dependencies → History → ℕ → Installed
 install_reply dependencies history place = installed_by (first_changed history (inputs_of dependencies history place))
 
--- Read: the verdict of a name, that it is to come, or that the name is absent, each with the version.
+-- The verdict of a name, that it is to come, or that the name is absent, each with the version.
 pub data Told (Answer : Type 0) : Type 0 where
   IsVerdict : Answer → ℕ → Told Answer
   IsPending : ℕ → Told Answer
   IsAbsent : ℕ → Told Answer
 
--- Read: what is told of a name by whether it is present, whether its answer may be told, and the answer. A subject answers
+-- What is told of a name by whether it is present, whether its answer may be told, and the answer. A subject answers
 -- of each present name; where one did not, the verdict would be to come.
 abbrev pub told_by : {Answer : Type 0} → ℕ → (present known : Bool) → Option Answer → Told Answer
 told_by version false known answer = IsAbsent version
@@ -75,23 +65,23 @@ told_by version true false answer = IsPending version
 told_by version true true None = IsPending version
 told_by version true true (Some answer) = IsVerdict answer version
 
--- Read: the answer of this name may be told: it is ungrounded, or has a standing verdict.
+-- The answer of this name may be told: it is ungrounded, or has a standing verdict.
 abbrev pub is_known : Dependencies → History → Name → Bool
 is_known dependencies history name =
     is_ungrounded dependencies (library_after history) name || stands dependencies history name
 
--- Read: the reply to a report: that the name is absent; or its verdict, where that may be told; else that it is to come.
+-- The reply to a report: that the name is absent; or its verdict, where that may be told; else that it is to come.
 unfoldable pub report_reply : {Answer : Type 0} → Subject Answer → History → Name → Told Answer
 report_reply subject history name =
     told_by (version_after history) (is_present (library_after history) name) (is_known subject.dependencies history name) (subject.answer (library_after history) name)
 
--- Read: the answers of the reach of a grounded name with a standing verdict.
+-- The answers of the reach of a grounded name with a standing verdict.
 unfoldable pub answers_reply : {Answer : Type 0} → Subject Answer → History → Name → Option (List (Name × Option Answer))
 answers_reply subject history name =
     if is_grounded subject.dependencies (library_after history) name && stands subject.dependencies history name
     then Some (answers_of subject (library_after history) name) else None
 
--- Read: the calls that may make an entry. An install or release is of the claim at a place.
+-- The calls that may make an entry. An install or release is of the claim at a place.
 pub data Call : Type 0 where
   EditCall : Edit → Call
   ClaimCall : Call
@@ -99,7 +89,7 @@ pub data Call : Type 0 where
   ReleaseCall : ℕ → Call
   CloseCall : Call
 
--- Read: the event of an edit that was answered so: one that was made.
+-- The event of an edit that was answered so: one that was made.
 abbrev pub edit_event : Edit → Edited → Option Event
 edit_event edit (Made version) = Some (EditMade edit)
 edit_event edit (Same version) = None
@@ -108,12 +98,12 @@ edit_event edit Full = None
 edit_event edit TooLong = None
 edit_event edit TooMany = None
 
--- Read: the event of an install of this claim that was replied to so.
+-- The event of an install of this claim that was replied to so.
 abbrev pub install_event : ℕ → Installed → Event
 install_event place IsInstalled = Install place
 install_event place (IsStale name newer) = Stale place name newer
 
--- Read: what the call adds to the history, if it adds anything.
+-- What the call adds to the history, if it adds anything.
 unfoldable pub event_of : Dependencies → History → Call → Option Event
 event_of dependencies history (EditCall edit) = edit_event edit (edit_reply history edit)
 event_of dependencies history ClaimCall = option_map Claim (least_ready dependencies history)
@@ -121,12 +111,12 @@ event_of dependencies history (InstallCall place) = Some (install_event place (i
 event_of dependencies history (ReleaseCall place) = Some (Release place)
 event_of dependencies history CloseCall = if is_closed history then None else Some Close
 
--- Read: the entry at this place, if there is one, is of this pass.
+-- The entry at this place, if there is one, is of this pass.
 abbrev pub is_by : ℕ → Option Entry → Bool
 is_by pass None = false
 is_by pass (Some entry) = nat_eq pass entry.pass
 
--- Read: the pass may make the call. Edits and the close are for pass 0 alone; a claim is ended by the pass that made it,
+-- The pass may make the call. Edits and the close are for pass 0 alone; a claim is ended by the pass that made it,
 -- and once.
 unfoldable pub may_call : History → ℕ → Call → Bool
 may_call history pass (EditCall edit) = nat_eq pass 0
@@ -135,10 +125,10 @@ may_call history pass (InstallCall place) = is_open history place && is_by pass 
 may_call history pass (ReleaseCall place) = is_open history place && is_by pass (slice_get history place)
 may_call history pass CloseCall = nat_eq pass 0
 
--- Read: the entry of the call, if it makes one.
+-- The entry of the call, if it makes one.
 abbrev pub entry_by : Dependencies → History → ℕ → Call → Option Entry
 entry_by dependencies history pass call = option_map (entry_of history pass) (event_of dependencies history call)
 
--- Read: the history after the call.
+-- The history after the call.
 unfoldable pub after_call : Dependencies → History → ℕ → Call → History
 after_call dependencies history pass call = history ++ option_to_list (entry_by dependencies history pass call)

@@ -1,7 +1,7 @@
 -- What a pass has seen of a board that several threads share, and the point at which a call of it happens (this profile).
 use Rattle.std.specs.Prelude.{◌≡◌, ℕ, Bool, true, List, [], ◌++◌, not, filter, nat_eq, nat_lt, Option, option_to_list}
 use Rattle.std.specs.List.{list_all}
-use Rattle.log_meaning.specs.Names.{Name}
+use Rattle.name_meaning.specs.Names.{Name}
 use Rattle.log_meaning.specs.Append.{Edited}
 use Rattle.walk_meaning.specs.Walks.{Dependencies}
 use Rattle.walk_meaning.specs.Subject.{Subject}
@@ -10,19 +10,19 @@ use Rattle.board_meaning.specs.Ready.{is_closed}
 use Rattle.board_meaning.specs.Machine.{Job, Installed, Told, Call, EditCall, ClaimCall, InstallCall, ReleaseCall, CloseCall, edit_reply, claim_reply, install_reply, report_reply, answers_reply, may_call, entry_by}
 use Rattle.board_meaning.specs.Legal.{IsLegal}
 
--- Read: no entry is of this pass.
+-- No entry is of this pass.
 abbrev pub are_of_others : ℕ → History → Bool
 are_of_others pass history = list_all (λ (entry : Entry). not (nat_eq pass entry.pass)) history
 
--- Read: each entry is of a pass with a number below this one.
+-- Each entry is of a pass with a number below this one.
 abbrev pub are_below : ℕ → History → Bool
 are_below made history = list_all (λ (entry : Entry). nat_lt entry.pass made) history
 
--- Read: the entries of this pass, in order.
+-- The entries of this pass, in order.
 abbrev pub entries_of : ℕ → History → History
 entries_of pass history = filter (λ (entry : Entry). nat_eq pass entry.pass) history
 
--- Read: the point of a call through a pass that has seen these entries: a legal history that begins with them, all
+-- The point of a call through a pass that has seen these entries: a legal history that begins with them, all
 -- later entries being those of other passes.
 pub record IsPoint (dependencies : Dependencies) (seen : History) (pass : ℕ) (point : History) : Type 0 where
   pub later : History
@@ -30,7 +30,7 @@ pub record IsPoint (dependencies : Dependencies) (seen : History) (pass : ℕ) (
   pub others : are_of_others pass later ≡ true
   pub legal : IsLegal dependencies point
 
--- Read: any call of a board: one that may make an entry, or one that asks for a verdict, for the answers of a reach, or
+-- Any call of a board: one that may make an entry, or one that asks for a verdict, for the answers of a reach, or
 -- whether the board is closed.
 pub data BoardCall : Type 0 where
   Makes : Call → BoardCall
@@ -38,7 +38,7 @@ pub data BoardCall : Type 0 where
   AsksAnswers : Name → BoardCall
   AsksClosed : BoardCall
 
--- Read: the reply to a call. A release and a close have none.
+-- The reply to a call. A release and a close have none.
 pub data Reply (Answer : Type 0) : Type 0 where
   EditReply : Edited → Reply Answer
   ClaimReply : Option (Job Answer) → Reply Answer
@@ -55,28 +55,28 @@ reply_to subject history (InstallCall claim) = InstallReply (install_reply subje
 reply_to subject history (ReleaseCall claim) = NoReply
 reply_to subject history CloseCall = NoReply
 
--- Read: the machine's reply to a call after this history.
+-- The machine's reply to a call after this history.
 abbrev pub reply_of : {Answer : Type 0} → Subject Answer → History → BoardCall → Reply Answer
 reply_of subject history (Makes call) = reply_to subject history call
 reply_of subject history (Reports name) = ReportReply (report_reply subject history name)
 reply_of subject history (AsksAnswers name) = AnswersReply (answers_reply subject history name)
 reply_of subject history AsksClosed = ClosedReply (is_closed history)
 
--- Read: the pass may make the call after this history. Any pass may ask.
+-- The pass may make the call after this history. Any pass may ask.
 abbrev pub may_ask : History → ℕ → BoardCall → Bool
 may_ask history pass (Makes call) = may_call history pass call
 may_ask history pass (Reports name) = true
 may_ask history pass (AsksAnswers name) = true
 may_ask history pass AsksClosed = true
 
--- Read: what the call adds to the history.
+-- What the call adds to the history.
 abbrev pub added_by : Dependencies → History → ℕ → BoardCall → History
 added_by dependencies history pass (Makes call) = option_to_list (entry_by dependencies history pass call)
 added_by dependencies history pass (Reports name) = []
 added_by dependencies history pass (AsksAnswers name) = []
 added_by dependencies history pass AsksClosed = []
 
--- Read: a call through a pass that has seen these entries happens at a point: the pass may make it there, its reply is the
+-- A call through a pass that has seen these entries happens at a point: the pass may make it there, its reply is the
 -- machine's there, and the pass has then seen the point, with the call's entry, if it makes one, at its end.
 pub record Happens {Answer : Type 0} (subject : Subject Answer) (seen : History) (pass : ℕ) (call : BoardCall) (reply : Reply Answer) (after : History) : Type 0 where
   pub point : History
@@ -85,7 +85,7 @@ pub record Happens {Answer : Type 0} (subject : Subject Answer) (seen : History)
   pub replies : reply ≡ reply_of subject point call
   pub sees : after ≡ point ++ added_by subject.dependencies point pass call
 
--- Read: a call through a pass that has seen these entries finds no memory: it has a point, at which the pass may make it; it
+-- A call through a pass that has seen these entries finds no memory: it has a point, at which the pass may make it; it
 -- makes no entry there, and the pass has then seen the point.
 pub record FindsNoMemory (dependencies : Dependencies) (seen : History) (pass : ℕ) (call : BoardCall) (after : History) : Type 0 where
   pub point : History

@@ -1,13 +1,13 @@
 -- Which verdicts stand. No verdict is in the history: a standing one is the subject's answer (this profile).
 use Rattle.std.specs.Prelude.{◌≡◌, ℕ, suc, Bool, true, false, List, ◌&&◌, not, drop, slice_get, filter_map, length, Option, Some, None}
 use Rattle.std.specs.List.{list_any}
-use Rattle.log_meaning.specs.Names.{Name, same_name, is_among}
+use Rattle.name_meaning.specs.Names.{Name, same_name, is_among}
 use Rattle.log_meaning.specs.Log.{Edit, edited_name}
 use Rattle.walk_meaning.specs.Walks.{Dependencies}
 use Rattle.board_meaning.specs.Events.{Event, EditMade, Claim, Install, Stale, Release, Close, Entry, History, edit_in}
 use Rattle.board_meaning.specs.Claims.{claim_at, is_claim_of, inputs_of, input_names}
 
--- Read: the place of the claim whose verdict was installed, if that is what happened.
+-- The place of the claim whose verdict was installed, if that is what happened.
 abbrev pub installed_claim : Event → Option ℕ
 installed_claim (EditMade edit) = None
 installed_claim (Claim name) = None
@@ -16,37 +16,37 @@ installed_claim (Stale claim name newer) = None
 installed_claim (Release claim) = None
 installed_claim Close = None
 
--- Read: the claims whose verdicts were installed, in order of the installs.
+-- The claims whose verdicts were installed, in order of the installs.
 unfoldable pub installed_claims : History → List ℕ
 installed_claims history = filter_map (λ (entry : Entry). installed_claim entry.event) history
 
--- Read: the edit, if there is one, is of this name.
+-- The edit, if there is one, is of this name.
 abbrev pub is_edit_of : Name → Option Edit → Bool
 is_edit_of name None = false
 is_edit_of name (Some edit) = same_name name (edited_name edit)
 
--- Read: some entry is an edit of this name.
+-- Some entry is an edit of this name.
 unfoldable pub is_edited : History → Name → Bool
 is_edited history name = list_any (λ (entry : Entry). is_edit_of name (edit_in entry)) history
 
--- Read: the name was edited after this place.
+-- The name was edited after this place.
 abbrev pub is_edited_after : History → ℕ → Name → Bool
 is_edited_after history place name = is_edited (drop (suc place) history) name
 
--- Read: no input of the claim at this place was edited after it. A way back to an old text is two edits.
+-- No input of the claim at this place was edited after it. A way back to an old text is two edits.
 unfoldable pub is_unedited : Dependencies → History → ℕ → Bool
 is_unedited dependencies history place =
     not (list_any (is_edited_after history place) (input_names (inputs_of dependencies history place)))
 
--- Read: the claim at this place is of this name, and no input of it was edited after it.
+-- The claim at this place is of this name, and no input of it was edited after it.
 abbrev pub supports : Dependencies → History → Name → ℕ → Bool
 supports dependencies history name place = is_claim_of history name place && is_unedited dependencies history place
 
--- Read: the name has a standing verdict.
+-- The name has a standing verdict.
 unfoldable pub stands : Dependencies → History → Name → Bool
 stands dependencies history name = list_any (supports dependencies history name) (installed_claims history)
 
--- Read: the history has an install of a claim of this name, and no input of that claim was edited after the claim.
+-- The history has an install of a claim of this name, and no input of that claim was edited after the claim.
 pub record Stands (dependencies : Dependencies) (history : History) (name : Name) : Type 0 where
   pub claim : ℕ
   pub install : ℕ
@@ -56,6 +56,6 @@ pub record Stands (dependencies : Dependencies) (history : History) (name : Name
   pub installed : entry.event ≡ Install claim
   pub unedited : (other : Name) → is_among (input_names (inputs_of dependencies history claim)) other ≡ true → is_edited_after history claim other ≡ false
 
--- Read: the number of installs.
+-- The number of installs.
 abbrev pub installs : History → ℕ
 installs history = length (installed_claims history)

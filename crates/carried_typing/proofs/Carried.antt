@@ -1,13 +1,13 @@
 -- What is carried along an accepted view is a typing judgement.
 use Rattle.std.proofs.Common.{◌≡◌, [], ◌++◌, sym, ap, subst, subst₂}
-use Rattle.lf_meaning.specs.Terms.{Name, Object, Family}
+use Rattle.name_meaning.specs.Names.{Name, Text}
+use Rattle.lf_meaning.specs.Terms.{Object, Family}
 use Rattle.lf_meaning.specs.Judgements.{IsTyping}
-use Rattle.log_meaning.specs.Names.{Text}
 use Rattle.library_meaning.specs.Faces.{Environment, includes_of, own_of, own_parts, flat_signature, flat_of}
 use Rattle.library_meaning.specs.Coherence.{IsCoherent}
 use Rattle.expansion_typing.specs.TypingOfExpansion.{IsTypedScope}
 use Rattle.expansion_typing.proofs.Expanding.{standing_object_checks, standing_family_is_family}
-use Rattle.link_meaning.proofs.Linked.{known_theory}
+use Rattle.link_laws.proofs.Linked.{known_theory}
 use Rattle.link_coherence_laws.proofs.Onces.{Once, once_names}
 use Rattle.link_coherence_laws.proofs.WordsHold.{flat_once}
 use Rattle.verdict_meaning.specs.Modules.{scope_in}
@@ -16,8 +16,8 @@ use Rattle.coherence_laws.proofs.LibrariesHold.{library_coherent}
 use Rattle.row_typing.specs.TypedFaces.{IsTypedEnvironment}
 use Rattle.link_typing.proofs.LinksTyped.{links_are_typed}
 use Rattle.face_typing.proofs.LibrariesTyped.{faces_are_typed, known_views_carry}
-use Rattle.judged_output.specs.CarryingLaws.{IsTranslated}
-use Rattle.judged_output.proofs.Translated.{carry_is_translation}
+use Rattle.judged_laws.specs.CarryingLaws.{IsTranslated}
+use Rattle.judged_laws.proofs.Translated.{carry_is_translation}
 use Rattle.carried_typing.specs.CarriedTyping.{CarriedIsTyping, LibrariesCarryTyping}
 
 module _ (environment : Environment) (coherent : IsCoherent environment) (typed : IsTypedEnvironment environment) (name : Name) (text : Text) (object : Object) (family : Family) (t : IsTranslated environment name text object family) where

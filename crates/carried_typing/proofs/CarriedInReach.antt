@@ -3,19 +3,19 @@
 use Rattle.std.proofs.Common.{◌≡◌, Bool, true, false, List, [], is_some, refl, sym, ap, ◌∙◌, subst, true≢false}
 use Rattle.lf_meaning.specs.Terms.{Object, Family}
 use Rattle.lf_meaning.specs.Judgements.{IsTyping}
-use Rattle.log_meaning.specs.Names.{Name, Text, is_among}
+use Rattle.name_meaning.specs.Names.{Name, Text, is_among}
 use Rattle.log_meaning.specs.Log.{Library, is_present}
-use Rattle.log_meaning.proofs.Order.{among_member, member_among}
+use Rattle.name_laws.proofs.Order.{among_member, member_among}
 use Rattle.walk_meaning.specs.Reach.{reach}
-use Rattle.walk_meaning.proofs.Reaching.{reach_first}
+use Rattle.walk_laws.proofs.Reaching.{reach_first}
 use Rattle.holding_laws.proofs.Declared.{place_of}
 use Rattle.library_meaning.specs.Faces.{IsView, theory_face, Environment, theory_of}
 use Rattle.library_meaning.specs.Coherence.{IsCoherent}
-use Rattle.link_meaning.proofs.Linked.{known_theory}
-use Rattle.verdict_meaning.specs.Dependencies.{dependencies}
+use Rattle.link_laws.proofs.Linked.{known_theory}
+use Rattle.text_meaning.specs.Dependencies.{dependencies}
 use Rattle.verdict_meaning.specs.Modules.{scope_in}
 use Rattle.verdict_meaning.specs.Rounds.{verdict_under, known_if, known_of, verdicts, told_by}
-use Rattle.verdict_meaning.proofs.Shortness.{reach_within_reach}
+use Rattle.verdict_laws.proofs.Shortness.{reach_within_reach}
 use Rattle.coherence_laws.specs.CoherenceLaws.{AreClosed}
 use Rattle.coherence_laws.proofs.LibrariesHold.{told_under, known_in, absent_known, closed_are_coherent}
 use Rattle.acceptance_laws.proofs.Alike.{Alike, alike_back, AllNamed, flat_alike, stands_for_alike}
@@ -24,9 +24,9 @@ use Rattle.row_typing.specs.TypedFaces.{IsTypedEnvironment}
 use Rattle.link_typing.proofs.LinksTyped.{links_are_typed}
 use Rattle.face_typing.proofs.LibrariesTyped.{closed_are_typed}
 use Rattle.printing_meaning.specs.CarriedLines.{Carries}
-use Rattle.judged_output.specs.Carrying.{carry}
-use Rattle.judged_output.specs.CarryingLaws.{IsTranslated}
-use Rattle.judged_output.proofs.Translated.{carry_is_translation}
+use Rattle.judged_meaning.specs.Carrying.{carry}
+use Rattle.judged_laws.specs.CarryingLaws.{IsTranslated}
+use Rattle.judged_laws.proofs.Translated.{carry_is_translation}
 use Rattle.carried_typing.specs.CarriedTyping.{IsCarried, HaveReachOf, FacesCarryTyping, FacesCarryAlike}
 use Rattle.carried_typing.proofs.Carried.{translated_from, translated_to}
 

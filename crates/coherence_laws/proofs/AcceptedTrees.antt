@@ -1,25 +1,25 @@
 -- What is accepted comes from a text that reads as a tree, which has passed its tests.
 use Rattle.std.proofs.Common.{◌≡◌, ℕ, Bool, true, false, List, length, Some, Ok, Err, refl, sym, ap, ◌∙◌}
-use Rattle.lf_meaning.specs.Signatures.{same_name as same_bytes}
-use Rattle.lf_meaning.proofs.Equality.{same_name_sound}
-use Rattle.log_meaning.specs.Names.{Name, Text, is_among}
+use Rattle.name_meaning.specs.Names.{same_name as same_bytes, Name, Text, is_among}
 use Rattle.log_meaning.specs.Log.{Library, text_of}
-use Rattle.text_meaning.specs.Trees.{Written, Decl, Module, SigModule, ViewModule}
+use Rattle.text_meaning.specs.Trees.{Written, Decl, Module, SigModule, ViewModule, first_name}
 use Rattle.text_meaning.specs.Reading.{ModuleText, ModuleTree, JudgementTree, Answer, Read, Syntax, TooDeep, Unsupported}
-use Rattle.text_laws.specs.ReadingLaws.{read}
+use Rattle.text_meaning.specs.TextAnswers.{read}
 use Rattle.library_meaning.specs.Faces.{TheoryFace, ViewFace, IsTheory, Environment, flat_signature}
 use Rattle.expansion_meaning.specs.Rules.{Rule}
-use Rattle.expansion_meaning.proofs.Binding.{came_by, some_same}
 use Rattle.link_meaning.specs.Refusals.{Outcome, demand}
-use Rattle.link_meaning.proofs.Covered.{good_same}
-use Rattle.link_meaning.proofs.Valued.{demand_holds}
-use Rattle.verdict_meaning.specs.Dependencies.{first_name}
+use Rattle.link_laws.proofs.Covered.{good_same}
+use Rattle.link_laws.proofs.Valued.{demand_holds}
 use Rattle.verdict_meaning.specs.Modules.{empty_theory, declare_all, checked_view}
 use Rattle.verdict_meaning.specs.Verdicts.{Interface, Theory, View, Verdict, Accepted, Refused, verdict_by, known_by, written_name, checked, judge_tree, judge_answer, judge}
-use Rattle.verdict_meaning.specs.Rounds.{ungrounded_names, verdict_of}
-use Rattle.verdict_meaning.specs.VerdictLaws.{known_to}
-use Rattle.verdict_meaning.proofs.Verdicts.{verdict_is_judged}
+use Rattle.verdict_meaning.specs.Rounds.{verdict_of, known_to}
+use Rattle.verdict_laws.proofs.Verdicts.{verdict_is_judged}
 use Rattle.coherence_laws.proofs.LibrariesHold.{cycle_refuses, verdict_text}
+use Rattle.std.proofs.lemmas.Option.{same_Some}
+use Rattle.name_laws.proofs.Order.{same_sound}
+use Rattle.list_laws.proofs.Answers.{came_by}
+use Rattle.walk_meaning.specs.Walks.{ungrounded_names}
+use Rattle.text_meaning.specs.Dependencies.{dependencies}
 
 -- ---- a module that passes its tests
 
@@ -65,7 +65,7 @@ tree_passes environment ungrounded name tree true interface h = absurd (cycle_re
 tree_passes environment ungrounded name tree false interface h =
     let n = came_by (demand (same_bytes (first_name (written_name tree).path) name) (written_name tree).span Rule.WrongName (written_name tree).path) _ interface h in
     record {
-      named = same_name_sound (first_name (written_name tree).path) name (demand_holds (same_bytes (first_name (written_name tree).path) name) (written_name tree).span Rule.WrongName (written_name tree).path n.item n.came);
+      named = same_sound (first_name (written_name tree).path) name (demand_holds (same_bytes (first_name (written_name tree).path) name) (written_name tree).span Rule.WrongName (written_name tree).path n.item n.came);
       passes = n.goes;
     }
 
@@ -112,7 +112,7 @@ from_library library name interface h =
     record {
       text = t.0;
       has = t.1;
-      from = from_text (known_to library name) (is_among (ungrounded_names library)) name t.0 interface (some_same (sym (verdict_is_judged library name t.0 t.1) ∙ h));
+      from = from_text (known_to library name) (is_among (ungrounded_names dependencies library)) name t.0 interface (same_Some _ _ (sym (verdict_is_judged library name t.0 t.1) ∙ h));
     }
 
 -- what is known as a theory was accepted with a size

@@ -1,37 +1,36 @@
 -- The closure of an accepted theory is that of the inclusions of its text, and has what it reaches by inclusions alone.
 use Rattle.std.proofs.Common.{◌≡◌, ℕ, zero, suc, true, List, [], ◌∷◌, map, fold, flat_map, length, Option, Some, None, is_some, Ok, inl, inr, ⊎_elim, refl, sym, ap, ◌∙◌, subst, true≢false}
 use Rattle.std.proofs.lemmas.List.Sums.{fold-append}
-use Rattle.log_meaning.specs.Names.{Name, Text}
+use Rattle.name_meaning.specs.Names.{Name, Text}
 use Rattle.log_meaning.specs.Log.{Library, text_of}
-use Rattle.log_meaning.proofs.Members.{Member, in_append, in_map, map_in, in_flat_map, flat_map_in}
-use Rattle.log_meaning.proofs.Order.{among_member, member_among}
+use Rattle.list_laws.proofs.Members.{Member, in_append, in_map, map_in, in_flat_map, flat_map_in}
+use Rattle.name_laws.proofs.Order.{among_member, member_among}
 use Rattle.walk_meaning.specs.Walks.{of_text, direct, walking}
-use Rattle.walk_meaning.proofs.Walking.{present_in, depends_present}
-use Rattle.text_meaning.specs.Trees.{Written, Decl, IncludeDecl, StructDecl, ConstDecl, SigModule, ViewModule}
+use Rattle.walk_laws.proofs.Walking.{present_in, depends_present}
+use Rattle.text_meaning.specs.Trees.{Written, Decl, IncludeDecl, StructDecl, ConstDecl, SigModule, ViewModule, first_name}
 use Rattle.text_meaning.specs.Reading.{ModuleText, ModuleTree, JudgementTree, Answer, Read, Syntax, TooDeep, Unsupported}
-use Rattle.text_laws.specs.ReadingLaws.{read}
+use Rattle.text_meaning.specs.TextAnswers.{read}
 use Rattle.library_meaning.specs.Faces.{TheoryFace, IsTheory, Environment, theory_of, includes_of}
 use Rattle.library_meaning.specs.Closure.{sees, with_inclusion, closure_of}
-use Rattle.library_meaning.specs.ClosureLaws.{Brings}
-use Rattle.library_meaning.proofs.ClosureMembers.{closure_member, closure_new, closure_same}
+use Rattle.library_laws.specs.ClosureLaws.{Brings}
+use Rattle.library_laws.proofs.ClosureMembers.{closure_member, closure_new, closure_same}
 use Rattle.expansion_meaning.specs.Values.{expand_class}
-use Rattle.expansion_meaning.proofs.Binding.{came_by}
 use Rattle.link_meaning.specs.Refusals.{labelled}
 use Rattle.link_meaning.specs.Passes.{link_map}
-use Rattle.link_meaning.proofs.Covered.{good_same}
-use Rattle.link_meaning.proofs.Linked.{known_theory}
-use Rattle.verdict_meaning.specs.Dependencies.{Dependency, first_name, decl_dependencies, module_dependencies, answer_dependencies, dependencies}
+use Rattle.link_laws.proofs.Covered.{good_same}
+use Rattle.link_laws.proofs.Linked.{known_theory}
+use Rattle.text_meaning.specs.Dependencies.{Dependency, decl_dependencies, module_dependencies, answer_dependencies, dependencies}
 use Rattle.verdict_meaning.specs.Inclusions.{decl_inclusions, answer_inclusions, text_inclusions, inclusions_in, ReachesByInclusions, Directly, Through}
 use Rattle.verdict_meaning.specs.Modules.{module_test, scope_in, unused_test, declared_value, structure_setting, declare, declare_all, empty_theory}
 use Rattle.verdict_meaning.specs.Verdicts.{Theory, Verdict, Accepted, known_by}
-use Rattle.verdict_meaning.specs.Rounds.{verdict_of, told_by}
-use Rattle.verdict_meaning.specs.VerdictLaws.{known_to}
-use Rattle.verdict_meaning.proofs.Shortness.{Short, short_step}
+use Rattle.verdict_meaning.specs.Rounds.{verdict_of, told_by, known_to}
+use Rattle.verdict_laws.proofs.Shortness.{Short, short_step}
 use Rattle.coherence_laws.specs.InclusionLaws.{ClosureIsOfText, AcceptedHasClosure, ClosureIsReached, ReachedAreAccepted, AcceptedNotReachedByItself}
 use Rattle.coherence_laws.proofs.ModulesHold.{known_by_test, theory_there}
 use Rattle.coherence_laws.proofs.Transfer.{theory_same}
 use Rattle.coherence_laws.proofs.LibrariesHold.{told, sound, tells_more, accepted_theory, library_coherent}
 use Rattle.coherence_laws.proofs.AcceptedTrees.{FromDeclarations, from_declarations, FromLibrary, from_library, theory_verdict}
+use Rattle.list_laws.proofs.Answers.{came_by}
 
 -- ---- one module
 

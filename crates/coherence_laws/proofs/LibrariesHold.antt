@@ -2,37 +2,35 @@
 use Rattle.std.proofs.Common.{◌≡◌, ℕ, zero, suc, Bool, true, false, cond, not, List, [], ◌∷◌, filter, length, Option, Some, None, is_some, Ok, Err, ◌⊎◌, inl, inr, ⊎_elim, refl, sym, ap, ◌∙◌, subst, true≢false}
 use Rattle.std.specs.Prelude.{⊤}
 use Rattle.std.proofs.lemmas.Bool.{cases_Bool}
-use Rattle.lf_meaning.specs.Signatures.{same_name as same_bytes}
-use Rattle.lf_meaning.proofs.Equality.{same_name_sound}
-use Rattle.log_meaning.specs.Names.{Name, Text, same_name, is_among}
+use Rattle.name_meaning.specs.Names.{same_name as same_bytes, Name, Text, same_name, is_among}
 use Rattle.log_meaning.specs.Log.{Library, text_of, is_present}
-use Rattle.log_meaning.proofs.Members.{Member, filter_in}
-use Rattle.log_meaning.proofs.Order.{member_among, same_sound, same_itself}
-use Rattle.walk_meaning.specs.Walks.{of_text, direct, walking, is_ungrounded, is_grounded}
+use Rattle.list_laws.proofs.Members.{Member, filter_in}
+use Rattle.name_laws.proofs.Order.{member_among, same_sound, same_itself}
+use Rattle.walk_meaning.specs.Walks.{of_text, direct, walking, is_ungrounded, is_grounded, ungrounded_names}
 use Rattle.walk_meaning.specs.Reach.{reach}
-use Rattle.walk_meaning.proofs.Walking.{present_in}
-use Rattle.walk_meaning.proofs.Reaching.{reach_least}
-use Rattle.text_meaning.specs.Trees.{Module, SigModule, ViewModule}
+use Rattle.walk_laws.proofs.Walking.{present_in}
+use Rattle.walk_laws.proofs.Reaching.{reach_least}
+use Rattle.text_meaning.specs.Trees.{Module, SigModule, ViewModule, first_name}
 use Rattle.text_meaning.specs.Reading.{ModuleText, ModuleTree, JudgementTree, Answer, Read, Syntax, TooDeep, Unsupported}
-use Rattle.text_laws.specs.ReadingLaws.{read}
+use Rattle.text_meaning.specs.TextAnswers.{read}
 use Rattle.library_meaning.specs.Faces.{TheoryFace, ViewFace, Known, IsAbsent, IsTheory, IsView, Environment}
 use Rattle.library_meaning.specs.Coherence.{IsCoherentTheory, IsCoherentView, IsCoherent}
 use Rattle.expansion_meaning.specs.Rules.{Rule}
-use Rattle.expansion_meaning.proofs.Binding.{came_by, some_same}
 use Rattle.link_meaning.specs.Refusals.{Refusal, Outcome, demand}
-use Rattle.link_meaning.proofs.Covered.{good_same}
-use Rattle.link_meaning.proofs.Valued.{demand_holds}
-use Rattle.verdict_meaning.specs.Dependencies.{Dependency, first_name, dependencies}
+use Rattle.link_laws.proofs.Covered.{good_same}
+use Rattle.link_laws.proofs.Valued.{demand_holds}
+use Rattle.text_meaning.specs.Dependencies.{Dependency, dependencies}
 use Rattle.verdict_meaning.specs.Modules.{empty_theory, declare_all, checked_view}
 use Rattle.verdict_meaning.specs.Verdicts.{Interface, Theory, View, Verdict, Accepted, Refused, verdict_by, known_by, written_name, checked, cycle_at, judge_tree, judge_answer, judge}
-use Rattle.verdict_meaning.specs.Rounds.{verdict_under, known_if, known_of, others_reached, ungrounded_names, verdicts, verdict_of, told_by}
-use Rattle.verdict_meaning.specs.VerdictLaws.{known_to}
-use Rattle.verdict_meaning.proofs.Shortness.{Short, short_reached, reach_within_reach}
-use Rattle.verdict_meaning.proofs.Rounds.{in_others}
-use Rattle.verdict_meaning.proofs.Verdicts.{not_ungrounded, verdict_exactly, verdict_is_judged, ungrounded_is_cycle}
+use Rattle.verdict_meaning.specs.Rounds.{verdict_under, known_if, known_of, others_reached, verdicts, verdict_of, told_by, known_to}
+use Rattle.verdict_laws.proofs.Shortness.{Short, short_reached, reach_within_reach}
+use Rattle.verdict_laws.proofs.Rounds.{in_others}
+use Rattle.verdict_laws.proofs.Verdicts.{not_ungrounded, verdict_exactly, verdict_is_judged, ungrounded_is_cycle}
 use Rattle.coherence_laws.specs.CoherenceLaws.{AreClosed, FacesAreCoherent, GroundedKnowCoherent, ClosedAreCoherent}
 use Rattle.coherence_laws.proofs.ModulesHold.{declare_all_holds, empty_holds, view_holds}
 use Rattle.coherence_laws.proofs.Transfer.{Extends, theory_transfers, view_transfers}
+use Rattle.std.proofs.lemmas.Option.{same_Some}
+use Rattle.list_laws.proofs.Answers.{came_by}
 
 -- ---- one module
 
@@ -64,7 +62,7 @@ module _ (environment : Environment) (coherent : IsCoherent environment) (name :
   tree_shows ungrounded tree true interface h = absurd (cycle_refuses name _ interface h)
   tree_shows ungrounded tree false interface h =
       let n = came_by (demand (same_bytes (first_name (written_name tree).path) name) (written_name tree).span Rule.WrongName (written_name tree).path) _ interface h in
-      checked_shows tree interface (same_name_sound (first_name (written_name tree).path) name (demand_holds (same_bytes (first_name (written_name tree).path) name) (written_name tree).span Rule.WrongName (written_name tree).path n.item n.came)) n.goes
+      checked_shows tree interface (same_sound (first_name (written_name tree).path) name (demand_holds (same_bytes (first_name (written_name tree).path) name) (written_name tree).span Rule.WrongName (written_name tree).path n.item n.came)) n.goes
 
   answer_shows : (ungrounded : Name → Bool) (answer : Answer) (interface : Interface) → judge_answer environment ungrounded name answer ≡ Ok interface → Shows environment name interface
   answer_shows ungrounded (Read (ModuleTree tree)) interface h = tree_shows ungrounded tree (ungrounded name) interface h
@@ -191,7 +189,7 @@ module _ (library : Library) where
       record {
         coherent = c;
         holds = λ verdict h. (let t = verdict_text name (text_of library name) verdict refl h in
-            subst (Holds (known_to library name) name) (some_same (sym (verdict_is_judged library name t.0 t.1) ∙ h)) (judge_holds (known_to library name) c name (itself_absent name) (is_among (ungrounded_names library)) t.0));
+            subst (Holds (known_to library name) name) (same_Some _ _ (sym (verdict_is_judged library name t.0 t.1) ∙ h)) (judge_holds (known_to library name) c name (itself_absent name) (is_among (ungrounded_names dependencies library)) t.0));
       }
 
   -- what is known to a name comes from the verdict on one that it reaches
@@ -229,7 +227,7 @@ module _ (library : Library) where
   unfolding ungrounded_names is_ungrounded
   accepted_short name interface h m =
       let c = ungrounded_is_cycle library name (member_among (walking dependencies library (length library)) name m) in
-      clash (some_same (sym h ∙ c.refused))
+      clash (same_Some _ _ (sym h ∙ c.refused))
     where
       clash : {i : Interface} {r : Refusal} → Accepted i ≡ Refused r → ⊥
       clash e = absurd (cc)

@@ -2,38 +2,36 @@
 use Rattle.std.proofs.Common.{◌≡◌, ◌<◌, Bool, true, false, cond, List, [], ◌∷◌, ◌++◌, length, Option, Some, None, is_some, Ok, not, ◌||◌, ⊎_elim, refl, sym, ap, ◌∙◌, subst, true≢false, append-nil, arith}
 use Rattle.std.specs.Prelude.{⊤}
 use Rattle.std.proofs.lemmas.Bool.{or_cases}
-use Rattle.lf_meaning.specs.Terms.{Name, Path}
-use Rattle.lf_meaning.specs.Signatures.{Class, Value, Declaration, same_name}
-use Rattle.log_meaning.proofs.Members.{Member, in_append, append_left, in_flat_map}
-use Rattle.log_meaning.proofs.Order.{among_member, member_among}
-use Rattle.translation_meaning.specs.HeadMaps.{HeadMap}
+use Rattle.name_meaning.specs.Names.{Name, Path, same_name}
+use Rattle.lf_meaning.specs.Signatures.{Class, Value, Declaration}
+use Rattle.list_laws.proofs.Members.{Member, in_append, append_left, in_flat_map, place_member}
+use Rattle.name_laws.proofs.Order.{among_member, member_among}
+use Rattle.lf_meaning.specs.HeadMaps.{HeadMap}
 use Rattle.library_meaning.specs.Faces.{TheoryFace, ViewFace, Known, IsAbsent, IsRefused, IsTheory, IsView, theory_face, Environment, theory_of, structure_of, includes_of, own_of, own_part, own_parts, flat_signature, flat_of}
 use Rattle.library_meaning.specs.Closure.{sees}
 use Rattle.library_meaning.specs.Resolution.{own_at}
 use Rattle.library_meaning.specs.Holding.{ClassHolds, OptionalValueHolds}
 use Rattle.library_meaning.specs.Coherence.{IsCoherentMap, IsCoherentTheory, IsCoherentView, IsCoherent}
 use Rattle.text_meaning.specs.Tokens.{Span}
-use Rattle.text_meaning.specs.Trees.{Expr, Written, Assign, Decl, IncludeDecl, StructDecl, ConstDecl}
+use Rattle.text_meaning.specs.Trees.{Expr, Written, Assign, Decl, IncludeDecl, StructDecl, ConstDecl, first_name}
 use Rattle.expansion_meaning.specs.Rules.{Rule}
 use Rattle.expansion_meaning.specs.Values.{expand_class, expand_value}
-use Rattle.expansion_meaning.proofs.Binding.{came_by, some_same}
-use Rattle.expansion_meaning.proofs.ValuesStand.{class_sound, value_sound}
+use Rattle.expansion_laws.proofs.ValuesStand.{class_sound, value_sound}
 use Rattle.link_meaning.specs.Refusals.{labelled, each}
 use Rattle.link_meaning.specs.Assignments.{Setting, read_assigns}
 use Rattle.link_meaning.specs.Coverings.{covered_tests}
 use Rattle.link_meaning.specs.Passes.{map_all, shared_test, assigned_map, link_map}
 use Rattle.link_meaning.specs.Induced.{with_structure}
-use Rattle.link_meaning.proofs.Covered.{good_same}
-use Rattle.link_meaning.proofs.Valued.{demand_holds, label_came}
-use Rattle.link_meaning.proofs.Reading.{assigns_sound}
-use Rattle.link_meaning.proofs.Linked.{own_named}
-use Rattle.verdict_meaning.specs.Dependencies.{first_name}
+use Rattle.link_laws.proofs.Covered.{good_same}
+use Rattle.link_laws.proofs.Valued.{demand_holds, label_came}
+use Rattle.link_laws.proofs.Reading.{assigns_sound}
+use Rattle.link_laws.proofs.Linked.{own_named}
 use Rattle.verdict_meaning.specs.Modules.{known_theory as theory_known, module_test, scope_in, is_used, unused_test, declared_value, structure_setting, declare, declare_all, empty_theory, view_setting, checked_view}
 use Rattle.holding_laws.specs.HoldingLaws.{Grows}
 use Rattle.holding_laws.specs.ExpansionHolds.{scope_signature, ScopeHolds}
 use Rattle.holding_laws.proofs.Declared.{place_of}
 use Rattle.holding_laws.proofs.Expanding.{standing_class_holds, standing_value_holds}
-use Rattle.link_coherence_laws.proofs.Onces.{place_member, Once, once_names, member_grows, HoldAfter}
+use Rattle.link_coherence_laws.proofs.Onces.{Once, once_names, member_grows, HoldAfter}
 use Rattle.link_coherence_laws.specs.LinkTargets.{target_of, StructuresHold, HereHolds}
 use Rattle.link_coherence_laws.specs.BetweenTheories.{IsBetweenTheories}
 use Rattle.link_coherence_laws.proofs.WordsHold.{included_members, accepted_target}
@@ -42,6 +40,10 @@ use Rattle.link_coherence_laws.proofs.AssignedHold.{items_hold}
 use Rattle.link_coherence_laws.proofs.LinksHold.{map_holds, added_all}
 use Rattle.link_coherence_laws.proofs.InducedHold.{nothing_added, added_is_induced, induced_members}
 use Rattle.coherence_laws.proofs.TheoriesHold.{no_structure, here_once, here_holds, inclusion_step, constant_step, structure_step}
+use Rattle.std.proofs.lemmas.Option.{same_Some}
+use Rattle.list_laws.proofs.Options.{none_of}
+use Rattle.list_laws.proofs.Booleans.{neither}
+use Rattle.list_laws.proofs.Answers.{came_by}
 
 -- ---- tests
 
@@ -57,15 +59,6 @@ known_by_test span label (IsView found) face h = absurd (cc)
 
 pub theory_there : (environment : Environment) (name : Name) (face : TheoryFace) → environment name ≡ IsTheory face → theory_of environment name ≡ Some face
 theory_there environment name face e = ap theory_face e
-
-none_of : {A : Type 0} (o : Option A) → is_some o ≡ false → o ≡ None
-none_of None h = refl
-none_of (Some x) h = absurd (cc)
-
-neither : (a b : Bool) → not (a || b) ≡ true → (a ≡ false) × (b ≡ false)
-neither true b h = absurd (true≢false (sym h))
-neither false true h = absurd (true≢false (sym h))
-neither false false h = (refl, refl)
 
 pub record Unused (here : TheoryFace) (name : Name) : Type 0 where
   pub constant : own_at here.own (name ∷ []) ≡ None
@@ -100,8 +93,8 @@ module _ (environment : Environment) (coherent : IsCoherent environment) where
     here_ok : HereHolds environment (Some here)
     here_ok =
         record {
-          absent = λ face e. subst (λ (z : TheoryFace). environment z.name ≡ IsAbsent) (some_same e) absent;
-          structures = λ face e. subst (λ (z : TheoryFace). StructuresHold environment z.structures (flat_signature environment z)) (some_same e) (λ i x h. (c.domains i x h, c.maps i x h));
+          absent = λ face e. subst (λ (z : TheoryFace). environment z.name ≡ IsAbsent) (same_Some _ _ e) absent;
+          structures = λ face e. subst (λ (z : TheoryFace). StructuresHold environment z.structures (flat_signature environment z)) (same_Some _ _ e) (λ i x h. (c.domains i x h, c.maps i x h));
         }
 
     pub scope_ok : ScopeHolds (scope_in environment here)
@@ -140,7 +133,7 @@ module _ (environment : Environment) (coherent : IsCoherent environment) where
           holds = here_holds environment coherent here c absent;
           reaches = here_reaches;
           own_named = own_of_here;
-          fresh = λ structure e d m rest q l. fresh_by (first_name name.path) v d m rest (q ∙ ap (λ z. z ∷ rest) (some_same (sym e))) l;
+          fresh = λ structure e d m rest q l. fresh_by (first_name name.path) v d m rest (q ∙ ap (λ z. z ∷ rest) (same_Some _ _ (sym e))) l;
         }
 
     value_declared : (label : Path) (class : Class) (o : Option Expr) (value : Option Value) → ClassHolds (flat_signature environment here) class → declared_value (scope_in environment here) label class o ≡ Ok value → OptionalValueHolds (flat_signature environment here) class value

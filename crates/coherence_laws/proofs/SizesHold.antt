@@ -1,11 +1,10 @@
 -- The size that an accepted theory shows is the length of its flat signature.
 use Rattle.std.proofs.Common.{◌≡◌, ℕ, length, ◌++◌, Some, refl, sym, ap, ◌∙◌}
-use Rattle.log_meaning.specs.Names.{Name}
+use Rattle.name_meaning.specs.Names.{Name}
 use Rattle.log_meaning.specs.Log.{Library}
 use Rattle.library_meaning.specs.Faces.{TheoryFace, Environment, flat_signature}
 use Rattle.verdict_meaning.specs.Verdicts.{Theory, Accepted}
-use Rattle.verdict_meaning.specs.Rounds.{verdicts, known_of, verdict_of, told_by}
-use Rattle.verdict_meaning.specs.VerdictLaws.{known_to}
+use Rattle.verdict_meaning.specs.Rounds.{verdicts, known_of, verdict_of, told_by, known_to}
 use Rattle.coherence_laws.specs.CoherenceLaws.{SizesAreLengths, GroundedKnowSizes, ClosedHaveSizes}
 use Rattle.coherence_laws.proofs.Transfer.{Extends, parts_same}
 use Rattle.coherence_laws.proofs.LibrariesHold.{extends_to, theory_shown, sound, tells_more, accepted_theory, closed_extends, grounded_short}

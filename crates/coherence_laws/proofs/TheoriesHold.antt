@@ -2,34 +2,34 @@
 use Rattle.std.proofs.Common.{◌≡◌, ◌≢◌, ℕ, ◌<◌, Bool, true, false, cond, List, [], ◌∷◌, ◌++◌, length, slice_get, Option, Some, None, is_some, ◌⊎◌, inl, inr, ⊎_elim, refl, sym, ap, ◌∙◌, subst, true≢false, append_assoc, arith}
 use lib.Pointwise.{pointwise}
 use Rattle.std.proofs.lemmas.Bool.{and_from}
-use Rattle.lf_meaning.specs.Terms.{Name, Path, Constant}
-use Rattle.lf_meaning.specs.Signatures.{Class, Value, Declaration, Signature, same_name, declaration_of}
-use Rattle.lf_meaning.proofs.Equality.{same_name_sound, same_name_itself}
-use Rattle.log_meaning.proofs.Members.{Member, in_append, append_left, append_right, in_flat_map, flat_map_in, find_none}
-use Rattle.log_meaning.proofs.Order.{among_member, member_among}
-use Rattle.log_meaning.proofs.Places.{get_more, place_within, get_front, get_last}
-use Rattle.translation_meaning.specs.HeadMaps.{HeadMap}
+use Rattle.name_meaning.specs.Names.{Name, Path, same_name}
+use Rattle.lf_meaning.specs.Terms.{Constant}
+use Rattle.lf_meaning.specs.Signatures.{Class, Value, Declaration, Signature, declaration_of}
+use Rattle.list_laws.proofs.Members.{Member, in_append, append_left, append_right, in_flat_map, flat_map_in, find_none, place_member}
+use Rattle.name_laws.proofs.Order.{among_member, member_among, same_sound, same_itself}
+use Rattle.list_laws.proofs.Places.{get_more, place_within, get_front, get_last}
+use Rattle.lf_meaning.specs.HeadMaps.{HeadMap}
 use Rattle.library_meaning.specs.Faces.{StructureFace, TheoryFace, Known, IsAbsent, theory_face, Environment, theory_of, structure_of, includes_of, own_part, own_parts, flat_signature, flat_of}
 use Rattle.library_meaning.specs.Closure.{sees, with_inclusion}
 use Rattle.library_meaning.specs.Resolution.{has_path, own_at}
 use Rattle.library_meaning.specs.Holding.{ClassHolds, OptionalValueHolds}
 use Rattle.library_meaning.specs.Coherence.{AreTheories, IsClosure, DeclarationsHold, IsCoherentMap, IsCoherentTheory, IsCoherent, IsInduced}
-use Rattle.library_meaning.proofs.ClosureMembers.{inclusion_member, inclusion_old}
-use Rattle.library_meaning.proofs.ClosureKept.{inclusion_keeps}
-use Rattle.expansion_meaning.proofs.Binding.{some_same}
+use Rattle.library_laws.proofs.ClosureMembers.{inclusion_member, inclusion_old}
+use Rattle.library_laws.proofs.ClosureKept.{inclusion_keeps}
 use Rattle.link_meaning.specs.Assignments.{Setting}
 use Rattle.link_meaning.specs.Induced.{induced, with_structure}
-use Rattle.link_meaning.proofs.Linked.{own_named}
+use Rattle.link_laws.proofs.Linked.{own_named}
 use Rattle.holding_laws.specs.HoldingLaws.{Grows}
 use Rattle.holding_laws.proofs.Declared.{place_of, front_grows}
-use Rattle.link_coherence_laws.proofs.Onces.{place_member, Once, once_append, once_names, names_once, once_right, member_grows, member_declared, HoldAfter, hold_append, hold_more, after_declarations, declarations_after, own_is_once, closure_once, closure_holds}
-use Rattle.link_coherence_laws.proofs.WordsHold.{map_grows, includes_closed, includes_theories, paths_of_theory}
+use Rattle.link_coherence_laws.proofs.Onces.{Once, once_append, once_names, names_once, once_right, member_grows, member_declared, HoldAfter, hold_append, hold_more, after_declarations, own_is_once, closure_once, closure_holds, declarations_from}
+use Rattle.link_coherence_laws.proofs.WordsHold.{map_grows, includes_closed, includes_theories, paths_of_theory, absent_is_none}
 use Rattle.link_coherence_laws.proofs.ImagesHold.{SettingHolds}
 use Rattle.link_coherence_laws.proofs.InducedHold.{InducedFrom}
+use Rattle.std.proofs.lemmas.Option.{same_Some}
 
 same_path_itself : (path : Path) → pointwise same_name path path ≡ true
 same_path_itself [] = refl
-same_path_itself (name ∷ path) = and_from (same_name name name) (pointwise same_name path path) (same_name_itself name) (same_path_itself path)
+same_path_itself (name ∷ path) = and_from (same_name name name) (pointwise same_name path path) (same_itself name) (same_path_itself path)
 
 -- a path that is not found is nobody's
 pub not_at : (own : Signature) (path : Path) → own_at own path ≡ None → (d : Declaration) → Member d own → d.name.path ≡ path → ⊥
@@ -43,7 +43,7 @@ structure_some_by false x o (inr h) = h
 structure_some : (structures : List StructureFace) (name : Name) (structure : StructureFace) → Member structure structures → structure.name ≡ name → is_some (structure_of structures name) ≡ true
 unfolding structure_of
 structure_some [] name structure m e = absurd m
-structure_some (x ∷ xs) name structure (inl q) e = structure_some_by (same_name x.name name) x (structure_of xs name) (inl (ap (λ z. same_name z name) (ap (λ z. z.name) (sym q) ∙ e) ∙ same_name_itself name))
+structure_some (x ∷ xs) name structure (inl q) e = structure_some_by (same_name x.name name) x (structure_of xs name) (inl (ap (λ z. same_name z name) (ap (λ z. z.name) (sym q) ∙ e) ∙ same_itself name))
 structure_some (x ∷ xs) name structure (inr m) e = structure_some_by (same_name x.name name) x (structure_of xs name) (inr (structure_some xs name structure m e))
 
 pub no_structure : (structures : List StructureFace) (name : Name) → structure_of structures name ≡ None → (structure : StructureFace) → Member structure structures → structure.name ≡ name → ⊥
@@ -52,16 +52,13 @@ no_structure structures name h structure m e = true≢false (sym (structure_some
 -- a structure that is found is among them, and has the name
 found_by : (b : Bool) (x : StructureFace) (xs : List StructureFace) (name : Name) (structure : StructureFace) → same_name x.name name ≡ b
     → (structure_of xs name ≡ Some structure → Member structure xs × (structure.name ≡ name)) → cond b (Some x) (structure_of xs name) ≡ Some structure → Member structure (x ∷ xs) × (structure.name ≡ name)
-found_by true x xs name structure t f h = let e : structure ≡ x = sym (some_same h) in (inl e, ap (λ (z : StructureFace). z.name) e ∙ same_name_sound x.name name t)
+found_by true x xs name structure t f h = let e : structure ≡ x = sym (same_Some _ _ h) in (inl e, ap (λ (z : StructureFace). z.name) e ∙ same_sound x.name name t)
 found_by false x xs name structure t f h = let q = f h in (inr q.0, q.1)
 
 pub structure_found : (structures : List StructureFace) (name : Name) (structure : StructureFace) → structure_of structures name ≡ Some structure → Member structure structures × (structure.name ≡ name)
 unfolding structure_of
 structure_found [] name structure h = absurd (cc)
 structure_found (x ∷ xs) name structure h = found_by (same_name x.name name) x xs name structure refl (structure_found xs name structure) h
-
-absent_is_none : (known : Known) → known ≡ IsAbsent → is_some (theory_face known) ≡ true → ⊥
-absent_is_none known e h = true≢false (sym h ∙ ap (λ k. is_some (theory_face k)) e)
 
 module _ (environment : Environment) (coherent : IsCoherent environment) where
   -- an own constant is declared at its path
@@ -90,7 +87,7 @@ module _ (environment : Environment) (coherent : IsCoherent environment) where
     here_once = once_append (own_parts environment here.includes) here.own (closure_once environment coherent here.includes c.includes_closure) (names_once here.own c.own_once) (parts_apart here.includes here.own here.name c.includes_others named_here)
 
     pub here_holds : HoldAfter [] (flat_signature environment here)
-    here_holds = declarations_after [] (flat_signature environment here) c.holds
+    here_holds = declarations_from [] (flat_signature environment here) c.holds
 
     -- ---- an inclusion
 
@@ -108,7 +105,7 @@ module _ (environment : Environment) (coherent : IsCoherent environment) where
           maps = λ i x h. map_grows (flat_of environment x.domain) (flat_signature environment here) (own_parts environment names ++ here.own) x.map grown (c.maps i x h);
           holds = after_declarations (own_parts environment names ++ here.own)
               (hold_append [] (own_parts environment names) here.own (closure_holds environment coherent names closed)
-              (hold_more (own_parts environment here.includes) (own_parts environment names) here.own once parts (declarations_after (own_parts environment here.includes) here.own c.holds)));
+              (hold_more (own_parts environment here.includes) (own_parts environment names) here.own once parts (declarations_from (own_parts environment here.includes) here.own c.holds)));
           structures_once = c.structures_once;
           structures_free = c.structures_free;
           induced = λ i d h l. (let k = c.induced i d h l in record { place = k.place; structure = k.structure; rest = k.rest; source = k.source; found = k.found; path = k.path; declared = k.declared; alike = k.alike });

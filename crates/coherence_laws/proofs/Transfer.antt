@@ -1,13 +1,12 @@
 -- A face that is coherent over what is known stays so where more is known.
 use Rattle.std.proofs.Common.{◌≡◌, true, List, [], ◌∷◌, ◌++◌, is_some, ◌⊎◌, inl, inr, ⊎_elim, refl, sym, ap, ap₂, ◌∙◌, subst, true≢false}
-use Rattle.lf_meaning.specs.Terms.{Name}
+use Rattle.name_meaning.specs.Names.{Name}
 use Rattle.lf_meaning.specs.Signatures.{declaration_of}
-use Rattle.log_meaning.proofs.Members.{Member}
-use Rattle.log_meaning.proofs.Order.{member_among}
+use Rattle.list_laws.proofs.Members.{Member, place_member}
+use Rattle.name_laws.proofs.Order.{member_among}
 use Rattle.library_meaning.specs.Faces.{TheoryFace, ViewFace, IsAbsent, theory_face, Environment, theory_of, includes_of, own_of, own_part, own_parts, flat_signature, flat_of}
 use Rattle.library_meaning.specs.Closure.{sees}
 use Rattle.library_meaning.specs.Coherence.{AreTheories, IsClosure, DeclarationsHold, IsCoherentMap, IsCoherentTheory, IsCoherentView, IsCoherent}
-use Rattle.link_coherence_laws.proofs.Onces.{place_member}
 use Rattle.link_coherence_laws.proofs.WordsHold.{includes_theories}
 
 -- what is known in the first is known in the second

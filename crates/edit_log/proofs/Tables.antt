@@ -2,11 +2,11 @@
 use Rattle.std.proofs.Common.{◌≡◌, ℕ, suc, Bool, true, false, not, cond, List, [], ◌∷◌, ◌++◌, length, Option, Some, unwrap_or, refl, sym, ap, ◌∙◌}
 use Rattle.std.specs.Map.{lookup}
 use Rattle.std.specs.Cmp.{both_ways}
-use Rattle.log_meaning.specs.Names.{Name, Text, same_name, comes_before}
+use Rattle.name_meaning.specs.Names.{Name, Text, same_name, comes_before}
 use Rattle.log_meaning.specs.Log.{Edit, edited_name, Log, Module, names_of, with_module, without_module, text_of, version_of, stamp_of}
-use Rattle.log_meaning.specs.Rows.{Rows, row_names, row_of, with_row, without_row}
-use Rattle.log_meaning.proofs.Order.{same_sound, same_of}
-use Rattle.log_meaning.proofs.Libraries.{stamp_after_last}
+use Rattle.name_meaning.specs.Rows.{Rows, row_names, row_of, with_row, without_row}
+use Rattle.name_laws.proofs.Order.{same_sound, same_of}
+use Rattle.log_laws.proofs.Libraries.{stamp_after_last}
 use Rattle.edit_log.specs.Readings.{read_library}
 use Rattle.edit_log.specs.Keeping.{stamp_in}
 

@@ -3,8 +3,8 @@ ghost use Rattle.std.specs.Prelude.{◌≡◌, ◌∷◌, ◌++◌, ◌≤◌, [
 ghost use Rattle.std.specs.Option.{option_copied, option_map};
 ghost use Rattle.log_meaning.specs.Log as logs;
 ghost use Rattle.log_meaning.specs.Log.{library_of, text_of, version_of, stamp_of, edit_at, name_at};
-ghost use Rattle.log_meaning.specs.Append.{Made, append_answer, appended, text_limit, size_of, made_unless_full};
-ghost use Rattle.log_meaning.specs.LogLaws.{IsWithinLimits};
+ghost use Rattle.name_meaning.specs.Limits.{text_limit};
+ghost use Rattle.log_meaning.specs.Append.{Made, append_answer, appended, size_of, made_unless_full, IsWithinLimits};
 ghost use Rattle.edit_log.specs.Readings.{read_edit, IsAnswer};
 
 use crate::changes::change_text;

@@ -1,33 +1,28 @@
 -- Answers that are a value or the first fault (this profile).
+use Rattle.answer_meaning.specs.Answers.{◌>>=◌}
 use Rattle.std.specs.Prelude.{Bool, true, false, Option, Some, None, Result, Ok, Err, ⊤}
 use Rattle.text_meaning.specs.Tokens.{Span}
 use Rattle.expansion_meaning.specs.Rules.{Rule}
 
--- Read: a rule that is broken at a place of the text.
+-- A rule that is broken at a place of the text.
 pub record Fault : Type 0 where
   pub span : Span
   pub rule : Rule
 
--- Read: a value, or the first fault.
+-- A value, or the first fault.
 abbrev pub Answer : Type 0 → Type 0
 Answer A = Result A Fault
 
--- Read: this rule is broken here.
+-- This rule is broken here.
 abbrev pub broken : {A : Type 0} → Span → Rule → Answer A
 broken span rule = Err (record { span = span; rule = rule })
 
-infixl 10 ◌>>=◌
--- Read: go on with the answer, unless it is a fault.
-abbrev pub ◌>>=◌ : {E A B : Type 0} → Result A E → (A → Result B E) → Result B E
-◌>>=◌ (Err fault) next = Err fault
-◌>>=◌ (Ok value) next = next value
-
--- Read: a test, with the rule that is broken where it fails.
+-- A test, with the rule that is broken where it fails.
 abbrev pub must : Bool → Span → Rule → Answer ⊤
 must true span rule = Ok tt
 must false span rule = broken span rule
 
--- Read: what is there, or the rule that is broken where it is not.
+-- What is there, or the rule that is broken where it is not.
 abbrev pub or_broken : {A : Type 0} → Option A → Span → Rule → Answer A
 or_broken None span rule = broken span rule
 or_broken (Some value) span rule = Ok value

@@ -8,11 +8,12 @@ use Rattle.library_meaning.specs.Resolution.{Scope}
 use Rattle.text_meaning.specs.Tokens.{Span}
 use Rattle.text_meaning.specs.Trees.{Expr, TypeExpr, NameExpr, AppExpr, PiExpr, LamExpr, TypedLamExpr, ArrowExpr, BackExpr, Exprs, NoArgs, ThenArg}
 use Rattle.expansion_meaning.specs.Rules.{Rule}
-use Rattle.expansion_meaning.specs.Answers.{Answer, broken, must, or_broken, ◌>>=◌}
+use Rattle.expansion_meaning.specs.Answers.{Answer, broken, must, or_broken}
+use Rattle.answer_meaning.specs.Answers.{◌>>=◌}
 use Rattle.expansion_meaning.specs.Locals.{Locals, with_local}
 use Rattle.expansion_meaning.specs.NameHeads.{Level, Objects, Families, name_head}
 
--- Read: where an expression stands.
+-- Where an expression stands.
 abbrev pub span_of : Expr → Span
 span_of (TypeExpr span) = span
 span_of (NameExpr span path) = span
@@ -23,24 +24,24 @@ span_of (TypedLamExpr span binder domain body) = span
 span_of (ArrowExpr span domain body) = span
 span_of (BackExpr span body domain) = span
 
--- Read: the domain and the codomain of a Π.
+-- The domain and the codomain of a Π.
 pub record Product : Type 0 where
   pub domain : Family
   pub codomain : Family
 
--- Read: a λ stands at a Π alone.
+-- A λ stands at a Π alone.
 abbrev pub lambda_at : Span → Family → Answer Product
 lambda_at span (Pi domain codomain) = Ok (record { domain = domain; codomain = codomain })
 lambda_at span (AtFamily p) = broken span Rule.Mismatch
 
--- Read: the domain of what the head takes next, where its classifier is a Π.
+-- The domain of what the head takes next, where its classifier is a Π.
 abbrev pub domain_of : Head → Option Family
 domain_of (ObjectHead object (Pi domain body)) = Some domain
 domain_of (ObjectHead object (AtFamily p)) = None
 domain_of (FamilyHead binders family (PiKind domain kind)) = Some domain
 domain_of (FamilyHead binders family Ty) = None
 
--- Read: the object of a head that is wanted at this family: a name or an application stands at an atomic family alone, and
+-- The object of a head that is wanted at this family: a name or an application stands at an atomic family alone, and
 -- there only where it has just this one.
 abbrev pub object_at : Span → Family → Head → Answer Object
 object_at span (Pi domain codomain) head = broken span Rule.NotCanonical
@@ -49,14 +50,14 @@ object_at span (AtFamily p) (ObjectHead object classifier) = do
   Ok object
 object_at span (AtFamily p) (FamilyHead binders family kind) = broken span Rule.Level
 
--- Read: the family of a head whose remaining kind is `type`.
+-- The family of a head whose remaining kind is `type`.
 abbrev pub family_at_type : Span → Head → Answer Family
 family_at_type span (FamilyHead binders family Ty) = Ok family
 family_at_type span (FamilyHead binders family (PiKind domain kind)) = broken span Rule.NotCanonical
 family_at_type span (ObjectHead object classifier) = broken span Rule.Level
 
 unfoldable mutual
-  -- Read: the object that an expression stands for at a family.
+  -- The object that an expression stands for at a family.
   pub expand_object : Scope → Locals → Expr → Family → Answer Object
   expand_object scope locals (TypeExpr span) family = broken span Rule.Level
   expand_object scope locals (PiExpr span binder domain body) family = broken span Rule.Level
@@ -80,7 +81,7 @@ unfoldable mutual
     head ← expand_arguments scope locals arguments first
     object_at span family head
 
-  -- Read: the head that an expression of this level begins with, which takes further arguments.
+  -- The head that an expression of this level begins with, which takes further arguments.
   pub expand_head : Level → Scope → Locals → Expr → Answer Head
   expand_head level scope locals (NameExpr span path) = name_head level scope locals span path
   expand_head level scope locals (AppExpr span function arguments) = do
@@ -93,7 +94,7 @@ unfoldable mutual
   expand_head level scope locals (ArrowExpr span domain body) = broken span Rule.Level
   expand_head level scope locals (BackExpr span body domain) = broken span Rule.Level
 
-  -- Read: the head takes the arguments from left to right, each an object at the domain of the classifier so far.
+  -- The head takes the arguments from left to right, each an object at the domain of the classifier so far.
   pub expand_arguments : Scope → Locals → Exprs → Head → Answer Head
   expand_arguments scope locals NoArgs first = Ok first
   expand_arguments scope locals (ThenArg arguments argument) first = do
@@ -102,7 +103,7 @@ unfoldable mutual
     object ← expand_object scope locals argument domain
     Ok (head_takes head object)
 
-  -- Read: the family that an expression stands for.
+  -- The family that an expression stands for.
   pub expand_family : Scope → Locals → Expr → Answer Family
   expand_family scope locals (PiExpr span binder domain body) = do
     first ← expand_family scope locals domain
@@ -127,7 +128,7 @@ unfoldable mutual
     head ← expand_arguments scope locals arguments first
     family_at_type span head
 
--- Read: the kind that an expression stands for.
+-- The kind that an expression stands for.
 unfoldable pub expand_kind : Scope → Locals → Expr → Answer Kind
 expand_kind scope locals (TypeExpr span) = Ok Ty
 expand_kind scope locals (PiExpr span binder domain body) = do

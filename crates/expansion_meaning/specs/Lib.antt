@@ -5,4 +5,3 @@ pub mod NameHeads
 pub mod Expansion
 pub mod Values
 pub mod Stands
-pub mod ExpansionLaws

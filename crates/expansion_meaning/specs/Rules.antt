@@ -1,14 +1,14 @@
 -- The rules that a text can break, with their numbers and words (this profile).
 use Rattle.std.specs.Prelude.{ℕ, List, codes}
 
--- Read: the rules, in the order of their numbers.
+-- The rules, in the order of their numbers.
 pub data Rule : Type 0 where
   Syntax TooDeep Unsupported WrongName Cycle UnknownModule : Rule
   WrongModuleKind DependencyRefused DuplicateName UnknownName AmbiguousName Level : Rule
   NotAFunction NotCanonical Mismatch Annotation UnknownTarget DoubleAssignment : Rule
   MissingAssignment DefinitionClash IncludeNotCovered MorphismsDisagree MorphismEnds FamilyNotAtomic : Rule
 
--- Read: the number of a rule. The numbers name the rules and say nothing of the order of tests.
+-- The number of a rule. The numbers name the rules and say nothing of the order of tests.
 abbrev pub number_of : Rule → ℕ
 number_of Syntax = 1
 number_of TooDeep = 2
@@ -35,7 +35,7 @@ number_of MorphismsDisagree = 22
 number_of MorphismEnds = 23
 number_of FamilyNotAtomic = 24
 
--- Read: the word that is printed for a rule.
+-- The word that is printed for a rule.
 abbrev pub word_of : Rule → List ℕ
 word_of Syntax = codes "syntax"
 word_of TooDeep = codes "too-deep"

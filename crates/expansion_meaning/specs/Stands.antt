@@ -1,7 +1,8 @@
 -- What a written expression stands for, as relations: one case for each form of expression, and one argument for each case
 -- (this profile; heads take arguments as in Harper and Licata 2007, section 2).
 use Rattle.std.specs.Prelude.{◌≡◌, ℕ, Some, None, true, false, [], ⊤}
-use Rattle.lf_meaning.specs.Terms.{Path, Object, Lam, At, Var, Family, Pi, Kind, Ty, PiKind, domain_count}
+use Rattle.name_meaning.specs.Names.{Path}
+use Rattle.lf_meaning.specs.Terms.{Object, Lam, At, Var, Family, Pi, Kind, Ty, PiKind, domain_count}
 use Rattle.lf_meaning.specs.Signatures.{Class, FamilyClass, KindClass, Value, Declaration}
 use Rattle.translation_meaning.specs.AtomicFamilies.{IsAtomicFamily}
 use Rattle.translation_meaning.specs.Heads.{Head, ObjectHead, FamilyHead, head_takes}
@@ -15,20 +16,20 @@ use Rattle.expansion_meaning.specs.NameHeads.{declared_head}
 use Rattle.expansion_meaning.specs.Expansion.{domain_of}
 use Rattle.expansion_meaning.specs.Values.{ends_in_type}
 
--- Read: a variable begins as itself at its family; a declared constant as its value or as itself.
+-- A variable begins as itself at its family; a declared constant as its value or as itself.
 abbrev pub BeginsAs : Locals → Resolved → Head → Type 0
 BeginsAs locals (Variable index) head = (family : Family) × (family_at locals index ≡ Some family) × (head ≡ ObjectHead (At (Var index)) family)
 BeginsAs locals (Declared declaration) head = head ≡ declared_head declaration
 BeginsAs locals Unknown head = ⊥
 BeginsAs locals Ambiguous head = ⊥
 
--- Read: the name stands for something that begins as this head.
+-- The name stands for something that begins as this head.
 pub record NameStands (scope : Scope) (locals : Locals) (path : Path) (head : Head) : Type 0 where
   pub resolved : Resolved
   pub stands : StandsFor scope (variables_of locals) path resolved
   pub begins : BeginsAs locals resolved head
 
--- Read: a λ stands at a Π for a λ; its written domain, if there is one, for the domain of the Π.
+-- A λ stands at a Π for a λ; its written domain, if there is one, for the domain of the Π.
 pub record LambdaStands (written : Family → Type 0) (body_stands : Family → Family → Object → Type 0) (family : Family) (object : Object) : Type 0 where
   pub domain : Family
   pub codomain : Family
@@ -38,13 +39,13 @@ pub record LambdaStands (written : Family → Type 0) (body_stands : Family → 
   pub domain_stands : written domain
   pub stands : body_stands domain codomain body
 
--- Read: a function, which begins as some head, takes arguments and becomes this head.
+-- A function, which begins as some head, takes arguments and becomes this head.
 pub record ApplicationStands (function : Head → Type 0) (arguments : Head → Head → Type 0) (head : Head) : Type 0 where
   pub first : Head
   pub begins : function first
   pub takes : arguments first head
 
--- Read: a head takes one more argument, which stands for an object at the domain of the classifier so far.
+-- A head takes one more argument, which stands for an object at the domain of the classifier so far.
 pub record ArgumentTaken (before : Head → Type 0) (argument : Family → Object → Type 0) (after : Head) : Type 0 where
   pub head : Head
   pub domain : Family
@@ -54,7 +55,7 @@ pub record ArgumentTaken (before : Head → Type 0) (argument : Family → Objec
   pub stands : argument domain object
   pub is : after ≡ head_takes head object
 
--- Read: a product stands for the Π of what its domain stands for, and its body behind that.
+-- A product stands for the Π of what its domain stands for, and its body behind that.
 pub record ProductStands (domain_stands : Family → Type 0) (body_stands : Family → Family → Type 0) (family : Family) : Type 0 where
   pub domain : Family
   pub codomain : Family
@@ -62,12 +63,12 @@ pub record ProductStands (domain_stands : Family → Type 0) (body_stands : Fami
   pub first : domain_stands domain
   pub second : body_stands domain codomain
 
--- Read: some family head is this family at `type`.
+-- Some family head is this family at `type`.
 abbrev pub IsFamilyHead : (Head → Type 0) → Family → Type 0
 IsFamilyHead stands family = (binders : ℕ) × stands (FamilyHead binders family Ty)
 
 abbrev mutual
-  -- Read: the expression stands for the object at the family, in a scope and behind some variables.
+  -- The expression stands for the object at the family, in a scope and behind some variables.
   pub StandsObject : Scope → Locals → Expr → Family → Object → Type 0
   StandsObject scope locals (TypeExpr span) family object = ⊥
   StandsObject scope locals (PiExpr span binder domain body) family object = ⊥
@@ -81,7 +82,7 @@ abbrev mutual
   StandsObject scope locals (AppExpr span function arguments) family object =
       IsAtomicFamily family × ApplicationStands (StandsHead scope locals function) (StandsArguments scope locals arguments) (ObjectHead object family)
 
-  -- Read: a name, or a name with arguments, stands for what has become this head.
+  -- A name, or a name with arguments, stands for what has become this head.
   pub StandsHead : Scope → Locals → Expr → Head → Type 0
   StandsHead scope locals (NameExpr span path) head = NameStands scope locals path head
   StandsHead scope locals (AppExpr span function arguments) head =
@@ -93,13 +94,13 @@ abbrev mutual
   StandsHead scope locals (ArrowExpr span domain body) head = ⊥
   StandsHead scope locals (BackExpr span body domain) head = ⊥
 
-  -- Read: the first head takes the arguments, from left to right, and becomes the second.
+  -- The first head takes the arguments, from left to right, and becomes the second.
   pub StandsArguments : Scope → Locals → Exprs → Head → Head → Type 0
   StandsArguments scope locals NoArgs first head = head ≡ first
   StandsArguments scope locals (ThenArg arguments argument) first head =
       ArgumentTaken (StandsArguments scope locals arguments first) (StandsObject scope locals argument) head
 
-  -- Read: the expression stands for the family.
+  -- The expression stands for the family.
   pub StandsFamily : Scope → Locals → Expr → Family → Type 0
   StandsFamily scope locals (PiExpr span binder domain body) family =
       ProductStands (StandsFamily scope locals domain) (λ first second. StandsFamily scope (with_local binder first locals) body second) family
@@ -114,7 +115,7 @@ abbrev mutual
   StandsFamily scope locals (AppExpr span function arguments) family =
       IsFamilyHead (ApplicationStands (StandsHead scope locals function) (StandsArguments scope locals arguments)) family
 
--- Read: a product stands for the Π kind of what its domain stands for, and its body behind that.
+-- A product stands for the Π kind of what its domain stands for, and its body behind that.
 pub record KindProductStands (domain_stands : Family → Type 0) (body_stands : Family → Kind → Type 0) (kind : Kind) : Type 0 where
   pub domain : Family
   pub rest : Kind
@@ -122,7 +123,7 @@ pub record KindProductStands (domain_stands : Family → Type 0) (body_stands : 
   pub first : domain_stands domain
   pub second : body_stands domain rest
 
--- Read: the expression stands for the kind.
+-- The expression stands for the kind.
 abbrev pub StandsKind : Scope → Locals → Expr → Kind → Type 0
 StandsKind scope locals (TypeExpr span) kind = kind ≡ Ty
 StandsKind scope locals (PiExpr span binder domain body) kind =
@@ -136,12 +137,12 @@ StandsKind scope locals (AppExpr span function arguments) kind = ⊥
 StandsKind scope locals (LamExpr span binder body) kind = ⊥
 StandsKind scope locals (TypedLamExpr span binder domain body) kind = ⊥
 
--- Read: the expression stands for the class: a kind where it ends in `type`, else a family.
+-- The expression stands for the class: a kind where it ends in `type`, else a family.
 abbrev pub StandsClass : Scope → Expr → Class → Type 0
 StandsClass scope expression (KindClass kind) = (ends_in_type expression ≡ true) × StandsKind scope [] expression kind
 StandsClass scope expression (FamilyClass family) = (ends_in_type expression ≡ false) × StandsFamily scope [] expression family
 
--- Read: a λ stands at a Π kind for what its body stands for at the kind behind it.
+-- A λ stands at a Π kind for what its body stands for at the kind behind it.
 pub record FamilyLambdaStands (written : Family → Type 0) (body_stands : Family → Kind → Family → Type 0) (kind : Kind) (family : Family) : Type 0 where
   pub domain : Family
   pub rest : Kind
@@ -149,7 +150,7 @@ pub record FamilyLambdaStands (written : Family → Type 0) (body_stands : Famil
   pub domain_stands : written domain
   pub stands : body_stands domain rest family
 
--- Read: the expression stands for a family value of the kind, with this body.
+-- The expression stands for a family value of the kind, with this body.
 abbrev pub StandsFamilyValue : Scope → Locals → Expr → Kind → Family → Type 0
 StandsFamilyValue scope locals (LamExpr span binder body) kind family =
     FamilyLambdaStands (λ written. ⊤) (λ first rest inner. StandsFamilyValue scope (with_local binder first locals) body rest inner) kind family
@@ -163,7 +164,7 @@ StandsFamilyValue scope locals (PiExpr span binder domain body) kind family = �
 StandsFamilyValue scope locals (ArrowExpr span domain body) kind family = ⊥
 StandsFamilyValue scope locals (BackExpr span body domain) kind family = ⊥
 
--- Read: one name gives the value of the declaration that it stands for, whose class is just this one: an undefined constant
+-- One name gives the value of the declaration that it stands for, whose class is just this one: an undefined constant
 -- itself, a defined one its value.
 pub record NameGives (scope : Scope) (path : Path) (class : Class) (value : Value) : Type 0 where
   pub declaration : Declaration
@@ -171,14 +172,14 @@ pub record NameGives (scope : Scope) (path : Path) (class : Class) (value : Valu
   pub class_is : declaration.class ≡ class
   pub is : value ≡ own_value declaration declaration.value
 
--- Read: another expression gives the object that it stands for at a family, or the family with so many binders as the kind
+-- Another expression gives the object that it stands for at a family, or the family with so many binders as the kind
 -- has domains; where that is a bare constant, the same as that.
 abbrev pub BuildsValue : Scope → Expr → Class → Value → Type 0
 BuildsValue scope expression (FamilyClass family) value = (object : Object) × StandsObject scope [] expression family object × (value ≡ object_value object)
 BuildsValue scope expression (KindClass kind) value =
     (body : Family) × StandsFamilyValue scope [] expression kind body × (value ≡ family_value (domain_count kind) body)
 
--- Read: the expression stands for the value at the class.
+-- The expression stands for the value at the class.
 abbrev pub StandsValue : Scope → Expr → Class → Value → Type 0
 StandsValue scope (NameExpr span path) class value = NameGives scope path class value
 StandsValue scope (TypeExpr span) class value = BuildsValue scope (TypeExpr span) class value

@@ -1,7 +1,8 @@
 -- Classes and values: what stands behind the colon of a declaration, and behind its `=` or that of an assignment (this
 -- profile).
 use Rattle.std.specs.Prelude.{Bool, true, false, [], Ok}
-use Rattle.lf_meaning.specs.Terms.{Path, Family, Kind, Ty, PiKind, domain_count}
+use Rattle.name_meaning.specs.Names.{Path}
+use Rattle.lf_meaning.specs.Terms.{Family, Kind, Ty, PiKind, domain_count}
 use Rattle.lf_meaning.specs.Signatures.{Class, FamilyClass, KindClass, Value, Declaration}
 use Rattle.lf_meaning.specs.Equality.{same_family, same_class}
 use Rattle.translation_meaning.specs.Heads.{Head}
@@ -11,12 +12,13 @@ use Rattle.library_meaning.specs.Words.{own_value}
 use Rattle.text_meaning.specs.Tokens.{Span}
 use Rattle.text_meaning.specs.Trees.{Expr, TypeExpr, NameExpr, AppExpr, PiExpr, LamExpr, TypedLamExpr, ArrowExpr, BackExpr}
 use Rattle.expansion_meaning.specs.Rules.{Rule}
-use Rattle.expansion_meaning.specs.Answers.{Answer, broken, must, ◌>>=◌}
+use Rattle.expansion_meaning.specs.Answers.{Answer, broken, must}
+use Rattle.answer_meaning.specs.Answers.{◌>>=◌}
 use Rattle.expansion_meaning.specs.Locals.{Locals, with_local}
 use Rattle.expansion_meaning.specs.NameHeads.{Level, Objects, Families, same_level, name_head}
 use Rattle.expansion_meaning.specs.Expansion.{span_of, family_at_type, expand_head, expand_arguments, expand_object, expand_family, expand_kind}
 
--- Read: the last body of the products is `type`.
+-- The last body of the products is `type`.
 unfoldable pub ends_in_type : Expr → Bool
 ends_in_type (TypeExpr span) = true
 ends_in_type (PiExpr span binder domain body) = ends_in_type body
@@ -27,7 +29,7 @@ ends_in_type (AppExpr span function arguments) = false
 ends_in_type (LamExpr span binder body) = false
 ends_in_type (TypedLamExpr span binder domain body) = false
 
--- Read: the class that an expression stands for: a kind where it ends in `type`, else a family.
+-- The class that an expression stands for: a kind where it ends in `type`, else a family.
 abbrev pub class_by : Scope → Expr → Bool → Answer Class
 class_by scope expression true = do
   kind ← expand_kind scope [] expression
@@ -36,26 +38,26 @@ class_by scope expression false = do
   family ← expand_family scope [] expression
   Ok (FamilyClass family)
 
--- Read: the class that an expression stands for.
+-- The class that an expression stands for.
 unfoldable pub expand_class : Scope → Expr → Answer Class
 expand_class scope expression = class_by scope expression (ends_in_type expression)
 
--- Read: the domain of a kind, and the kind behind it.
+-- The domain of a kind, and the kind behind it.
 pub record KindProduct : Type 0 where
   pub domain : Family
   pub rest : Kind
 
--- Read: a λ stands at a Π kind alone.
+-- A λ stands at a Π kind alone.
 abbrev pub lambda_at_kind : Span → Kind → Answer KindProduct
 lambda_at_kind span (PiKind domain rest) = Ok (record { domain = domain; rest = rest })
 lambda_at_kind span Ty = broken span Rule.Mismatch
 
--- Read: the family of a head that is wanted at this kind: a name or an application stands at `type` alone.
+-- The family of a head that is wanted at this kind: a name or an application stands at `type` alone.
 abbrev pub family_at_kind : Span → Kind → Head → Answer Family
 family_at_kind span (PiKind domain rest) head = broken span Rule.NotCanonical
 family_at_kind span Ty head = family_at_type span head
 
--- Read: the body of the family value that an expression stands for at a kind: λ for each domain of the kind, and an atomic
+-- The body of the family value that an expression stands for at a kind: λ for each domain of the kind, and an atomic
 -- family under them.
 unfoldable pub expand_family_value : Scope → Locals → Expr → Kind → Answer Family
 expand_family_value scope locals (LamExpr span binder body) kind = do
@@ -78,19 +80,19 @@ expand_family_value scope locals (AppExpr span function arguments) kind = do
   head ← expand_arguments scope locals arguments first
   family_at_kind span kind head
 
--- Read: a family is the class of objects, a kind that of families.
+-- A family is the class of objects, a kind that of families.
 abbrev pub class_level : Class → Level
 class_level (FamilyClass family) = Objects
 class_level (KindClass kind) = Families
 
--- Read: the declaration that a name is resolved to. Around a value there are no variables.
+-- The declaration that a name is resolved to. Around a value there are no variables.
 abbrev pub resolved_declaration : Span → Resolved → Answer Declaration
 resolved_declaration span (Variable index) = broken span Rule.UnknownName
 resolved_declaration span (Declared declaration) = Ok declaration
 resolved_declaration span Unknown = broken span Rule.UnknownName
 resolved_declaration span Ambiguous = broken span Rule.AmbiguousName
 
--- Read: the value that one name gives: an undefined constant itself, or the value of a defined one.
+-- The value that one name gives: an undefined constant itself, or the value of a defined one.
 abbrev pub named_value : Scope → Span → Path → Class → Answer Value
 named_value scope span path class = do
   declaration ← resolved_declaration span (resolve scope [] path)
@@ -98,7 +100,7 @@ named_value scope span path class = do
   _ ← must (same_class declaration.class class) span Rule.Mismatch
   Ok (own_value declaration declaration.value)
 
--- Read: the value that an expression which is not one name gives.
+-- The value that an expression which is not one name gives.
 abbrev pub built_value : Scope → Expr → Class → Answer Value
 built_value scope expression (FamilyClass family) = do
   object ← expand_object scope [] expression family
@@ -107,7 +109,7 @@ built_value scope expression (KindClass kind) = do
   body ← expand_family_value scope [] expression kind
   Ok (family_value (domain_count kind) body)
 
--- Read: the value that an expression stands for at a class.
+-- The value that an expression stands for at a class.
 unfoldable pub expand_value : Scope → Expr → Class → Answer Value
 expand_value scope (NameExpr span path) class = named_value scope span path class
 expand_value scope (TypeExpr span) class = built_value scope (TypeExpr span) class

@@ -1,14 +1,15 @@
 -- What stands is well typed over a well-typed signature that knows the scope's declarations, as the scope's own does.
 use Rattle.std.proofs.Common.{◌≡◌, ℕ, zero, suc, [], ◌∷◌, ◌++◌, take, drop, slice_get, Option, Some, None, option_map, inl, inr, refl, sym, ap, subst}
-use Rattle.lf_meaning.specs.Terms.{Path, Object, Lam, At, Var, Con, App, Family, Pi, AtFamily, FamilyCon, FamilyApp, Kind, Ty, PiKind, Context, domain_count, with_domains}
+use Rattle.name_meaning.specs.Names.{Path}
+use Rattle.lf_meaning.specs.Terms.{Object, Lam, At, Var, Con, App, Family, Pi, AtFamily, FamilyCon, FamilyApp, Kind, Ty, PiKind, Context, domain_count, with_domains}
 use Rattle.lf_meaning.specs.Raising.{raise_family}
 use Rattle.lf_meaning.specs.Signatures.{Class, FamilyClass, KindClass, Value, SameAs, TermValue, FamilyValue, Declaration, Signature, undefined_class, class_of}
 use Rattle.lf_meaning.specs.Judgements.{Checks, Synthesises, IsFamily, IsKind, IsContext, IsClass, Fits, ValueFits, IsDeclaration, IsSignature}
-use Rattle.lf_metatheory.proofs.Declared.{class_more}
-use Rattle.lf_metatheory.proofs.Typed.{more_checks, more_family, more_kind}
-use Rattle.lf_metatheory.proofs.HeadTyping.{synthesised_is_family}
-use Rattle.log_meaning.proofs.Members.{Member}
-use Rattle.log_meaning.proofs.Places.{split_at}
+use Rattle.lf_typing.proofs.Declared.{class_more}
+use Rattle.lf_typing.proofs.Typed.{more_checks, more_family, more_kind}
+use Rattle.lf_typing.proofs.HeadTyping.{synthesised_is_family}
+use Rattle.list_laws.proofs.Members.{Member}
+use Rattle.list_laws.proofs.Places.{split_at}
 use Rattle.translation_meaning.specs.Heads.{Head, ObjectHead, FamilyHead}
 use Rattle.translation_meaning.specs.Translation.{object_value, family_value}
 use Rattle.library_meaning.specs.Resolution.{Scope, Resolved, Variable, Declared, Unknown, Ambiguous}
@@ -19,30 +20,30 @@ use Rattle.expansion_meaning.specs.Locals.{Local, Locals, with_local, variables_
 use Rattle.expansion_meaning.specs.NameHeads.{class_head}
 use Rattle.translation_meaning.specs.AtomicFamilies.{IsAtomicFamily}
 use Rattle.expansion_meaning.specs.Stands.{BeginsAs, NameStands, StandsObject, StandsHead, StandsArguments, StandsFamily, StandsKind, StandsClass, StandsFamilyValue, NameGives, BuildsValue, StandsValue}
-use Rattle.expansion_meaning.proofs.Binding.{some_same}
 use Rattle.holding_laws.specs.HoldingLaws.{Grows}
 use Rattle.holding_laws.specs.ExpansionHolds.{scope_signature}
 use Rattle.holding_laws.proofs.Declared.{place_of, class_in}
 use Rattle.holding_laws.proofs.Expanding.{scope_member}
 use Rattle.expansion_typing.specs.TypingOfExpansion.{IsTypedScope, StandingObjectChecks, StandingHeadIsTyped, TakenArgumentsAreTyped, StandingFamilyIsFamily, StandingKindIsKind, StandingClassIsClass, StandingFamilyValueIsFamily, StandingValueFits}
-use Rattle.sorted_translation.proofs.KindDomains.{domains_append}
+use Rattle.translation_sort_laws.proofs.KindDomains.{domains_append}
 use Rattle.translation_typing.specs.FamilyHeads.{OnSpine, UnderBinders}
 use Rattle.translation_typing.proofs.TypedHeads.{family_whole}
 use Rattle.translation_typing.proofs.Grown.{declaration_more}
 use Rattle.expansion_typing.specs.TypingOfHeads.{HeadTyped}
 use Rattle.expansion_typing.proofs.HeadsTyped.{object_checks, head_taken, domain_typed}
+use Rattle.std.proofs.lemmas.Option.{same_Some}
 
 local_there : (locals : Locals) (index : ℕ) (family : Family) → family_at locals index ≡ Some family → (own : Family) × (slice_get (context_of locals) index ≡ Some own) × (family ≡ raise_family (suc index) 0 own)
 local_there locals index family h = by locals index (slice_get locals index) refl h
   where
     at : (xs : Locals) (i : ℕ) (own : Local) → slice_get xs i ≡ Some own → slice_get (context_of xs) i ≡ Some own.family
     at [] i own e = absurd (cc)
-    at (x ∷ xs) zero own e = ap (λ (z : Local). Some z.family) (some_same e)
+    at (x ∷ xs) zero own e = ap (λ (z : Local). Some z.family) (same_Some _ _ e)
     at (x ∷ xs) (suc i) own e = at xs i own e
 
     by : (xs : Locals) (i : ℕ) (o : Option Local) → slice_get xs i ≡ o → option_map (λ (own : Local). raise_family (suc index) 0 own.family) o ≡ Some family → (own : Family) × (slice_get (context_of xs) i ≡ Some own) × (family ≡ raise_family (suc index) 0 own)
     by xs i None e g = absurd (cc)
-    by xs i (Some own) e g = (own.family, at xs i own e, some_same (sym g))
+    by xs i (Some own) e g = (own.family, at xs i own e, same_Some _ _ (sym g))
 
 -- what a signature knows of a declaration
 pub record DeclaredTyped (sig : Signature) (d : Declaration) : Type 0 where

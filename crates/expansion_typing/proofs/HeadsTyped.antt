@@ -5,9 +5,9 @@ use Rattle.lf_meaning.specs.Erasure.{erase}
 use Rattle.lf_meaning.specs.Substitution.{substitute_family, app}
 use Rattle.lf_meaning.specs.Signatures.{Signature}
 use Rattle.lf_meaning.specs.Judgements.{Checks, IsFamily, IsKind, IsContext, IsSignature}
-use Rattle.lf_metatheory.proofs.Regular.{context_sorted}
-use Rattle.lf_metatheory.proofs.HeadTyping.{app_checks}
-use Rattle.lf_metatheory.proofs.SubstitutionTyping.{substitute_is_family}
+use Rattle.lf_typing.proofs.Regular.{context_sorted}
+use Rattle.lf_typing.proofs.HeadTyping.{app_checks}
+use Rattle.lf_typing.proofs.SubstitutionTyping.{substitute_is_family}
 use Rattle.translation_meaning.specs.Heads.{Head, ObjectHead, FamilyHead, family_head_takes, head_takes}
 use Rattle.translation_typing.specs.FamilyHeads.{FamilyTyped}
 use Rattle.translation_typing.proofs.TypedHeads.{kind_of_body, spine_taken, binder_taken}

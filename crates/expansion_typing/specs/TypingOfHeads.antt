@@ -6,12 +6,12 @@ use Rattle.lf_meaning.specs.Judgements.{Checks, Synthesises, IsFamily, IsKind}
 use Rattle.translation_meaning.specs.Heads.{Head, ObjectHead, FamilyHead}
 use Rattle.translation_typing.specs.FamilyHeads.{FamilyTyped}
 
--- Read: the object checks against its classifier, or is atomic and synthesises it: at a Π a head without all its arguments does
+-- The object checks against its classifier, or is atomic and synthesises it: at a Π a head without all its arguments does
 -- not check.
 abbrev pub ObjectTyped : Signature → Context → Object → Family → Type 0
 ObjectTyped sig context object classifier = Checks sig context object classifier ⊎ ((r : Atomic) × (object ≡ At r) × Synthesises sig context r classifier)
 
--- Read: an object of its classifier, which is a family; or a family of the kind that is left, which is a kind.
+-- An object of its classifier, which is a family; or a family of the kind that is left, which is a kind.
 abbrev pub HeadTyped : Signature → Context → Head → Type 0
 HeadTyped sig context (ObjectHead object classifier) = ObjectTyped sig context object classifier × IsFamily sig context classifier
 HeadTyped sig context (FamilyHead binders family kind) = FamilyTyped sig context binders family kind × IsKind sig context kind

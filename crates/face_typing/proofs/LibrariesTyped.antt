@@ -2,31 +2,27 @@
 use Rattle.std.proofs.Common.{List, ◌≡◌, ℕ, zero, suc, Bool, true, false, ◌++◌, length, Option, Some, None, Ok, Err, refl, sym, ap, ◌∙◌, subst}
 use Rattle.std.specs.Prelude.{⊤}
 use Rattle.lf_meaning.specs.Judgements.{IsSignature}
-use Rattle.lf_meaning.proofs.Equality.{same_name_sound}
-use Rattle.lf_meaning.specs.Signatures.{same_name as same_bytes}
-use Rattle.lf_metatheory.proofs.Growing.{empty_signature}
-use Rattle.log_meaning.specs.Names.{Name, Text, is_among}
+use Rattle.name_meaning.specs.Names.{same_name as same_bytes, Name, Text, is_among}
+use Rattle.lf_typing.proofs.Growing.{empty_signature}
 use Rattle.log_meaning.specs.Log.{Library, text_of}
 use Rattle.translation_typing.proofs.Laws.{typing_is_carried}
 use Rattle.library_meaning.specs.Faces.{TheoryFace, ViewFace, IsAbsent, IsTheory, IsView, Environment, theory_of, includes_of, own_of, own_parts, flat_signature, flat_of}
 use Rattle.library_meaning.specs.Coherence.{IsCoherent}
-use Rattle.text_meaning.specs.Trees.{Module, SigModule, ViewModule}
+use Rattle.text_meaning.specs.Trees.{Module, SigModule, ViewModule, first_name}
 use Rattle.text_meaning.specs.Reading.{ModuleText, ModuleTree, JudgementTree, Answer, Read, Syntax, TooDeep, Unsupported}
-use Rattle.text_laws.specs.ReadingLaws.{read}
+use Rattle.text_meaning.specs.TextAnswers.{read}
 use Rattle.expansion_meaning.specs.Rules.{Rule}
-use Rattle.expansion_meaning.proofs.Binding.{came_by, some_same}
 use Rattle.link_meaning.specs.Refusals.{Outcome, demand}
-use Rattle.link_meaning.proofs.Covered.{good_same}
-use Rattle.link_meaning.proofs.Valued.{demand_holds}
-use Rattle.link_meaning.proofs.Linked.{known_theory}
-use Rattle.verdict_meaning.specs.Dependencies.{first_name, dependencies}
+use Rattle.link_laws.proofs.Covered.{good_same}
+use Rattle.link_laws.proofs.Valued.{demand_holds}
+use Rattle.link_laws.proofs.Linked.{known_theory}
+use Rattle.text_meaning.specs.Dependencies.{dependencies}
 use Rattle.verdict_meaning.specs.Modules.{empty_theory, declare_all, checked_view}
 use Rattle.verdict_meaning.specs.Verdicts.{Interface, Theory, View, Verdict, Accepted, Refused, verdict_by, known_by, written_name, checked, judge_tree, judge_answer, judge}
-use Rattle.verdict_meaning.specs.Rounds.{others_reached, ungrounded_names, verdict_of, known_of, verdicts, told_by}
-use Rattle.verdict_meaning.specs.VerdictLaws.{known_to}
-use Rattle.verdict_meaning.proofs.Shortness.{Short, short_reached}
-use Rattle.verdict_meaning.proofs.Rounds.{in_others}
-use Rattle.verdict_meaning.proofs.Verdicts.{verdict_is_judged}
+use Rattle.verdict_meaning.specs.Rounds.{others_reached, verdict_of, known_of, verdicts, told_by, known_to}
+use Rattle.verdict_laws.proofs.Shortness.{Short, short_reached}
+use Rattle.verdict_laws.proofs.Rounds.{in_others}
+use Rattle.verdict_laws.proofs.Verdicts.{verdict_is_judged}
 use Rattle.coherence_laws.specs.CoherenceLaws.{AreClosed}
 use Rattle.coherence_laws.proofs.ModulesHold.{empty_holds, declare_all_holds}
 use Rattle.coherence_laws.proofs.LibrariesHold.{cycle_refuses, absent_reach, others_not, extends_to, itself_absent, told, theory_shown, view_shown, Sound, verdict_text, verdict_reached, sound, tells_more, accepted_theory, accepted_view, library_coherent, listed, closed_extends, grounded_short}
@@ -37,6 +33,10 @@ use Rattle.link_typing.proofs.LinkInterface.{LinksAreTyped}
 use Rattle.face_typing.proofs.ModulesTyped.{declare_all_typed, structure_is_typed, empty_typed, view_typed}
 use Rattle.face_typing.proofs.TypingTransfers.{theory_typing_transfers, view_typing_transfers}
 use Rattle.row_typing.proofs.ProperImages.{images_proper, proper_atomic_map}
+use Rattle.std.proofs.lemmas.Option.{same_Some}
+use Rattle.name_laws.proofs.Order.{same_sound}
+use Rattle.list_laws.proofs.Answers.{came_by}
+use Rattle.walk_meaning.specs.Walks.{ungrounded_names}
 
 -- ---- one module
 
@@ -63,7 +63,7 @@ module _ (links : LinksAreTyped) (environment : Environment) (coherent : IsCoher
   tree_typed ungrounded tree true interface h = absurd (cycle_refuses name _ interface h)
   tree_typed ungrounded tree false interface h =
       let n = came_by (demand (same_bytes (first_name (written_name tree).path) name) (written_name tree).span Rule.WrongName (written_name tree).path) _ interface h in
-      checked_typed tree interface (same_name_sound (first_name (written_name tree).path) name (demand_holds (same_bytes (first_name (written_name tree).path) name) (written_name tree).span Rule.WrongName (written_name tree).path n.item n.came)) n.goes
+      checked_typed tree interface (same_sound (first_name (written_name tree).path) name (demand_holds (same_bytes (first_name (written_name tree).path) name) (written_name tree).span Rule.WrongName (written_name tree).path n.item n.came)) n.goes
 
   answer_typed : (ungrounded : Name → Bool) (answer : Answer) (interface : Interface) → judge_answer environment ungrounded name answer ≡ Ok interface → ShowsTyped environment interface
   answer_typed ungrounded (Read (ModuleTree tree)) interface h = tree_typed ungrounded tree (ungrounded name) interface h
@@ -130,7 +130,7 @@ module _ (links : LinksAreTyped) (library : Library) where
         sound = s;
         typed = t;
         holds = λ verdict h. (let text = verdict_text library name (text_of library name) verdict refl h in
-            subst (HoldsTyped (known_to library name)) (some_same (sym (verdict_is_judged library name text.0 text.1) ∙ h)) (judge_typed links (known_to library name) s.coherent t name (itself_absent library name) (is_among (ungrounded_names library)) text.0));
+            subst (HoldsTyped (known_to library name)) (same_Some _ _ (sym (verdict_is_judged library name text.0 text.1) ∙ h)) (judge_typed links (known_to library name) s.coherent t name (itself_absent library name) (is_among (ungrounded_names dependencies library)) text.0));
       }
 
   -- from the names that a name reaches

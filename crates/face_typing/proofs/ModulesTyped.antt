@@ -1,25 +1,23 @@
 -- What a module makes is well typed over what is known of others.
 use Rattle.std.proofs.Common.{◌≡◌, ℕ, List, [], ◌∷◌, ◌++◌, slice_get, Option, Some, None, is_some, true, Ok, refl, ap, ◌∙◌, subst, append_assoc}
-use Rattle.lf_meaning.specs.Terms.{Name, Path}
+use Rattle.name_meaning.specs.Names.{Name, Path}
 use Rattle.lf_meaning.specs.Signatures.{Class, Value, Signature}
 use Rattle.lf_meaning.specs.Judgements.{IsClass, ValueFits, IsSignature}
-use Rattle.lf_metatheory.proofs.Growing.{empty_signature}
-use Rattle.translation_meaning.specs.HeadMaps.{HeadMap}
+use Rattle.lf_typing.proofs.Growing.{empty_signature}
+use Rattle.lf_meaning.specs.HeadMaps.{HeadMap}
 use Rattle.translation_meaning.specs.TypedMaps.{IsTypedMap}
 use Rattle.library_meaning.specs.Faces.{StructureFace, TheoryFace, ViewFace, IsAbsent, Environment, theory_of, structure_of, own_parts, flat_signature, flat_of}
 use Rattle.library_meaning.specs.Coherence.{IsCoherentTheory, IsCoherent}
-use Rattle.text_meaning.specs.Trees.{Expr, Written, Assign, Decl, IncludeDecl, StructDecl, ConstDecl}
+use Rattle.text_meaning.specs.Trees.{Expr, Written, Assign, Decl, IncludeDecl, StructDecl, ConstDecl, first_name}
 use Rattle.expansion_meaning.specs.Values.{expand_class, expand_value}
-use Rattle.expansion_meaning.proofs.Binding.{came_by, some_same}
-use Rattle.expansion_meaning.proofs.ValuesStand.{class_sound, value_sound}
+use Rattle.expansion_laws.proofs.ValuesStand.{class_sound, value_sound}
 use Rattle.expansion_typing.specs.TypingOfExpansion.{IsTypedScope}
 use Rattle.expansion_typing.proofs.Expanding.{standing_class_is_class, standing_value_fits}
 use Rattle.link_meaning.specs.Refusals.{labelled}
 use Rattle.link_meaning.specs.Passes.{link_map}
 use Rattle.link_meaning.specs.Induced.{induced, with_structure}
-use Rattle.link_meaning.proofs.Covered.{good_same}
-use Rattle.link_meaning.proofs.Valued.{label_came}
-use Rattle.verdict_meaning.specs.Dependencies.{first_name}
+use Rattle.link_laws.proofs.Covered.{good_same}
+use Rattle.link_laws.proofs.Valued.{label_came}
 use Rattle.verdict_meaning.specs.Modules.{module_test, scope_in, unused_test, declared_value, structure_setting, declare, declare_all, empty_theory, view_setting, checked_view}
 use Rattle.link_coherence_laws.proofs.LinksHold.{added_all}
 use Rattle.link_coherence_laws.proofs.InducedHold.{added_is_induced}
@@ -30,6 +28,8 @@ use Rattle.row_typing.specs.TypedLinks.{HereTyped}
 use Rattle.link_typing.proofs.LinkInterface.{LinksAreTyped}
 use Rattle.link_typing.proofs.BetweenTyped.{between_typed}
 use Rattle.face_typing.proofs.TheoriesTyped.{inclusion_typed, constant_typed, structure_typed}
+use Rattle.std.proofs.lemmas.Option.{same_Some}
+use Rattle.list_laws.proofs.Answers.{came_by}
 
 module _ (links : LinksAreTyped) (environment : Environment) (coherent : IsCoherent environment) (typed : IsTypedEnvironment environment) where
   -- ---- a theory
@@ -38,8 +38,8 @@ module _ (links : LinksAreTyped) (environment : Environment) (coherent : IsCoher
     here_typed : HereTyped environment (Some here)
     here_typed =
         record {
-          signature = λ face e. subst (λ (z : TheoryFace). IsSignature (flat_signature environment z)) (some_same e) t.signature;
-          structures = λ face e. subst (λ (z : TheoryFace). (i : ℕ) (x : StructureFace) → slice_get z.structures i ≡ Some x → IsTypedMap (flat_of environment x.domain) (flat_signature environment z) x.map) (some_same e) t.maps;
+          signature = λ face e. subst (λ (z : TheoryFace). IsSignature (flat_signature environment z)) (same_Some _ _ e) t.signature;
+          structures = λ face e. subst (λ (z : TheoryFace). (i : ℕ) (x : StructureFace) → slice_get z.structures i ≡ Some x → IsTypedMap (flat_of environment x.domain) (flat_signature environment z) x.map) (same_Some _ _ e) t.maps;
         }
 
     scope_typed : IsTypedScope (scope_in environment here)

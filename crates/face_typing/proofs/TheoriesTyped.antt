@@ -1,20 +1,19 @@
 -- Each declaration leaves the theory that is being built well typed.
 use Rattle.std.proofs.Common.{◌≡◌, List, [], ◌∷◌, ◌++◌, Option, ⊎_elim, sym, ap, ◌∙◌, subst, append_assoc, append-nil}
-use Rattle.lf_meaning.specs.Terms.{Name}
+use Rattle.name_meaning.specs.Names.{Name}
 use Rattle.lf_meaning.specs.Signatures.{Class, Value, Declaration, Signature}
 use Rattle.lf_meaning.specs.Judgements.{IsClass, ValueFits, IsSignature}
-use Rattle.lf_metatheory.proofs.Growing.{signature_grows}
-use Rattle.log_meaning.proofs.Members.{Member, in_append, append_left, append_right, in_flat_map, flat_map_in}
-use Rattle.log_meaning.proofs.Places.{get_more}
-use Rattle.translation_meaning.specs.HeadMaps.{HeadMap}
+use Rattle.lf_typing.proofs.Growing.{signature_grows}
+use Rattle.list_laws.proofs.Members.{Member, in_append, append_left, append_right, in_flat_map, flat_map_in}
+use Rattle.list_laws.proofs.Places.{get_more}
+use Rattle.lf_meaning.specs.HeadMaps.{HeadMap}
 use Rattle.translation_meaning.specs.TypedMaps.{IsTypedMap}
 use Rattle.library_meaning.specs.Faces.{StructureFace, TheoryFace, IsAbsent, Environment, theory_of, includes_of, own_part, own_parts, flat_signature, flat_of}
 use Rattle.library_meaning.specs.Closure.{with_inclusion}
 use Rattle.library_meaning.specs.Coherence.{IsCoherentTheory, IsCoherent}
-use Rattle.library_meaning.proofs.ClosureMembers.{inclusion_old}
-use Rattle.text_meaning.specs.Trees.{Written}
+use Rattle.library_laws.proofs.ClosureMembers.{inclusion_old}
+use Rattle.text_meaning.specs.Trees.{Written, first_name}
 use Rattle.link_meaning.specs.Induced.{induced, with_structure}
-use Rattle.verdict_meaning.specs.Dependencies.{first_name}
 use Rattle.verdict_meaning.specs.Modules.{with_constant, structure_setting}
 use Rattle.holding_laws.specs.HoldingLaws.{Grows}
 use Rattle.holding_laws.proofs.Declared.{front_grows}

@@ -1,18 +1,18 @@
 -- Declarations that are well typed one after another, over what stands before them.
 use Rattle.std.proofs.Common.{◌≡◌, ℕ, [], ◌∷◌, List, ◌++◌, length, take, slice_get, Option, Some, None, true, ⊎_elim, refl, sym, ap, ◌∙◌, subst, append_assoc, append-nil, arith}
 use Rattle.std.specs.Prelude.{⊤}
-use Rattle.lf_meaning.specs.Terms.{Name}
+use Rattle.name_meaning.specs.Names.{Name}
 use Rattle.lf_meaning.specs.Signatures.{Declaration, Signature}
 use Rattle.lf_meaning.specs.Judgements.{IsDeclaration, IsSignature}
-use Rattle.lf_metatheory.proofs.Growing.{empty_signature, signature_grows}
-use Rattle.log_meaning.proofs.Members.{Member, in_append, append_left, append_right, in_flat_map, flat_map_in}
-use Rattle.log_meaning.proofs.Order.{among_member, member_among}
-use Rattle.log_meaning.proofs.Places.{take_front, take_length}
-use Rattle.translation_meaning.specs.HeadMaps.{HeadMap}
+use Rattle.lf_typing.proofs.Growing.{empty_signature, signature_grows}
+use Rattle.list_laws.proofs.Members.{Member, in_append, append_left, append_right, in_flat_map, flat_map_in}
+use Rattle.name_laws.proofs.Order.{among_member, member_among}
+use Rattle.list_laws.proofs.Places.{take_front, take_length}
+use Rattle.lf_meaning.specs.HeadMaps.{HeadMap}
 use Rattle.library_meaning.specs.Faces.{TheoryFace, Environment, theory_of, includes_of, own_of, own_part, own_parts}
 use Rattle.library_meaning.specs.Closure.{sees}
 use Rattle.library_meaning.specs.Coherence.{IsClosure, IsCoherent}
-use Rattle.link_meaning.proofs.Linked.{known_theory}
+use Rattle.link_laws.proofs.Linked.{known_theory}
 use Rattle.holding_laws.specs.HoldingLaws.{Grows}
 use Rattle.link_coherence_laws.proofs.Onces.{Once, once_left, member_grows, closure_once, parts_joined}
 use Rattle.row_typing.specs.TypedFaces.{HaveFittingImages, IsTypedEnvironment}

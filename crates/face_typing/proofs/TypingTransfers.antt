@@ -1,6 +1,6 @@
 -- A face that is well typed over what is known stays so where more is known.
 use Rattle.std.proofs.Common.{◌≡◌, ℕ, ◌++◌, filter_map, slice_get, Some, sym, ap, ◌∙◌, subst}
-use Rattle.lf_meaning.specs.Terms.{Name}
+use Rattle.name_meaning.specs.Names.{Name}
 use Rattle.lf_meaning.specs.Judgements.{IsSignature}
 use Rattle.translation_meaning.specs.TypedMaps.{IsTypedMap}
 use Rattle.library_meaning.specs.Faces.{StructureFace, TheoryFace, ViewFace, Environment, theory_of, includes_of, own_of, own_parts, flat_signature, flat_of}

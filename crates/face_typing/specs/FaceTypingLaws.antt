@@ -1,6 +1,6 @@
 -- Accepted theories flatten to well-typed signatures; accepted views and structures carry typing (this profile).
 use Rattle.std.specs.Prelude.{◌≡◌, ℕ, true, List, slice_get, Some}
-use Rattle.log_meaning.specs.Names.{Name}
+use Rattle.name_meaning.specs.Names.{Name}
 use Rattle.log_meaning.specs.Log.{Library}
 use Rattle.lf_meaning.specs.Terms.{Object, Family, Context}
 use Rattle.lf_meaning.specs.Judgements.{IsTyping, IsSignature}
@@ -10,39 +10,38 @@ use Rattle.translation_typing.specs.TypedTranslation.{translate_context, IsTyped
 use Rattle.library_meaning.specs.Faces.{StructureFace, TheoryFace, ViewFace, IsTheory, IsView, Environment, flat_signature, flat_of}
 use Rattle.library_meaning.specs.Coherence.{IsCoherent}
 use Rattle.walk_meaning.specs.Walks.{is_grounded}
-use Rattle.verdict_meaning.specs.Dependencies.{dependencies}
-use Rattle.verdict_meaning.specs.Rounds.{known_of, verdicts, told_by}
-use Rattle.verdict_meaning.specs.VerdictLaws.{known_to}
+use Rattle.text_meaning.specs.Dependencies.{dependencies}
+use Rattle.verdict_meaning.specs.Rounds.{known_of, verdicts, told_by, known_to}
 use Rattle.coherence_laws.specs.CoherenceLaws.{AreClosed}
 use Rattle.row_typing.specs.TypedFaces.{IsTypedEnvironment}
 
--- Read: the faces of all accepted modules of a library are well typed.
+-- The faces of all accepted modules of a library are well typed.
 abbrev pub FacesAreTyped : Type 0
 FacesAreTyped = (library : Library) → IsTypedEnvironment (told_by library)
 
--- Read: so is all that a grounded module knows of others.
+-- So is all that a grounded module knows of others.
 abbrev pub GroundedKnowTyped : Type 0
 GroundedKnowTyped = (library : Library) (name : Name) → is_grounded dependencies library name ≡ true → IsTypedEnvironment (known_to library name)
 
--- Read: so is what the verdicts of a library tell of names that are closed under their reach.
+-- So is what the verdicts of a library tell of names that are closed under their reach.
 abbrev pub ClosedAreTyped : Type 0
 ClosedAreTyped = (library : Library) (names : List Name) → AreClosed library names → IsTypedEnvironment (known_of names (verdicts library))
 
--- Read: where all that is known is coherent and well typed, the map of a view is a typed one between well-typed signatures, of
+-- Where all that is known is coherent and well typed, the map of a view is a typed one between well-typed signatures, of
 -- atomic families, and its values are proper. So it commutes with raising and substitution, keeps typing, and composes.
 abbrev pub KnownViewsTranslate : Type 0
 KnownViewsTranslate =
     (environment : Environment) (name : Name) (face : ViewFace) → IsCoherent environment → IsTypedEnvironment environment → environment name ≡ IsView face
     → IsTypedTranslation (flat_of environment face.domain) (flat_of environment face.codomain) face.map × ValuesAreProper face.map
 
--- Read: so is that of a structure of a theory.
+-- So is that of a structure of a theory.
 abbrev pub KnownStructuresTranslate : Type 0
 KnownStructuresTranslate =
     (environment : Environment) (name : Name) (face : TheoryFace) (i : ℕ) (structure : StructureFace)
     → IsCoherent environment → IsTypedEnvironment environment → environment name ≡ IsTheory face → slice_get face.structures i ≡ Some structure
     → IsTypedTranslation (flat_of environment structure.domain) (flat_signature environment face) structure.map × ValuesAreProper structure.map
 
--- Read: where all that is known is coherent and well typed, a view carries each typing judgement of its domain to one of its
+-- Where all that is known is coherent and well typed, a view carries each typing judgement of its domain to one of its
 -- codomain.
 abbrev pub KnownViewsCarryTyping : Type 0
 KnownViewsCarryTyping =
@@ -51,7 +50,7 @@ KnownViewsCarryTyping =
     → IsTyping (flat_of environment face.domain) context object family
     → IsTyping (flat_of environment face.codomain) (translate_context face.map context) (translate_object face.map object) (translate_family face.map family)
 
--- Read: so does each structure of a theory, to the theory.
+-- So does each structure of a theory, to the theory.
 abbrev pub KnownStructuresCarryTyping : Type 0
 KnownStructuresCarryTyping =
     (environment : Environment) (name : Name) (face : TheoryFace) (i : ℕ) (structure : StructureFace) (context : Context) (object : Object) (family : Family)
@@ -59,19 +58,19 @@ KnownStructuresCarryTyping =
     → IsTyping (flat_of environment structure.domain) context object family
     → IsTyping (flat_signature environment face) (translate_context structure.map context) (translate_object structure.map object) (translate_family structure.map family)
 
--- Read: an accepted theory flattens to a well-typed signature.
+-- An accepted theory flattens to a well-typed signature.
 abbrev pub TheoriesFlatten : Type 0
 TheoriesFlatten =
     (library : Library) (name : Name) (face : TheoryFace) → told_by library name ≡ IsTheory face → IsSignature (flat_signature (told_by library) face)
 
--- Read: an accepted view carries each typing judgement of its domain to one of its codomain.
+-- An accepted view carries each typing judgement of its domain to one of its codomain.
 abbrev pub ViewsCarryTyping : Type 0
 ViewsCarryTyping =
     (library : Library) (name : Name) (face : ViewFace) (context : Context) (object : Object) (family : Family) → told_by library name ≡ IsView face
     → IsTyping (flat_of (told_by library) face.domain) context object family
     → IsTyping (flat_of (told_by library) face.codomain) (translate_context face.map context) (translate_object face.map object) (translate_family face.map family)
 
--- Read: so does each structure of an accepted theory, to the theory.
+-- So does each structure of an accepted theory, to the theory.
 abbrev pub StructuresCarryTyping : Type 0
 StructuresCarryTyping =
     (library : Library) (name : Name) (face : TheoryFace) (i : ℕ) (structure : StructureFace) (context : Context) (object : Object) (family : Family)

@@ -4,7 +4,7 @@ use Rattle.std.proofs.lemmas.List.{reverse-append, reverse-reverse}
 use Rattle.lf_meaning.specs.Terms as terms
 use Rattle.lf_meaning.specs.Raising.{raise}
 use Rattle.lf_meaning.specs.Substitution.{substitute, substitute_family, reduce, app}
-use Rattle.lf_meaning.proofs.Spines.{substitute_applied_at, substitute_applied_below, substitute_applied_above, substitute_applied_constant, map_applied, apply_all_appended}
+use Rattle.lf_term_laws.proofs.Spines.{substitute_applied_at, substitute_applied_below, substitute_applied_above, substitute_applied_constant, map_applied, apply_all_appended}
 use Rattle.lf_terms.specs.Readings.{read_constant, read_head, read_object, read_objects, arguments_of, read_arguments, read_family}
 use Rattle.lf_terms.specs.declared.qname.QName.{QName}
 use Rattle.lf_terms.specs.declared.obj.Head.{Head}

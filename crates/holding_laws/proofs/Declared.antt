@@ -2,15 +2,16 @@
 use Rattle.std.proofs.Common.{◌≡◌, ℕ, zero, suc, Bool, true, false, cond, List, [], ◌∷◌, ◌++◌, take, drop, slice_get, Option, Some, None, refl, sym, ap, ◌∙◌, subst, inl, inr}
 use Rattle.lf_meaning.specs.Terms.{Constant}
 use Rattle.lf_meaning.specs.Signatures.{Class, Declaration, Signature, same_constant, declaration_of, undefined_class, declared_class, class_of}
-use Rattle.lf_meaning.proofs.Equality.{same_constant_sound, same_constant_itself}
-use Rattle.log_meaning.proofs.Members.{Member}
-use Rattle.log_meaning.proofs.Places.{take_drop}
+use Rattle.lf_term_laws.proofs.Equality.{same_constant_sound, same_constant_itself}
+use Rattle.list_laws.proofs.Members.{Member}
+use Rattle.list_laws.proofs.Places.{take_drop}
 use Rattle.library_meaning.specs.Holding.{ClassHolds, OptionalValueHolds}
 use Rattle.library_meaning.specs.Coherence.{DeclarationsHold}
-use Rattle.expansion_meaning.proofs.Binding.{some_same}
 use Rattle.holding_laws.specs.HoldingLaws.{Grows}
 use Rattle.holding_laws.specs.ExpansionHolds.{NamesOnce}
 use Rattle.holding_laws.proofs.Growing.{class_grows, optional_grows}
+use Rattle.std.proofs.lemmas.Option.{same_Some}
+use Rattle.lf_term_laws.proofs.Declarations.{declared_some, declaration_front}
 
 pub place_of : {A : Type 0} (xs : List A) (x : A) → Member x xs → (i : ℕ) × (slice_get xs i ≡ Some x)
 place_of [] x m = absurd m
@@ -20,14 +21,6 @@ place_of (y ∷ ys) x (inr m) = let p = place_of ys x m in (suc p.0, p.1)
 front_by : (b : Bool) (x d : Declaration) (o q : Option Declaration) → cond b (Some x) o ≡ Some d → (o ≡ Some d → q ≡ Some d) → cond b (Some x) q ≡ Some d
 front_by true x d o q h f = h
 front_by false x d o q h f = f h
-
-declaration_front : (xs ys : Signature) (c : Constant) (d : Declaration) → declaration_of xs c ≡ Some d → declaration_of (xs ++ ys) c ≡ Some d
-declaration_front [] ys c d h = absurd (cc)
-declaration_front (x ∷ xs) ys c d h = front_by (same_constant x.name c) x d (declaration_of xs c) (declaration_of (xs ++ ys) c) h (declaration_front xs ys c d)
-
-declared_some : (o : Option Declaration) (class : Class) → declared_class o ≡ Some class → (d : Declaration) × (o ≡ Some d)
-declared_some None class h = absurd (cc)
-declared_some (Some d) class h = (d, refl)
 
 -- a signature grows at its end
 pub front_grows : (xs ys : Signature) → Grows xs (xs ++ ys)
@@ -57,7 +50,7 @@ found_at [] i d h = absurd (cc)
 found_at (x ∷ xs) zero d h = found_by (same_constant x.name d.name) x xs d.name refl (λ n. absurd (clash n))
   where
     equal : same_constant x.name d.name ≡ true
-    equal = ap (λ z. same_constant z.name d.name) (some_same h) ∙ same_constant_itself d.name
+    equal = ap (λ z. same_constant z.name d.name) (same_Some _ _ h) ∙ same_constant_itself d.name
 
     clash : cond (same_constant x.name d.name) false true ≡ true → ⊥
     clash n = let e : false ≡ true = sym (ap (λ b. cond b false true) equal) ∙ n in cc

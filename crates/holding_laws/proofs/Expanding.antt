@@ -1,10 +1,11 @@
 -- What stands holds only constants of the scope.
 use Rattle.std.proofs.Common.{◌≡◌, ℕ, zero, suc, ◌+◌, ◌<◌, List, [], ◌∷◌, length, slice_get, Option, Some, None, option_map, refl, sym, ap, subst, arith, inl, inr}
-use Rattle.lf_meaning.specs.Terms.{Path, Object, Family, Pi, Kind, Ty, PiKind, domain_count}
+use Rattle.name_meaning.specs.Names.{Path}
+use Rattle.lf_meaning.specs.Terms.{Object, Family, Pi, Kind, Ty, PiKind, domain_count}
 use Rattle.lf_meaning.specs.Raising.{raise_family}
 use Rattle.lf_meaning.specs.Signatures.{Class, FamilyClass, KindClass, Value, SameAs, TermValue, FamilyValue, Declaration, Signature, undefined_class, class_of}
-use Rattle.log_meaning.proofs.Members.{Member, append_left, append_right, flat_map_in, find_found}
-use Rattle.log_meaning.proofs.Order.{among_member}
+use Rattle.list_laws.proofs.Members.{Member, append_left, append_right, flat_map_in, find_found, place_member}
+use Rattle.name_laws.proofs.Order.{among_member}
 use Rattle.translation_meaning.specs.Heads.{Head, ObjectHead, FamilyHead}
 use Rattle.library_meaning.specs.Faces.{own_part, own_parts}
 use Rattle.library_meaning.specs.Resolution.{Scope, Variables, has_path, Resolved, Variable, Declared, Unknown, Ambiguous}
@@ -16,18 +17,13 @@ use Rattle.expansion_meaning.specs.Locals.{Local, Locals, with_local, variables_
 use Rattle.expansion_meaning.specs.NameHeads.{class_head}
 use Rattle.translation_meaning.specs.AtomicFamilies.{IsAtomicFamily}
 use Rattle.expansion_meaning.specs.Stands.{BeginsAs, NameStands, StandsObject, StandsHead, StandsArguments, StandsFamily, StandsKind, StandsClass, StandsFamilyValue, NameGives, BuildsValue, StandsValue}
-use Rattle.expansion_meaning.proofs.Binding.{some_same}
 use Rattle.holding_laws.specs.ExpansionHolds.{scope_signature, ScopeHolds, LocalsHold, StandingObjectHolds, StandingHeadHolds, TakenArgumentsHold, StandingFamilyValueHolds, StandingFamilyHolds, StandingKindHolds, StandingClassHolds, StandingValueHolds}
 use Rattle.holding_laws.proofs.Declared.{place_of, class_in, class_at, value_at}
 use Rattle.holding_laws.proofs.Replaced.{raise_family_holds}
 use Rattle.holding_laws.specs.HeadsHold.{HeadHolds}
 use Rattle.holding_laws.proofs.Heads.{head_taken, domain_holds, whole_holds, whole_atomic, object_anywhere, family_anywhere, kind_anywhere, family_value_partly, constant_partly}
 use Rattle.holding_laws.proofs.Translating.{object_value_holds, family_value_holds}
-
-place_member : {A : Type 0} (xs : List A) (i : ℕ) (x : A) → slice_get xs i ≡ Some x → Member x xs
-place_member [] i x h = absurd (cc)
-place_member (y ∷ ys) zero x h = inl (sym (some_same h))
-place_member (y ∷ ys) (suc i) x h = inr (place_member ys i x h)
+use Rattle.std.proofs.lemmas.Option.{same_Some}
 
 -- ---- variables
 
@@ -38,13 +34,13 @@ record LocalAt (signature : Signature) (variables index : ℕ) (family : Family)
 local_at : (signature : Signature) (locals : Locals) (shift index : ℕ) (own : Local) → LocalsHold signature locals → slice_get locals index ≡ Some own → shift ≡ suc index → LocalAt signature (length locals) index (raise_family shift 0 own.family)
 local_at signature [] shift index own h e g = absurd (cc)
 local_at signature (l ∷ locals) shift zero own h e g =
-    let q : l ≡ own = some_same e in
+    let q : l ≡ own = same_Some _ _ e in
     record { within = omega arith; holds = subst (λ z. FamilyHolds signature (suc (length locals)) (raise_family shift 0 z.family)) q (raise_family_holds signature shift l.family 0 (length locals) (suc (length locals)) (omega (arith, g)) h.0) }
 local_at signature (l ∷ locals) shift (suc index) own h e g = further
   where
     place : (xs : Locals) (i : ℕ) → LocalsHold signature xs → slice_get xs i ≡ Some own → (n : ℕ) × FamilyHolds signature n own.family × (length xs ≡ n + suc i)
     place [] i h e = absurd (cc)
-    place (x ∷ xs) zero h e = (length xs, subst (λ z. FamilyHolds signature (length xs) z.family) (some_same e) h.0, omega arith)
+    place (x ∷ xs) zero h e = (length xs, subst (λ z. FamilyHolds signature (length xs) z.family) (same_Some _ _ e) h.0, omega arith)
     place (x ∷ xs) (suc i) h e = let p = place xs i h.1 e in let c = p.2 in (p.0, p.1, omega (arith, c))
 
     further : LocalAt signature (suc (length locals)) (suc index) (raise_family shift 0 own.family)
@@ -56,7 +52,7 @@ local_at signature (l ∷ locals) shift (suc index) own h e g = further
 own_local : (locals : Locals) (index : ℕ) (o : Option Local) (family : Family) → slice_get locals index ≡ o → option_map (λ (own : Local). raise_family (suc index) 0 own.family) o ≡ Some family
     → (own : Local) × (slice_get locals index ≡ Some own) × (raise_family (suc index) 0 own.family ≡ family)
 own_local locals index None family e h = absurd (cc)
-own_local locals index (Some own) family e h = (own, e, some_same h)
+own_local locals index (Some own) family e h = (own, e, same_Some _ _ h)
 
 -- a declaration that a path stands for is one of the scope
 pub scope_member : (scope : Scope) (variables : Variables) (path : Path) (d : Declaration) → StandsFor scope variables path (Declared d) → Member d (scope_signature scope)

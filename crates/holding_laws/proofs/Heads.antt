@@ -13,7 +13,8 @@ use Rattle.translation_meaning.specs.AtomicFamilies.{IsAtomicFamily}
 use Rattle.holding_laws.specs.HoldingLaws.{Grows}
 use Rattle.holding_laws.specs.HeadsHold.{PartlyHolds, UnderBinders, OnSpine, HeadHolds}
 use Rattle.holding_laws.proofs.Growing.{object_grows, family_grows, kind_grows}
-use Rattle.holding_laws.proofs.Replaced.{domains_map, substitute_family_holds, substitute_kind_holds, app_holds}
+use Rattle.holding_laws.proofs.Replaced.{substitute_family_holds, substitute_kind_holds, app_holds}
+use Rattle.lf_term_laws.proofs.Spines.{domains_map}
 
 module _ (signature : Signature) where
   atomic_kept : (f : ℕ → Object → Object) (n : ℕ) (a : Family) → IsAtomicFamily a → IsAtomicFamily (map_family f n a)

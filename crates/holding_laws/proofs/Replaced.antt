@@ -7,7 +7,7 @@ use Rattle.lf_meaning.specs.Raising.{raised, raise, raise_atomic, map_family, ma
 use Rattle.lf_meaning.specs.Replacement.{Action, Stay, Step, Headed, Kept, Replaced, object_of, value_takes, takes, Replacement, replace, replace_head}
 use Rattle.lf_meaning.specs.Substitution.{substituted, substitution, action, substitute, app}
 use Rattle.lf_meaning.specs.Signatures.{Signature}
-use Rattle.lf_meaning.proofs.Substituted.{substituted_below, substituted_at, substituted_above}
+use Rattle.lf_term_laws.proofs.Substituted.{substituted_below, substituted_at, substituted_above}
 use Rattle.lf_substitution_laws.proofs.Indices.{Position, below, at, above, position, raised_below, raised_above}
 use Rattle.lf_substitution_laws.proofs.Families.{head_constant_map}
 use Rattle.library_meaning.specs.Holding.{IsObjectConstant, IsFamilyConstant, ObjectHolds, AtomicHolds, ArgumentsHold, FamilyHolds, KindHolds}
@@ -89,10 +89,6 @@ module _ (signature : Signature) (f : ℕ → Object → Object) (Place : ℕ �
   pub kind_map : (k : Kind) (n v w : ℕ) → Place n v w → KindHolds signature v k → KindHolds signature w (map_kind f n k)
   kind_map Ty n v w p h = tt
   kind_map (PiKind domain kind) n v w p h = (family_map domain n v w p h.0, kind_map kind (suc n) (suc v) (suc w) (under n v w p) h.1)
-
-pub domains_map : (f : ℕ → Object → Object) (n : ℕ) (k : Kind) → domain_count (map_kind f n k) ≡ domain_count k
-domains_map f n Ty = refl
-domains_map f n (PiKind domain kind) = ap suc (domains_map f (suc n) kind)
 
 -- ---- substitution
 

@@ -4,19 +4,21 @@ use Rattle.lf_meaning.specs.Terms.{Constant, Object, Lam, At, Var, Con, App, Fam
 use Rattle.lf_meaning.specs.Erasure.{head_constant, erase}
 use Rattle.lf_meaning.specs.Signatures.{Class, FamilyClass, KindClass, Value, SameAs, TermValue, FamilyValue, Declaration, Signature, same_constant, declaration_of, undefined_class, declared_class, class_of}
 use Rattle.lf_meaning.specs.Substitution.{substitute, substitute_kind}
-use Rattle.lf_substitution_laws.specs.Uniform.{of_constants}
+use Rattle.lf_meaning.specs.Replacement.{of_constants}
 use Rattle.translation_meaning.specs.Heads.{Head, ObjectHead, FamilyHead, family_head_takes, head_takes}
-use Rattle.translation_meaning.specs.HeadMaps.{Mapping, HeadMap, image_of}
+use Rattle.lf_meaning.specs.HeadMaps.{Mapping, HeadMap, image_of}
 use Rattle.translation_meaning.specs.Translation.{object_image, headed_image, translate_object, family_image, family_head_image, translate_head, family_of, translate_family, translate_kind, translate_class, object_value, family_value, same_image, translate_value, translate_image, compose}
 use Rattle.translation_meaning.specs.ProperValues.{IsValueBody}
 use Rattle.library_meaning.specs.Holding.{IsObjectConstant, IsFamilyConstant, ObjectHolds, ArgumentsHold, FamilyHolds, KindHolds, ClassHolds, ValueHolds, AlikeClasses}
 use Rattle.library_meaning.specs.Coherence.{declared_names, mapped_names}
 use Rattle.translation_meaning.specs.AtomicFamilies.{IsAtomicFamily}
-use Rattle.expansion_meaning.proofs.Binding.{some_same}
 use Rattle.holding_laws.specs.TranslationHolds.{MapsInto, CoherentMapsInto, CompositionIsCoherent}
-use Rattle.holding_laws.proofs.Replaced.{HeadedHolds, domains_map, action_holds, replace_holds}
+use Rattle.holding_laws.proofs.Replaced.{HeadedHolds, action_holds, replace_holds}
 use Rattle.holding_laws.specs.HeadsHold.{PartlyHolds, HeadHolds}
 use Rattle.holding_laws.proofs.Heads.{head_taken, whole_holds, whole_atomic, object_anywhere, kind_anywhere, family_value_partly, constant_partly}
+use Rattle.std.proofs.lemmas.Option.{same_Some}
+use Rattle.list_laws.proofs.Lists.{first_same, rest_same}
+use Rattle.lf_term_laws.proofs.Spines.{domains_map}
 
 -- ---- values
 
@@ -179,12 +181,6 @@ pub record Placed (from : Signature) (along : HeadMap) (c : Constant) (d : Decla
   pub mapped : slice_get along place ≡ Some mapping
   pub image : image_of along c ≡ Some mapping.image
 
-first_same : {A : Type 0} {x y : A} {xs ys : List A} → x ∷ xs ≡ y ∷ ys → x ≡ y
-first_same h = cc
-
-rest_same : {A : Type 0} {x y : A} {xs ys : List A} → x ∷ xs ≡ y ∷ ys → xs ≡ ys
-rest_same h = cc
-
 module _ (c : Constant) (d : Declaration) where
   placed_by : (b : Bool) (x : Declaration) (xs : Signature) (m : Mapping) (ms : HeadMap) → same_constant m.name c ≡ b → cond b (Some x) (declaration_of xs c) ≡ Some d → (declaration_of xs c ≡ Some d → Placed xs ms c d) → Placed (x ∷ xs) (m ∷ ms) c d
   unfolding image_of
@@ -204,7 +200,7 @@ class_declared None class h = absurd (cc)
 class_declared (Some d) class h = (d, refl, by d.value h)
   where
     by : (o : Option Value) → undefined_class o d.class ≡ Some class → class ≡ d.class
-    by None e = some_same (sym e)
+    by None e = same_Some _ _ (sym e)
     by (Some v) e = absurd (cc)
 
 pub coherent_maps_into : CoherentMapsInto
@@ -216,7 +212,7 @@ coherent_maps_into from to along k c class h =
 
 mapped_at : {A B : Type 0} (f : A → B) (xs : List A) (i : ℕ) (y : B) → slice_get (map f xs) i ≡ Some y → (x : A) × (slice_get xs i ≡ Some x) × (y ≡ f x)
 mapped_at f [] i y h = absurd (cc)
-mapped_at f (x ∷ xs) zero y h = (x, refl, some_same (sym h))
+mapped_at f (x ∷ xs) zero y h = (x, refl, same_Some _ _ (sym h))
 mapped_at f (x ∷ xs) (suc i) y h = mapped_at f xs i y h
 
 composed_names : (first second : HeadMap) → mapped_names (compose first second) ≡ mapped_names first

@@ -13,63 +13,63 @@ use Rattle.translation_meaning.specs.AtomicFamilies.{IsAtomicFamily}
 use Rattle.expansion_meaning.specs.Stands.{StandsObject, StandsHead, StandsArguments, StandsFamily, StandsKind, StandsClass, StandsFamilyValue, StandsValue}
 use Rattle.holding_laws.specs.HeadsHold.{HeadHolds}
 
--- Read: the constants of a scope: those of the theories that are included, in order, and then the own ones.
+-- The constants of a scope: those of the theories that are included, in order, and then the own ones.
 abbrev pub scope_signature : Scope → Signature
 scope_signature scope = own_parts scope.environment scope.includes ++ scope.own
 
--- Read: each name is declared once.
+-- Each name is declared once.
 abbrev pub NamesOnce : Signature → Type 0
 NamesOnce signature =
     (i j : ℕ) (declaration other : Declaration) → slice_get signature i ≡ Some declaration → slice_get signature j ≡ Some other → declaration.name ≡ other.name → i ≡ j
 
--- Read: the scope's declarations hold only constants that stand before them, and have different names.
+-- The scope's declarations hold only constants that stand before them, and have different names.
 pub record ScopeHolds (scope : Scope) : Type 0 where
   pub declarations : DeclarationsHold (scope_signature scope)
   pub once : NamesOnce (scope_signature scope)
 
--- Read: the family of each variable holds only those further out, and constants of the signature.
+-- The family of each variable holds only those further out, and constants of the signature.
 abbrev pub LocalsHold : Signature → Locals → Type 0
 LocalsHold signature [] = ⊤
 LocalsHold signature (own ∷ locals) = FamilyHolds signature (length locals) own.family × LocalsHold signature locals
 
--- Read: an object that stands at a family which holds, holds.
+-- An object that stands at a family which holds, holds.
 abbrev pub StandingObjectHolds : Type 0
 StandingObjectHolds =
     (scope : Scope) (locals : Locals) (expression : Expr) (family : Family) (object : Object) → ScopeHolds scope → LocalsHold (scope_signature scope) locals
     → FamilyHolds (scope_signature scope) (length locals) family → StandsObject scope locals expression family object
     → ObjectHolds (scope_signature scope) (length locals) object
 
--- Read: a head that stands, holds.
+-- A head that stands, holds.
 abbrev pub StandingHeadHolds : Type 0
 StandingHeadHolds =
     (scope : Scope) (locals : Locals) (expression : Expr) (head : Head) → ScopeHolds scope → LocalsHold (scope_signature scope) locals
     → StandsHead scope locals expression head → HeadHolds (scope_signature scope) (length locals) head
 
--- Read: so does one that has taken arguments, where the first head does.
+-- So does one that has taken arguments, where the first head does.
 abbrev pub TakenArgumentsHold : Type 0
 TakenArgumentsHold =
     (scope : Scope) (locals : Locals) (arguments : Exprs) (first head : Head) → ScopeHolds scope → LocalsHold (scope_signature scope) locals
     → HeadHolds (scope_signature scope) (length locals) first → StandsArguments scope locals arguments first head
     → HeadHolds (scope_signature scope) (length locals) head
 
--- Read: a family that stands, holds.
+-- A family that stands, holds.
 abbrev pub StandingFamilyHolds : Type 0
 StandingFamilyHolds =
     (scope : Scope) (locals : Locals) (expression : Expr) (family : Family) → ScopeHolds scope → LocalsHold (scope_signature scope) locals
     → StandsFamily scope locals expression family → FamilyHolds (scope_signature scope) (length locals) family
 
--- Read: a kind that stands, holds.
+-- A kind that stands, holds.
 abbrev pub StandingKindHolds : Type 0
 StandingKindHolds =
     (scope : Scope) (locals : Locals) (expression : Expr) (kind : Kind) → ScopeHolds scope → LocalsHold (scope_signature scope) locals
     → StandsKind scope locals expression kind → KindHolds (scope_signature scope) (length locals) kind
 
--- Read: a class that stands, holds.
+-- A class that stands, holds.
 abbrev pub StandingClassHolds : Type 0
 StandingClassHolds =
     (scope : Scope) (expression : Expr) (class : Class) → ScopeHolds scope → StandsClass scope expression class → ClassHolds (scope_signature scope) class
 
--- Read: the body of a family value that stands at a kind which holds, holds only the binders and the variables around them,
+-- The body of a family value that stands at a kind which holds, holds only the binders and the variables around them,
 -- and is atomic.
 abbrev pub StandingFamilyValueHolds : Type 0
 StandingFamilyValueHolds =
@@ -77,7 +77,7 @@ StandingFamilyValueHolds =
     → KindHolds (scope_signature scope) (length locals) kind → StandsFamilyValue scope locals expression kind body
     → FamilyHolds (scope_signature scope) (length locals + domain_count kind) body × IsAtomicFamily body
 
--- Read: a value that stands at a class which holds, holds.
+-- A value that stands at a class which holds, holds.
 abbrev pub StandingValueHolds : Type 0
 StandingValueHolds =
     (scope : Scope) (expression : Expr) (class : Class) (value : Value) → ScopeHolds scope → ClassHolds (scope_signature scope) class

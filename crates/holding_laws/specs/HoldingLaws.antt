@@ -6,31 +6,31 @@ use Rattle.lf_meaning.specs.Substitution.{substitute, substitute_family, substit
 use Rattle.lf_meaning.specs.Signatures.{Class, Signature, class_of}
 use Rattle.library_meaning.specs.Holding.{ObjectHolds, FamilyHolds, KindHolds}
 
--- Read: each constant of the first signature is one of the second, with its class.
+-- Each constant of the first signature is one of the second, with its class.
 abbrev pub Grows : Signature → Signature → Type 0
 Grows from to = (c : Constant) (class : Class) → class_of from c ≡ Some class → class_of to c ≡ Some class
 
--- Read: an object holds what it held over a signature that has more, and with more variables around it.
+-- An object holds what it held over a signature that has more, and with more variables around it.
 abbrev pub HoldingGrows : Type 0
 HoldingGrows = (from to : Signature) (object : Object) (variables more : ℕ) → Grows from to → variables ≤ more → ObjectHolds from variables object → ObjectHolds to more object
 
--- Read: raising brings nothing but the variables that are put in.
+-- Raising brings nothing but the variables that are put in.
 abbrev pub RaisingHolds : Type 0
 RaisingHolds = (signature : Signature) (by at variables : ℕ) (object : Object) → ObjectHolds signature variables object → ObjectHolds signature (variables + by) (raise by at object)
 
--- Read: substitution brings no other constants and variables than those of the value, which stands outside, and of the term.
+-- Substitution brings no other constants and variables than those of the value, which stands outside, and of the term.
 abbrev pub SubstitutionHolds : Type 0
 SubstitutionHolds =
     (signature : Signature) (value : Object) (t : Simple) (outside at : ℕ) (object : Object) → ObjectHolds signature outside value
     → ObjectHolds signature (suc (outside + at)) object → ObjectHolds signature (outside + at) (substitute value t at object)
 
--- Read: so in families.
+-- So in families.
 abbrev pub FamilySubstitutionHolds : Type 0
 FamilySubstitutionHolds =
     (signature : Signature) (value : Object) (t : Simple) (outside at : ℕ) (family : Family) → ObjectHolds signature outside value
     → FamilyHolds signature (suc (outside + at)) family → FamilyHolds signature (outside + at) (substitute_family value t at family)
 
--- Read: so in kinds.
+-- So in kinds.
 abbrev pub KindSubstitutionHolds : Type 0
 KindSubstitutionHolds =
     (signature : Signature) (value : Object) (t : Simple) (outside at : ℕ) (kind : Kind) → ObjectHolds signature outside value

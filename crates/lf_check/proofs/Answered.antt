@@ -4,8 +4,8 @@ use Rattle.std.specs.Prelude.{IfErr, IfSome, OnOk, MatchOption, slice_get}
 use Rattle.lf_meaning.specs.Signatures.{Declaration, Signature}
 use Rattle.lf_meaning.specs.Judgements.{IsDeclaration, IsSignature}
 use Rattle.lf_meaning.specs.Faults.{Fault, BadDeclaration, declaration_fault, signature_fault}
-use Rattle.lf_metatheory.proofs.Faultless.{declaration_complete}
-use Rattle.lf_metatheory.proofs.FirstBadDeclaration.{first_bad}
+use Rattle.lf_typing.proofs.Faultless.{declaration_complete}
+use Rattle.lf_typing.proofs.FirstBadDeclaration.{first_bad}
 use Rattle.lf_check.specs.Answers.{fault_of, Answers, Refutes, IsBadOf, IsFirstBad, RefutesSignature}
 use Rattle.lf_check.specs.declared.faults.LfFault.{LfFault}
 use Rattle.lf_check.specs.declared.faults.SigFault.{SigFault}

@@ -6,7 +6,7 @@ use Rattle.lf_meaning.specs.Terms.{Constant, Object, Family, AtFamily, AtomicFam
 use Rattle.lf_meaning.specs.Signatures.{Signature}
 use Rattle.lf_meaning.specs.Faults.{Fault, NotAFunction, synthesised, synthesised_kind, application_answer, family_application_answer, object_fault}
 use Rattle.lf_meaning.specs.SpineSynthesis.{arguments_answer, family_arguments_answer}
-use Rattle.lf_meaning.proofs.SpineSynthesis.{synthesised_spine, synthesised_kind_spine, fault_stays, kind_fault_stays}
+use Rattle.lf_term_laws.proofs.SpineSynthesis.{synthesised_spine, synthesised_kind_spine, fault_stays, kind_fault_stays}
 use Rattle.lf_terms.specs.Readings.{read_head, read_object, read_objects, read_family, read_kind}
 use Rattle.lf_terms.specs.declared.fam.Fam.{Fam}
 use Rattle.lf_terms.specs.declared.kind.Kind as code

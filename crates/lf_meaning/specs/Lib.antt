@@ -9,7 +9,5 @@ pub mod Sorts
 pub mod Misfits
 pub mod Equality
 pub mod Faults
-pub mod Examples
-pub mod Application
-pub mod EqualityLaws
 pub mod SpineSynthesis
+pub mod HeadMaps

@@ -1,7 +1,7 @@
 -- Replacement of the heads of a term. Hereditary substitution is the replacement of one variable; a
 -- translation is the replacement of constants.
+use Rattle.lf_meaning.specs.Terms.{Constant, Object, Var, Lam, At, Atomic, Con, App}
 use Rattle.std.specs.Prelude.{ℕ, suc, List, [], ◌∷◌}
-use Rattle.lf_meaning.specs.Terms.{Constant, Object, Lam, At, Atomic, Var, Con, App}
 use Rattle.lf_meaning.specs.Raising.{raise, raise_atomic}
 
 -- What a value at a simple type does with its arguments. At a base it stays what it is. At an arrow
@@ -68,3 +68,11 @@ abbrev mutual
 abbrev pub replace_headed : Replacement → ℕ → Headed → Headed
 replace_headed by n (Kept r) = replace_head by n r
 replace_headed by n (Replaced v a) = Replaced (replace by n v) a
+
+-- The replacement of constants alone; variables stay.
+abbrev pub of_constants : (Constant → Headed) → Replacement
+of_constants by = record { variable = λ n i. Kept (Var i); constant = by }
+
+-- An object with what is given in place of each constant.
+abbrev pub replace_constants : (Constant → Headed) → Object → Object
+replace_constants by m = replace (of_constants by) 0 m

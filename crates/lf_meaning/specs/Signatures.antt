@@ -1,8 +1,9 @@
 -- Flat signatures: declarations of constants, in order (Harper and Licata 2007, section 2;
 -- definitions as in Rabe and Kohlhase 2013, section 3).
+use Rattle.name_meaning.specs.Names.{same_name, Name}
 use Rattle.std.specs.Prelude.{ℕ, List, [], ◌∷◌, Option, Some, None, Bool, ◌&&◌, nat_eq, if◌then◌else◌}
 use lib.Pointwise.{pointwise}
-use Rattle.lf_meaning.specs.Terms.{Name, Constant, Object, Family, Kind}
+use Rattle.lf_meaning.specs.Terms.{Constant, Object, Family, Kind}
 
 -- The classifier of a constant.
 pub data Class : Type 0 where
@@ -24,10 +25,6 @@ pub record Declaration : Type 0 where
 -- Declarations in order. Where two of them have one name, the first counts.
 abbrev pub Signature : Type 0
 Signature = List Declaration
-
--- Whether two names are the same bytes.
-abbrev pub same_name : Name → Name → Bool
-same_name n m = pointwise nat_eq n m
 
 -- Whether two constants are the same.
 abbrev pub same_constant : Constant → Constant → Bool

@@ -1,14 +1,7 @@
 -- The terms of Canonical LF, with one argument for each application (Harper and Licata 2007,
 -- section 2).
+use Rattle.name_meaning.specs.Names.{Path, Name}
 use Rattle.std.specs.Prelude.{ℕ, suc, List, [], ◌∷◌}
-
--- A name is its bytes.
-abbrev pub Name : Type 0
-Name = List ℕ
-
--- A path is its names, from the outside in.
-abbrev pub Path : Type 0
-Path = List Name
 
 -- A constant is a path in a theory (this profile).
 pub record Constant : Type 0 where

@@ -1,8 +1,3 @@
-//! What the terms, the substitution and the judgements of Canonical LF mean. The definitions stand in
-//! `specs/`, one topic a file. There is no code: each function here does nothing, and its contract is a
-//! law or a worked example.
+//! What the terms, the substitution, the judgements and the maps of constants of Canonical LF mean: definitions, in `specs/`, one
+//! topic a file.
 #![tactic(auto)]
-
-pub mod application_laws;
-pub mod equality_laws;
-pub mod examples;

@@ -1,7 +1,7 @@
 -- A replacement commutes with substitution; two substitutions commute.
 use Rattle.std.proofs.Common.{◌≡◌, ℕ, suc, ◌+◌, [], ◌∷◌, ◌++◌, length, map, Some, refl, sym, ap, ap₂, subst, ◌∙◌, arith}
 use Rattle.std.specs.Prelude.{slice_get}
-use Rattle.lf_meaning.proofs.Lookups.{length_map}
+use Rattle.lf_term_laws.proofs.Lookups.{length_map}
 use Rattle.lf_meaning.specs.Terms.{Constant, Object, Lam, At, Atomic, Var, Con, App, Simple, Base, Arrow, SimpleContext}
 use Rattle.lf_meaning.specs.Replacement.{Action, Headed, Kept, Replaced, object_of, value_takes, takes, raise_headed, Replacement, replace, replace_head, replace_headed}
 use Rattle.lf_meaning.specs.Substitution.{substituted, substitution, action, substitute}
@@ -9,7 +9,7 @@ use Rattle.lf_meaning.specs.Sorts.{Sorts, HasSort, SynthesisesSort}
 use Rattle.lf_substitution_laws.specs.Uniform.{IsUniform}
 use Rattle.lf_substitution_laws.proofs.Indices.{raised_above, Position, below, at, above, position}
 use Rattle.lf_substitution_laws.proofs.Raising.{raise_by_zero, raise_atomic_by_zero}
-use Rattle.lf_meaning.proofs.Substituted.{substituted_below, substituted_at, substituted_above}
+use Rattle.lf_term_laws.proofs.Substituted.{substituted_below, substituted_at, substituted_above}
 use Rattle.lf_substitution_laws.proofs.Substituting.{raise_below_replacement, substitute_raised_headed}
 use Rattle.lf_substitution_laws.proofs.Domains.{AllDomains, IsRetyping, retyped_action, itself, itself_retypes}
 use Rattle.lf_substitution_laws.proofs.Sorting.{HeadedFits, keeps_sorts, replace_keeps_sort, replace_head_fits, Substituting, substituting, substituting_under, substituted_fits}

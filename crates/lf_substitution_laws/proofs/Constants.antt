@@ -3,11 +3,11 @@ use Rattle.std.proofs.Common.{◌≡◌, ℕ, suc, [], ◌∷◌, ◌++◌, leng
 use Rattle.std.specs.Prelude.{slice_get}
 use Rattle.lf_meaning.specs.Terms.{Constant, Object, Lam, At, Atomic, Var, Con, App, Simple, SimpleContext}
 use Rattle.lf_meaning.specs.Raising.{raised, raise}
-use Rattle.lf_meaning.specs.Replacement.{Headed, Kept, Replaced, object_of, takes, replace, replace_head}
+use Rattle.lf_meaning.specs.Replacement.{Headed, Kept, Replaced, object_of, takes, replace, replace_head, of_constants, replace_constants}
 use Rattle.lf_meaning.specs.Substitution.{substitute}
 use Rattle.lf_meaning.specs.Sorts.{Sorts, HasSort}
-use Rattle.lf_substitution_laws.specs.Uniform.{IsUniform, HeadedHasSort, rename_bases, of_constants, replace_constants, IsSortedMap}
-use Rattle.lf_meaning.proofs.Lookups.{get_map}
+use Rattle.lf_substitution_laws.specs.Uniform.{IsUniform, HeadedHasSort, rename_bases, IsSortedMap}
+use Rattle.lf_term_laws.proofs.Lookups.{get_map}
 use Rattle.lf_substitution_laws.proofs.Domains.{rename_retypes}
 use Rattle.lf_substitution_laws.proofs.Replacing.{raise_replace}
 use Rattle.lf_substitution_laws.proofs.Substituting.{natural_uniform}

@@ -3,7 +3,7 @@ use Rattle.std.proofs.Common.{◌≡◌, ℕ, zero, suc, ◌+◌, ◌<◌, ◌�
 use Rattle.std.proofs.lemmas.Bool.Decides.{nat_tests}
 use Rattle.std.proofs.lemmas.Bool.{cases_lt}
 use Rattle.std.specs.Prelude.{slice_get}
-use Rattle.lf_meaning.proofs.Lookups.{get_behind}
+use Rattle.lf_term_laws.proofs.Lookups.{get_behind}
 use Rattle.lf_meaning.specs.Raising.{raised}
 
 pub raised_zero : (n i : ℕ) → raised 0 n i ≡ i

@@ -6,7 +6,7 @@ use Rattle.lf_meaning.specs.Erasure.{erase}
 use Rattle.lf_meaning.specs.Substitution.{substitute_family, substitute_kind}
 use Rattle.lf_meaning.specs.Sorts.{Sorts, HasSort, SynthesisesSort, IsSortedAtomicFamily, IsSortedFamily, IsSortedKind}
 use Rattle.lf_substitution_laws.proofs.Indices.{raised_below}
-use Rattle.lf_meaning.proofs.Lookups.{get_within}
+use Rattle.lf_term_laws.proofs.Lookups.{get_within}
 use Rattle.lf_substitution_laws.proofs.Families.{substitute_raised_family, substitute_raised_kind, raise_family_by_zero, raise_kind_by_zero}
 
 module _ (sorts : Sorts) (k : ℕ) where

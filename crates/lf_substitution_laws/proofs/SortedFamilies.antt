@@ -6,7 +6,7 @@ use Rattle.lf_meaning.specs.Erasure.{erase}
 use Rattle.lf_meaning.specs.Substitution.{substitute, substitute_family, substitute_kind}
 use Rattle.lf_meaning.specs.Sorts.{Sorts, HasSort, SynthesisesSort, IsSortedAtomicFamily, IsSortedFamily, IsSortedKind}
 use Rattle.lf_substitution_laws.proofs.Families.{erase_map}
-use Rattle.lf_meaning.proofs.Lookups.{get_more}
+use Rattle.lf_term_laws.proofs.Lookups.{get_more}
 use Rattle.lf_substitution_laws.proofs.Sorting.{raise_keeps_sort, keeps_sorts, Substituting, substituting, substituting_under}
 
 -- what keeps the sorts of objects keeps those of families

@@ -7,10 +7,11 @@ use Rattle.lf_meaning.specs.Replacement.{Headed, Kept, Replaced, object_of, valu
 use Rattle.lf_meaning.specs.Substitution.{substituted, substitution, action, substitute}
 use Rattle.lf_meaning.specs.Sorts.{Sorts, HasSort, SynthesisesSort}
 use Rattle.lf_substitution_laws.proofs.Indices.{Position, below, at, above, position}
-use Rattle.lf_meaning.proofs.Substituted.{substituted_below, substituted_at, substituted_above}
-use Rattle.lf_meaning.proofs.Lookups.{get_below, get_at, get_above}
+use Rattle.lf_term_laws.proofs.Substituted.{substituted_below, substituted_at, substituted_above}
+use Rattle.lf_term_laws.proofs.Lookups.{get_below, get_at, get_above}
 use Rattle.lf_substitution_laws.proofs.Indices.{get_raised}
 use Rattle.lf_substitution_laws.proofs.Domains.{AllDomains, by_domains, IsRetyping, itself, itself_retypes}
+use Rattle.std.proofs.lemmas.Option.{same_Some}
 
 mutual
   pub raise_keeps_sort : (sorts : Sorts) (after mid before : SimpleContext) (m : Object) (t : Simple) → HasSort sorts (after ++ before) m t → HasSort sorts (after ++ (mid ++ before)) (raise (length mid) (length after) m) t
@@ -82,16 +83,12 @@ substituting s after before = record { after = after; depth = refl; from = refl;
 pub substituting_under : (s : Simple) (before : SimpleContext) (n : ℕ) (D D' : SimpleContext) (t : Simple) → Substituting s before n D D' → Substituting s before (suc n) (t ∷ D) (t ∷ D')
 substituting_under s before n D D' t p = record { after = t ∷ p.after; depth = ap suc p.depth; from = ap (λ x. t ∷ x) p.from; to = ap (λ x. t ∷ x) p.to }
 
--- what stands in place of a variable in a substitution fits
-some_same : {A : Type 0} {x y : A} → Some x ≡ Some y → x ≡ y
-some_same e = cc
-
 module _ (P : Simple → Type 0) (sorts : Sorts) (v : Object) (s : Simple) (before : SimpleContext) (sorted : HasSort sorts before v s) (all : AllDomains P s) where
   substituted_fits_in : (after : SimpleContext) (n i : ℕ) (t : Simple) → n ≡ length after → Position n i → slice_get (after ++ (s ∷ before)) i ≡ Some t → HeadedFits P sorts (after ++ before) (substituted v (action s) n i) t
   substituted_fits_in after n i t e (below h) f =
       subst (λ x. HeadedFits P sorts (after ++ before) x t) (sym (substituted_below v (action s) n i h)) (sym (get_below after before s i (omega (arith, e, h))) ∙ f)
   substituted_fits_in after n i t e at f =
-      let same : s ≡ t = some_same (sym (get_at after before s) ∙ ap (slice_get (after ++ (s ∷ before))) (sym e) ∙ f) in
+      let same : s ≡ t = same_Some _ _ (sym (get_at after before s) ∙ ap (slice_get (after ++ (s ∷ before))) (sym e) ∙ f) in
       let raised : HasSort sorts (after ++ before) (raise n 0 v) s = subst (λ k. HasSort sorts (after ++ before) (raise k 0 v) s) (sym e) (raise_keeps_sort sorts [] after before v s sorted) in
       subst (λ x. HeadedFits P sorts (after ++ before) x t) (sym (substituted_at v (action s) n)) (subst (λ u. (action s ≡ action u) × HasSort sorts (after ++ before) (raise n 0 v) u × AllDomains P u) same (refl, raised, all))
   substituted_fits_in after n i t e (above {i = j} h) f =

@@ -8,7 +8,7 @@ use Rattle.lf_substitution_laws.specs.Uniform.{HasType, IsUniform}
 use Rattle.lf_substitution_laws.proofs.Indices.{raised_below, raised_above, raised_suc, raised_grows, raised_over, raised_stays, raised_suc_above, raised_over_depth, Position, below, at, above, position}
 use Rattle.lf_substitution_laws.proofs.Raising.{raise_swap, raise_twice}
 use Rattle.lf_substitution_laws.proofs.Replacing.{NaturalAction, NaturalHeaded, IsNatural, raise_replace}
-use Rattle.lf_meaning.proofs.Substituted.{substituted_below, substituted_at, substituted_above}
+use Rattle.lf_term_laws.proofs.Substituted.{substituted_below, substituted_at, substituted_above}
 
 natural_substituted : (v : Object) (a : Action) → NaturalAction a → (n i : ℕ) → Position n i → NaturalHeaded (substituted v a n i)
 natural_substituted v a h n i (below low) = subst NaturalHeaded (sym (substituted_below v a n i low)) tt

@@ -5,10 +5,10 @@
 use Rattle.std.specs.Prelude.{◌≡◌, ℕ, suc, ◌+◌, ◌∷◌, ◌++◌, length}
 use Rattle.lf_meaning.specs.Terms.{Constant, Object, Family, Kind, Simple, SimpleContext}
 use Rattle.lf_meaning.specs.Raising.{raise}
-use Rattle.lf_meaning.specs.Replacement.{Headed}
+use Rattle.lf_meaning.specs.Replacement.{Headed, replace_constants}
 use Rattle.lf_meaning.specs.Substitution.{substitute, substitute_family, substitute_kind}
 use Rattle.lf_meaning.specs.Sorts.{Sorts, HasSort, IsSortedFamily, IsSortedKind}
-use Rattle.lf_substitution_laws.specs.Uniform.{rename_bases, replace_constants, IsSortedMap}
+use Rattle.lf_substitution_laws.specs.Uniform.{rename_bases, IsSortedMap}
 
 abbrev pub SubstitutionsCommute : Type 0
 SubstitutionsCommute = (sorts : Sorts) (after between before : SimpleContext) (outer inner into : Object) (t u s : Simple) → HasSort sorts before outer t → HasSort sorts (between ++ (t ∷ before)) inner u → HasSort sorts (after ++ (u ∷ (between ++ (t ∷ before)))) into s → substitute outer t (length between + length after) (substitute inner u (length after) into) ≡ substitute (substitute outer t (length between) inner) u (length after) (substitute outer t (suc (length between + length after)) into)

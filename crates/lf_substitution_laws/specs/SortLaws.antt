@@ -3,11 +3,11 @@
 use Rattle.std.specs.Prelude.{◌≡◌, ℕ, ◌≤◌, ◌∷◌, ◌++◌, length, map}
 use Rattle.lf_meaning.specs.Terms.{Constant, Object, Family, Kind, Simple, SimpleContext}
 use Rattle.lf_meaning.specs.Raising.{raise, raise_family, raise_kind}
-use Rattle.lf_meaning.specs.Replacement.{Headed}
+use Rattle.lf_meaning.specs.Replacement.{Headed, replace_constants}
 use Rattle.lf_meaning.specs.Substitution.{substitute, substitute_family, substitute_kind}
 use Rattle.lf_meaning.specs.Sorts.{Sorts, HasSort, IsSortedFamily, IsSortedKind}
 use Rattle.lf_meaning.specs.Misfits.{NoMisfit, NoMisfitInFamily}
-use Rattle.lf_substitution_laws.specs.Uniform.{rename_bases, replace_constants, IsSortedMap}
+use Rattle.lf_substitution_laws.specs.Uniform.{rename_bases, IsSortedMap}
 
 abbrev pub SubstitutionKeepsSorts : Type 0
 SubstitutionKeepsSorts = (sorts : Sorts) (after before : SimpleContext) (v m : Object) (s t : Simple) → HasSort sorts before v s → HasSort sorts (after ++ (s ∷ before)) m t → HasSort sorts (after ++ before) (substitute v s (length after) m) t

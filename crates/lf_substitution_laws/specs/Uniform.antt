@@ -1,8 +1,8 @@
 -- Replacements that pass through raising and substitution.
+use Rattle.lf_meaning.specs.Replacement.{of_constants, Headed, Kept, Replaced, raise_headed, Replacement, replace}
 use Rattle.std.specs.Prelude.{◌≡◌, ℕ, ◌+◌, ◌<◌, ◌≤◌, [], Some}
 use Rattle.lf_meaning.specs.Terms.{Constant, Object, Var, Simple, Base, Arrow, SimpleContext}
 use Rattle.lf_meaning.specs.Raising.{raised}
-use Rattle.lf_meaning.specs.Replacement.{Headed, Kept, Replaced, raise_headed, Replacement, replace}
 use Rattle.lf_meaning.specs.Substitution.{action}
 use Rattle.lf_meaning.specs.Sorts.{Sorts, HasSort, SynthesisesSort}
 
@@ -31,14 +31,6 @@ HeadedHasSort sorts context (Replaced v a) t = (a ≡ action t) × HasSort sorts
 abbrev pub rename_bases : (Constant → Constant) → Simple → Simple
 rename_bases bases (Base c) = Base (bases c)
 rename_bases bases (Arrow s t) = Arrow (rename_bases bases s) (rename_bases bases t)
-
--- The replacement of constants alone; variables stay.
-abbrev pub of_constants : (Constant → Headed) → Replacement
-of_constants by = record { variable = λ n i. Kept (Var i); constant = by }
-
--- An object with what is given in place of each constant.
-abbrev pub replace_constants : (Constant → Headed) → Object → Object
-replace_constants by m = replace (of_constants by) 0 m
 
 -- What stands in place of each constant has no free variable, and its sort: that of the constant
 -- with other names for bases.

@@ -2,7 +2,7 @@
 use Rattle.std.proofs.Common.{◌≡◌, ℕ, map, ap, sym, ◌∙◌}
 use Rattle.lf_meaning.specs.Terms as terms
 use Rattle.lf_meaning.specs.Raising.{raise, raise_atomic, raise_family}
-use Rattle.lf_meaning.proofs.Spines.{raise_applied, map_applied}
+use Rattle.lf_term_laws.proofs.Spines.{raise_applied, map_applied}
 use Rattle.lf_terms.specs.Readings.{read_constant, read_head, read_object, read_arguments, read_family}
 use Rattle.lf_terms.specs.declared.qname.QName.{QName}
 use Rattle.lf_terms.specs.declared.obj.Head.{Head}

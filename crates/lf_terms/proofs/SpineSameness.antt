@@ -5,8 +5,8 @@ use lib.Pointwise.{pointwise}
 use Rattle.lf_meaning.specs.Terms.{Constant, Object, Atomic, App, AtomicFamily, FamilyCon, FamilyApp, apply_all, family_apply_all, argument_count, family_argument_count}
 use Rattle.lf_meaning.specs.Signatures.{same_constant}
 use Rattle.lf_meaning.specs.Equality.{same_object, same_atomic, same_family, same_atomic_family}
-use Rattle.lf_meaning.proofs.Equality.{pointwise_sound, same_object_sound, same_atomic_sound, same_atomic_family_sound}
-use Rattle.lf_meaning.proofs.Spines.{argument_count_applied}
+use Rattle.lf_term_laws.proofs.Equality.{pointwise_sound, same_object_sound, same_atomic_sound, same_atomic_family_sound}
+use Rattle.lf_term_laws.proofs.Spines.{argument_count_applied}
 use Rattle.lf_terms.specs.Readings.{read_constant, read_head, read_object, read_arguments, read_family}
 use Rattle.lf_terms.specs.declared.qname.QName.{QName}
 use Rattle.lf_terms.specs.declared.obj.Head.{Head}

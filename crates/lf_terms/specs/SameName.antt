@@ -4,7 +4,7 @@ use Rattle.std.proofs.Common.{refl, sym, ap}
 use Rattle.std.specs.Cmp.{IsEquivalence}
 use Rattle.lf_meaning.specs.Terms.{Constant}
 use Rattle.lf_meaning.specs.Signatures.{same_constant}
-use Rattle.lf_meaning.proofs.Equality.{same_constant_sound, same_constant_itself}
+use Rattle.lf_term_laws.proofs.Equality.{same_constant_sound, same_constant_itself}
 use Rattle.lf_terms.specs.Readings.{read_constant}
 use Rattle.lf_terms.specs.declared.qname.QName.{QName}
 

@@ -9,7 +9,7 @@ ghost use Rattle.name_meaning.specs.Identifiers.{is_identifier};
 ghost use Rattle.lf_terms.specs.declared.name.NameFault.TheVariants.{NotAName, Memory as WantOfMemory};
 
 use crate::Memory;
-use name_meaning::is_identifier;
+use identifiers::is_identifier;
 use std::alloc::{AllocError, Global};
 use std::cmp::Ordering;
 use std::default::MadeWith;

@@ -6,15 +6,15 @@ use Rattle.lf_meaning.specs.Erasure.{head_constant}
 use Rattle.lf_meaning.specs.Signatures.{Class, FamilyClass, KindClass, Value, SameAs, TermValue, FamilyValue, Signature, class_of}
 use Rattle.translation_meaning.specs.ProperValues.{IsNoConstant, IsValueBody}
 
--- Read: the constant is one of objects.
+-- The constant is one of objects.
 abbrev pub IsObjectConstant : Signature → Constant → Type 0
 IsObjectConstant signature constant = (family : Family) × (class_of signature constant ≡ Some (FamilyClass family))
 
--- Read: the constant is one of families, with so many domains.
+-- The constant is one of families, with so many domains.
 abbrev pub IsFamilyConstant : Signature → Constant → ℕ → Type 0
 IsFamilyConstant signature constant domains = (kind : Kind) × (class_of signature constant ≡ Some (KindClass kind)) × (domain_count kind ≡ domains)
 
--- Read: with so many variables around it, the object holds only these, and constants of objects of the signature.
+-- With so many variables around it, the object holds only these, and constants of objects of the signature.
 abbrev mutual
   pub ObjectHolds : Signature → ℕ → Object → Type 0
   ObjectHolds signature variables (Lam body) = ObjectHolds signature (suc variables) body
@@ -25,12 +25,12 @@ abbrev mutual
   AtomicHolds signature variables (Con constant) = IsObjectConstant signature constant
   AtomicHolds signature variables (App r argument) = AtomicHolds signature variables r × ObjectHolds signature variables argument
 
--- Read: the arguments of an atomic family hold only these.
+-- The arguments of an atomic family hold only these.
 abbrev pub ArgumentsHold : Signature → ℕ → AtomicFamily → Type 0
 ArgumentsHold signature variables (FamilyCon constant) = ⊤
 ArgumentsHold signature variables (FamilyApp p argument) = ArgumentsHold signature variables p × ObjectHolds signature variables argument
 
--- Read: so does a family, at the head of which a constant of families has as many arguments as its kind has domains.
+-- So does a family, at the head of which a constant of families has as many arguments as its kind has domains.
 abbrev pub FamilyHolds : Signature → ℕ → Family → Type 0
 FamilyHolds signature variables (Pi domain body) = FamilyHolds signature variables domain × FamilyHolds signature (suc variables) body
 FamilyHolds signature variables (AtFamily p) = IsFamilyConstant signature (head_constant p) (family_argument_count p) × ArgumentsHold signature variables p
@@ -39,17 +39,17 @@ abbrev pub KindHolds : Signature → ℕ → Kind → Type 0
 KindHolds signature variables Ty = ⊤
 KindHolds signature variables (PiKind domain kind) = FamilyHolds signature variables domain × KindHolds signature (suc variables) kind
 
--- Read: a closed class.
+-- A closed class.
 abbrev pub ClassHolds : Signature → Class → Type 0
 ClassHolds signature (FamilyClass family) = FamilyHolds signature 0 family
 ClassHolds signature (KindClass kind) = KindHolds signature 0 kind
 
--- Read: the constant has the level of the class and, where that is a kind, as many domains.
+-- The constant has the level of the class and, where that is a kind, as many domains.
 abbrev pub SameLevel : Signature → Constant → Class → Type 0
 SameLevel signature constant (FamilyClass family) = IsObjectConstant signature constant
 SameLevel signature constant (KindClass kind) = IsFamilyConstant signature constant (domain_count kind)
 
--- Read: a closed value of the level of its class. A family value has as many binders as the kind has domains.
+-- A closed value of the level of its class. A family value has as many binders as the kind has domains.
 abbrev pub ValueHolds : Signature → Class → Value → Type 0
 ValueHolds signature class (SameAs constant) = SameLevel signature constant class
 ValueHolds signature (FamilyClass family) (TermValue object) = ObjectHolds signature 0 object × IsNoConstant object
@@ -61,7 +61,7 @@ abbrev pub OptionalValueHolds : Signature → Class → Option Value → Type 0
 OptionalValueHolds signature class None = ⊤
 OptionalValueHolds signature class (Some value) = ValueHolds signature class value
 
--- Read: two classes are of one level and, where they are kinds, have as many domains.
+-- Two classes are of one level and, where they are kinds, have as many domains.
 abbrev pub AlikeClasses : Class → Class → Type 0
 AlikeClasses (FamilyClass family) (FamilyClass other) = ⊤
 AlikeClasses (FamilyClass family) (KindClass other) = ⊥

@@ -5,6 +5,3 @@ pub mod StandsFor
 pub mod Words
 pub mod Holding
 pub mod Coherence
-pub mod ClosureLaws
-pub mod Examples
-pub mod WordExamples

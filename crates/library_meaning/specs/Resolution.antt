@@ -1,30 +1,30 @@
 -- What a written path stands for (this profile).
 use Rattle.std.specs.Prelude.{ℕ, zero, suc, Bool, false, List, [], ◌∷◌, Option, Some, None, find, filter_map, if◌then◌else◌}
 use lib.Pointwise.{pointwise}
-use Rattle.lf_meaning.specs.Terms.{Name, Path}
-use Rattle.lf_meaning.specs.Signatures.{Declaration, Signature, same_name}
+use Rattle.name_meaning.specs.Names.{Name, Path, same_name}
+use Rattle.lf_meaning.specs.Signatures.{Declaration, Signature}
 use Rattle.library_meaning.specs.Faces.{Environment, own_part}
 use Rattle.library_meaning.specs.Closure.{sees}
 
--- Read: where names are looked up: the own part so far of the theory, and the theories that it includes so far, with what
+-- Where names are looked up: the own part so far of the theory, and the theories that it includes so far, with what
 -- is known of them.
 pub record Scope : Type 0 where
   pub own : Signature
   pub includes : List Name
   pub environment : Environment
 
--- Read: the variables of the binders around a place, the innermost first. A binder without a name has none.
+-- The variables of the binders around a place, the innermost first. A binder without a name has none.
 abbrev pub Variables : Type 0
 Variables = List (Option Name)
 
 abbrev pub same_path : Path → Path → Bool
 same_path path other = pointwise same_name path other
 
--- Read: the declaration has this path.
+-- The declaration has this path.
 abbrev pub has_path : Path → Declaration → Bool
 has_path path declaration = same_path declaration.name.path path
 
--- Read: the own constant of this path, if there is one.
+-- The own constant of this path, if there is one.
 abbrev pub own_at : Signature → Path → Option Declaration
 own_at own path = find (has_path path) own
 
@@ -32,18 +32,18 @@ abbrev pub is_variable : Name → Option Name → Bool
 is_variable name None = false
 is_variable name (Some other) = same_name other name
 
--- Read: the number of the innermost binder of this name, the innermost binder having this number.
+-- The number of the innermost binder of this name, the innermost binder having this number.
 unfoldable pub variable_from : ℕ → Variables → Name → Option ℕ
 variable_from index [] name = None
 variable_from index (binder ∷ variables) name = if is_variable name binder then Some index else variable_from (suc index) variables name
 
--- Read: a simple path stands for the innermost bound variable of its name.
+-- A simple path stands for the innermost bound variable of its name.
 abbrev pub bound_variable : Variables → Path → Option ℕ
 bound_variable variables [] = None
 bound_variable variables (name ∷ []) = variable_from zero variables name
 bound_variable variables (name ∷ next ∷ path) = None
 
--- Read: the declaration that a path names by an included theory in front of it.
+-- The declaration that a path names by an included theory in front of it.
 abbrev pub qualified_in : Scope → Name → Path → Option Declaration
 qualified_in scope theory path = if sees scope.includes theory then own_at (own_part scope.environment theory) path else None
 
@@ -51,24 +51,24 @@ abbrev pub qualified : Scope → Path → Option Declaration
 qualified scope [] = None
 qualified scope (theory ∷ path) = qualified_in scope theory path
 
--- Read: the declarations that included theories have at this path, in their order.
+-- The declarations that included theories have at this path, in their order.
 abbrev pub included_at : Scope → Path → List Declaration
 included_at scope path = filter_map (λ (theory : Name). own_at (own_part scope.environment theory) path) scope.includes
 
--- Read: a path stands for a variable or for a declaration; or it is unknown, or ambiguous.
+-- A path stands for a variable or for a declaration; or it is unknown, or ambiguous.
 pub data Resolved : Type 0 where
   Variable : ℕ → Resolved
   Declared : Declaration → Resolved
   Unknown : Resolved
   Ambiguous : Resolved
 
--- Read: exactly one declaration; none; or more.
+-- Exactly one declaration; none; or more.
 abbrev pub the_only : List Declaration → Resolved
 the_only [] = Unknown
 the_only (declaration ∷ []) = Declared declaration
 the_only (first ∷ second ∷ declarations) = Ambiguous
 
--- Read: the variable, if there is one; the declaration, if there is one; else what else the path stands for.
+-- The variable, if there is one; the declaration, if there is one; else what else the path stands for.
 abbrev pub or_variable : Option ℕ → Resolved → Resolved
 or_variable None otherwise = otherwise
 or_variable (Some index) otherwise = Variable index
@@ -77,7 +77,7 @@ abbrev pub or_declared : Option Declaration → Resolved → Resolved
 or_declared None otherwise = otherwise
 or_declared (Some declaration) otherwise = Declared declaration
 
--- Read: the first of these that applies: a bound variable; an own constant; a constant of an included theory that is named
+-- The first of these that applies: a bound variable; an own constant; a constant of an included theory that is named
 -- in front; the one constant that included theories have at the path.
 unfoldable pub resolve : Scope → Variables → Path → Resolved
 resolve scope variables path =

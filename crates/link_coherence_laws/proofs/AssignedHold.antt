@@ -2,17 +2,15 @@
 use Rattle.std.proofs.Common.{◌≡◌, ◌<◌, Bool, true, false, cond, List, [], ◌∷◌, ◌++◌, length, Option, Some, None, inl, inr, refl, sym, ap, ◌∙◌, subst, arith}
 use Rattle.std.specs.Prelude.{⊤}
 use Rattle.std.proofs.lemmas.Bool.{and_parts}
-use Rattle.lf_meaning.specs.Terms.{Name, Path}
-use Rattle.lf_meaning.specs.Signatures.{Class, Value, SameAs, Declaration, Signature, same_name}
-use Rattle.lf_meaning.proofs.Equality.{same_name_sound}
-use Rattle.log_meaning.proofs.Members.{Member, append_right}
+use Rattle.name_meaning.specs.Names.{Name, Path, same_name}
+use Rattle.lf_meaning.specs.Signatures.{Class, Value, SameAs, Declaration, Signature}
+use Rattle.list_laws.proofs.Members.{Member, append_right}
 use Rattle.translation_meaning.specs.Differ.{value_in}
 use Rattle.library_meaning.specs.Faces.{theory_of, includes_of, own_part, own_parts}
 use Rattle.library_meaning.specs.Holding.{ClassHolds, ValueHolds, OptionalValueHolds, AlikeClasses}
 use Rattle.library_meaning.specs.Words.{Link}
 use Rattle.text_meaning.specs.Tokens.{Span}
 use Rattle.text_meaning.specs.Trees.{Expr, Assign, IncludeAssign, StructAssign, ConstAssign}
-use Rattle.expansion_meaning.proofs.Binding.{some_same}
 use Rattle.link_meaning.specs.Assignments.{Setting, is_or_includes, codomain_sees, structure_at, paths_of, Assigned, Covering, Sharing, Giving, with_target}
 use Rattle.link_meaning.specs.AssignmentsRead.{AssignReads, AssignsRead}
 use Rattle.link_meaning.specs.Passes.{rest_behind, Reached, ByNone, ByValue, ByStructure, by_rest, by_equal, equal_paths, reached_by, induced_constant}
@@ -25,6 +23,8 @@ use Rattle.holding_laws.proofs.Translating.{alike_through, alike_back, value_at_
 use Rattle.link_coherence_laws.specs.LinkTargets.{LinkHolds}
 use Rattle.link_coherence_laws.proofs.WordsHold.{row_holds}
 use Rattle.link_coherence_laws.proofs.ImagesHold.{AlikeHolds, Source, source_of, SettingHolds, link_image_holds}
+use Rattle.std.proofs.lemmas.Option.{same_Some}
+use Rattle.name_laws.proofs.Order.{same_sound}
 
 -- ---- paths
 
@@ -35,13 +35,13 @@ rest_by false beginning path rest o h = absurd (cc)
 pub rest_splits : (beginning path rest : Path) → rest_behind beginning path ≡ Some rest → (path ≡ beginning ++ rest) × (0 < length rest)
 unfolding rest_behind
 rest_splits [] [] rest h = absurd (cc)
-rest_splits [] (name ∷ path) rest h = (some_same h, subst (λ z. 0 < length z) (some_same h) (omega arith))
+rest_splits [] (name ∷ path) rest h = (same_Some _ _ h, subst (λ z. 0 < length z) (same_Some _ _ h) (omega arith))
 rest_splits (name ∷ beginning) [] rest h = absurd (cc)
 rest_splits (name ∷ beginning) (other ∷ path) rest h = by (same_name name other) refl h (rest_splits beginning path rest)
   where
     by : (b : Bool) → same_name name other ≡ b → elim b as (λ _. Option Path) [ true ↦ rest_behind beginning path | false ↦ None ] ≡ Some rest
         → (rest_behind beginning path ≡ Some rest → (path ≡ beginning ++ rest) × (0 < length rest)) → (other ∷ path ≡ (name ∷ beginning) ++ rest) × (0 < length rest)
-    by true e g f = let q = f g in ((λ i. sym (same_name_sound name other e) i ∷ q.0 i), q.1)
+    by true e g f = let q = f g in ((λ i. sym (same_sound name other e) i ∷ q.0 i), q.1)
     by false e g f = absurd (cc)
 
 -- ---- what is reached is assigned

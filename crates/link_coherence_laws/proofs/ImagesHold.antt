@@ -1,13 +1,13 @@
 -- The values that coverings and sharing links give hold only constants of the codomain.
 use Rattle.std.proofs.Common.{◌≡◌, ℕ, ◌<◌, Bool, true, false, cond, List, [], ◌∷◌, ◌++◌, length, slice_get, Option, Some, None, is_some, option_map, ◌&&◌, ◌||◌, ◌⊎◌, inl, inr, ⊎_elim, refl, sym, ap, ◌∙◌, subst, true≢false, arith}
 use Rattle.std.proofs.lemmas.Bool.{or_cases, and_parts}
-use Rattle.std.proofs.lemmas.Option.{none-some}
-use Rattle.lf_meaning.specs.Terms.{Name, Path, Constant}
-use Rattle.lf_meaning.specs.Signatures.{Class, FamilyClass, KindClass, Value, Declaration, Signature, same_name, same_constant, declaration_of, undefined_class, class_of}
-use Rattle.lf_meaning.proofs.Equality.{same_name_sound}
-use Rattle.log_meaning.proofs.Members.{Member, any_found, in_append, append_left, append_right, in_flat_map}
-use Rattle.log_meaning.proofs.Order.{among_member, member_among}
-use Rattle.translation_meaning.specs.HeadMaps.{Image, HeadMap, image_of}
+use Rattle.std.proofs.lemmas.Option.{none-some, same_Some}
+use Rattle.name_meaning.specs.Names.{Name, Path, same_name}
+use Rattle.lf_meaning.specs.Terms.{Constant}
+use Rattle.lf_meaning.specs.Signatures.{Class, FamilyClass, KindClass, Value, Declaration, Signature, same_constant, declaration_of, undefined_class, class_of}
+use Rattle.list_laws.proofs.Members.{Member, any_found, in_append, append_left, append_right, in_flat_map}
+use Rattle.name_laws.proofs.Order.{among_member, member_among, same_sound}
+use Rattle.lf_meaning.specs.HeadMaps.{Image, HeadMap, image_of}
 use Rattle.translation_meaning.specs.Differ.{value_in}
 use Rattle.library_meaning.specs.Faces.{StructureFace, TheoryFace, Environment, theory_of, structure_of, includes_of, own_of, own_part, own_parts, flat_of}
 use Rattle.library_meaning.specs.Closure.{sees}
@@ -16,17 +16,16 @@ use Rattle.library_meaning.specs.Holding.{ValueHolds, OptionalValueHolds, AlikeC
 use Rattle.library_meaning.specs.Coherence.{DeclarationsHold, IsCoherentMap, IsCoherent, IsInduced}
 use Rattle.library_meaning.specs.Words.{Link, structure_link, behind_structure, structures_of, link_by, is_empty, structures_link, own_value, identity_mapping, identity_map}
 use Rattle.text_meaning.specs.Tokens.{Span}
-use Rattle.expansion_meaning.proofs.Binding.{some_same}
 use Rattle.link_meaning.specs.Assignments.{Setting, is_or_includes, codomain_sees, included_theories, Assigned, Covering}
 use Rattle.link_meaning.specs.Coverings.{identity_covers, is_identity_covering, is_none_of, covers_of}
 use Rattle.link_meaning.specs.Equations.{IsCovering, ByIdentity, ByAssignment}
-use Rattle.link_meaning.proofs.Linked.{declarations_hold, own_named, includes_other}
+use Rattle.link_laws.proofs.Linked.{declarations_hold, own_named, includes_other}
 use Rattle.holding_laws.specs.HoldingLaws.{Grows}
 use Rattle.holding_laws.specs.ExpansionHolds.{scope_signature}
 use Rattle.holding_laws.proofs.Growing.{value_grows}
 use Rattle.holding_laws.proofs.Declared.{place_of, class_in, value_at}
 use Rattle.holding_laws.proofs.Translating.{placed_in, alike_through}
-use Rattle.link_coherence_laws.proofs.Onces.{Once, once_names, declaration_member, member_declared, HoldAfter, declarations_after, own_is_once}
+use Rattle.link_coherence_laws.proofs.Onces.{Once, once_names, declaration_member, member_declared, HoldAfter, own_is_once, declarations_from}
 use Rattle.link_coherence_laws.specs.LinkTargets.{target_of, HereHolds, LinkHolds}
 use Rattle.link_coherence_laws.specs.BetweenTheories.{IsBetweenTheories}
 use Rattle.link_coherence_laws.proofs.WordsHold.{theory_at, flat_once, included_grows, included_members, includes_closed, includes_theories, accepted_target, structure_member}
@@ -48,8 +47,8 @@ undefined_value_holds signature d (KindClass k) None e h = (k, e, refl)
 undefined_value_holds signature d class (Some value) e h = h
 
 -- the image of a declared constant
-valued : (along : HeadMap) (c : Constant) (image : Image) (value : Value) → image_of along c ≡ Some image → value_in along c ≡ Some value → image.value ≡ value
-valued along c image value e h = some_same (sym (ap (option_map (λ (i : Image). i.value)) e) ∙ h)
+pub valued : (along : HeadMap) (c : Constant) (image : Image) (value : Value) → image_of along c ≡ Some image → value_in along c ≡ Some value → image.value ≡ value
+valued along c image value e h = same_Some _ _ (sym (ap (option_map (λ (i : Image). i.value)) e) ∙ h)
 
 pub image_holds : (from to : Signature) (along : HeadMap) (d : Declaration) (value : Value) → IsCoherentMap from to along → Once from → Member d from → value_in along d.name ≡ Some value → AlikeHolds to d value
 image_holds from to along d value k o m h =
@@ -62,7 +61,7 @@ image_holds from to along d value k o m h =
 
 -- the identity gives a declared constant its own value
 identity_by : (b : Bool) (x : Image) (o : Option Image) (value : Value) → option_map (λ (i : Image). i.value) (cond b (Some x) o) ≡ Some value → ((b ≡ true) × (x.value ≡ value)) ⊎ ((b ≡ false) × (option_map (λ (i : Image). i.value) o ≡ Some value))
-identity_by true x o value h = inl (refl, some_same h)
+identity_by true x o value h = inl (refl, same_Some _ _ h)
 identity_by false x o value h = inr (refl, h)
 
 identity_gives : (xs : Signature) (c : Constant) (value : Value) → value_in (identity_map xs) c ≡ Some value → (d : Declaration) × (declaration_of xs c ≡ Some d) × (value ≡ own_value d d.value)
@@ -94,7 +93,7 @@ module _ (environment : Environment) (coherent : IsCoherent environment) where
   -- ---- structures of structures
 
   structure_named_by : (b : Bool) (x : StructureFace) (o : Option StructureFace) (name : Name) (structure : StructureFace) → same_name x.name name ≡ b → cond b (Some x) o ≡ Some structure → (o ≡ Some structure → structure.name ≡ name) → structure.name ≡ name
-  structure_named_by true x o name structure e h f = ap (λ z. z.name) (some_same (sym h)) ∙ same_name_sound x.name name e
+  structure_named_by true x o name structure e h f = ap (λ z. z.name) (same_Some _ _ (sym h)) ∙ same_sound x.name name e
   structure_named_by false x o name structure e h f = f h
 
   structure_named : (structures : List StructureFace) (name : Name) (structure : StructureFace) → structure_of structures name ≡ Some structure → structure.name ≡ name
@@ -133,7 +132,7 @@ module _ (environment : Environment) (coherent : IsCoherent environment) where
       let i : IsInduced environment face d = c.induced q.0 d q.1 l in
       let f = place_of face.structures structure (structure_member environment coherent face.structures name structure s) in
       let first : i.structure.name ≡ structure.name = names_same (sym i.path ∙ p) ∙ sym (structure_named face.structures name structure s) in
-      let same : i.structure ≡ structure = some_same (sym i.found ∙ ap (slice_get face.structures) (c.structures_once i.place f.0 i.structure structure i.found f.1 first) ∙ f.1) in
+      let same : i.structure ≡ structure = same_Some _ _ (sym i.found ∙ ap (slice_get face.structures) (c.structures_once i.place f.0 i.structure structure i.found f.1 first) ∙ f.1) in
       let r : i.rest ≡ tail = rests_same (sym i.path ∙ p) in
       let k = declared_member (own_part environment i.structure.domain) (record { theory = i.structure.domain; path = i.rest }) i.source i.declared in
       subst (λ (z : StructureFace). Source z.domain tail d) same
@@ -141,7 +140,7 @@ module _ (environment : Environment) (coherent : IsCoherent environment) where
 
   behind_domain : (outer : Link) (o : Option Link) (link : Link) → behind_structure o outer ≡ Some link → (inner : Link) × (o ≡ Some inner) × (inner.domain ≡ link.domain)
   behind_domain outer None link h = absurd (cc)
-  behind_domain outer (Some inner) link h = (inner, refl, ap (λ z. z.domain) (some_same h))
+  behind_domain outer (Some inner) link h = (inner, refl, ap (λ z. z.domain) (same_Some _ _ h))
 
   source_step : (theory name : Name) (path rest : Path) (link : Link) (d : Declaration)
       → ((structure : StructureFace) (inner : Link) (source : Declaration) → structures_link environment structure.domain (structures_of (theory_of environment structure.domain)) path ≡ Some inner → Member source (own_part environment structure.domain) → source.name.path ≡ path ++ rest → Source inner.domain rest source)
@@ -151,7 +150,7 @@ module _ (environment : Environment) (coherent : IsCoherent environment) where
   source_step theory name path rest link d deeper None e m q l p f h = absurd m
   source_step theory name path rest link d deeper (Some face) e m q l None f h = absurd (cc)
   source_step theory name [] rest link d deeper (Some face) e m q l (Some structure) f h =
-      subst (λ (z : Link). Source z.domain rest d) (some_same h) (induced_from_first theory face d name structure rest e m q (longer [] rest name d.name.path l q) f)
+      subst (λ (z : Link). Source z.domain rest d) (same_Some _ _ h) (induced_from_first theory face d name structure rest e m q (longer [] rest name d.name.path l q) f)
   source_step theory name (next ∷ path) rest link d deeper (Some face) e m q l (Some structure) f h =
       let b = behind_domain (structure_link theory structure) (structures_link environment structure.domain (structures_of (theory_of environment structure.domain)) (next ∷ path)) link h in
       let s = induced_from_first theory face d name structure ((next ∷ path) ++ rest) e m q (longer (next ∷ path) rest name d.name.path l q) f in
@@ -190,7 +189,7 @@ module _ (setting : Setting) (coherent : IsCoherent setting.environment) (is : I
 
   reached : (name : Name) → (same_name setting.codomain name || sees (includes_of (theory_of setting.environment setting.codomain)) name) ≡ true → Grows (flat_of setting.environment name) whole
   reached name h =
-      ⊎_elim (λ e. subst (λ z. Grows (flat_of setting.environment z) whole) (same_name_sound setting.codomain name e) (λ k class g. g)) (λ e. included_grows setting.environment coherent setting.codomain name e)
+      ⊎_elim (λ e. subst (λ z. Grows (flat_of setting.environment z) whole) (same_sound setting.codomain name e) (λ k class g. g)) (λ e. included_grows setting.environment coherent setting.codomain name e)
       (or_cases (same_name setting.codomain name) (sees (includes_of (theory_of setting.environment setting.codomain)) name) h)
 
   own_of_codomain : (d : Declaration) → Member d whole → d.name.theory ≡ setting.codomain → Member d (own_part setting.environment setting.codomain)
@@ -207,7 +206,7 @@ module _ (setting : Setting) (coherent : IsCoherent setting.environment) (is : I
         here = nothing_here;
         theory = is.domain;
         once = subst Once (sym whole_scope) (flat_once setting.environment coherent setting.codomain);
-        holds = subst (HoldAfter []) (sym whole_scope) (declarations_after [] whole (declarations_hold setting.environment coherent setting.codomain is.codomain));
+        holds = subst (HoldAfter []) (sym whole_scope) (declarations_from [] whole (declarations_hold setting.environment coherent setting.codomain is.codomain));
         reaches = λ name h.
             subst (λ o. Grows (target_of setting.environment o name) (scope_signature setting.scope)) (sym is.here)
             (subst (Grows (flat_of setting.environment name)) (sym whole_scope)
@@ -230,7 +229,7 @@ module _ (setting : Setting) (ok : SettingHolds setting) where
     where
       within : Member d (flat_of setting.environment by.domain)
       within =
-          ⊎_elim (λ e. subst (λ z. Member d (flat_of setting.environment z)) (sym (same_name_sound by.domain theory e)) m)
+          ⊎_elim (λ e. subst (λ z. Member d (flat_of setting.environment z)) (sym (same_sound by.domain theory e)) m)
           (λ e. append_left (own_parts setting.environment (includes_of (theory_of setting.environment by.domain))) (own_part setting.environment by.domain) d
           (included_members setting.environment ok.coherent (includes_of (theory_of setting.environment by.domain)) (includes_closed setting.environment ok.coherent by.domain) theory (among_member (includes_of (theory_of setting.environment by.domain)) theory e) d m))
           (or_cases (same_name by.domain theory) (sees (includes_of (theory_of setting.environment by.domain)) theory) t)
@@ -254,7 +253,7 @@ module _ (setting : Setting) (ok : SettingHolds setting) where
       → is_some (theory_of setting.environment theory) ≡ true → IsCovering setting assigned theory along → Member d (own_part setting.environment theory) → value_in along d.name ≡ Some value → AlikeHolds (scope_signature setting.scope) d value
   covering_holds assigned theory along d value f s (ByIdentity i q) m h =
       let g = identity_gives (own_part setting.environment theory) d.name value (sym (ap (λ z. value_in z d.name) q) ∙ h) in
-      let e : g.0 ≡ d = some_same (sym g.1 ∙ member_declared (own_part setting.environment theory) (own_is_once setting.environment ok.coherent theory) d m) in
+      let e : g.0 ≡ d = same_Some _ _ (sym g.1 ∙ member_declared (own_part setting.environment theory) (own_is_once setting.environment ok.coherent theory) d m) in
       let v : value ≡ own_value d d.value = g.2 ∙ ap (λ z. own_value z z.value) e in
       record {
         class = d.class;

@@ -2,34 +2,32 @@
 use Rattle.std.proofs.Common.{◌≡◌, ℕ, suc, Bool, true, false, List, [], ◌∷◌, ◌++◌, filter_map, slice_get, Option, Some, None, option_map, inl, inr, refl, sym, ap, ap₂, ◌∙◌, subst}
 use Rattle.std.specs.Prelude.{⊤}
 use Rattle.std.specs.List.{cons_option}
-use Rattle.lf_meaning.specs.Terms.{Name}
-use Rattle.lf_meaning.specs.Signatures.{Declaration, Signature, same_name}
-use Rattle.lf_meaning.proofs.Equality.{same_name_itself}
-use Rattle.log_meaning.proofs.Members.{Member, in_flat_map, append_right}
-use Rattle.log_meaning.proofs.Order.{member_among}
-use Rattle.translation_meaning.specs.HeadMaps.{Image, Mapping, HeadMap, image_of}
+use Rattle.name_meaning.specs.Names.{Name, same_name}
+use Rattle.lf_meaning.specs.Signatures.{Declaration, Signature}
+use Rattle.list_laws.proofs.Members.{Member, in_flat_map, append_right, place_member}
+use Rattle.name_laws.proofs.Order.{member_among, same_itself}
+use Rattle.lf_meaning.specs.HeadMaps.{Image, Mapping, HeadMap, image_of}
 use Rattle.library_meaning.specs.Faces.{own_part, own_parts, flat_of}
 use Rattle.library_meaning.specs.Holding.{AlikeClasses}
 use Rattle.library_meaning.specs.Coherence.{declared_names, mapped_names, IsCoherentMap}
-use Rattle.expansion_meaning.proofs.Binding.{some_same}
 use Rattle.link_meaning.specs.Assignments.{Setting, included_theories}
 use Rattle.link_meaning.specs.Passes.{induced_constant, is_own}
 use Rattle.link_meaning.specs.Induced.{induced_with, induced_from, induced}
-use Rattle.link_meaning.proofs.Covered.{in_filter_map}
-use Rattle.link_meaning.proofs.Linked.{own_named, own_by, includes_other}
+use Rattle.link_laws.proofs.Covered.{in_filter_map}
+use Rattle.link_laws.proofs.Linked.{own_named, own_by, includes_other}
 use Rattle.holding_laws.proofs.Translating.{placed_in}
-use Rattle.link_coherence_laws.proofs.Onces.{place_member, Once, once_names, member_declared}
+use Rattle.link_coherence_laws.proofs.Onces.{Once, once_names, member_declared}
 use Rattle.link_coherence_laws.proofs.WordsHold.{flat_once}
 use Rattle.link_coherence_laws.proofs.ImagesHold.{SettingHolds}
 use Rattle.link_coherence_laws.proofs.LinksHold.{added_by, added_all}
+use Rattle.std.proofs.lemmas.Option.{same_Some}
+use Rattle.std.proofs.lemmas.List.Elements.{filter_map-append}
+use Rattle.list_laws.proofs.Lists.{rest_same}
 
 abbrev Imaged : HeadMap → Signature → HeadMap → Type 0
 Imaged along [] ms = ⊤
 Imaged along (d ∷ ds) [] = ⊥
 Imaged along (d ∷ ds) (m ∷ ms) = (image_of along d.name ≡ Some m.image) × Imaged along ds ms
-
-rest_same : {A : Type 0} {x y : A} {xs ys : List A} → x ∷ xs ≡ y ∷ ys → xs ≡ ys
-rest_same h = cc
 
 imaged_by : (along : HeadMap) (ds : Signature) (ms : HeadMap) → mapped_names ms ≡ declared_names ds → ((i : ℕ) (d : Declaration) (m : Mapping) → slice_get ds i ≡ Some d → slice_get ms i ≡ Some m → image_of along d.name ≡ Some m.image) → Imaged along ds ms
 imaged_by along [] ms e h = tt
@@ -43,15 +41,7 @@ imaged from to along o k = imaged_by along from along k.names at
     at i d m p q =
         let x = placed_in d.name d from along k.names (member_declared from o d (place_member from i d p)) in
         let e : x.place ≡ i = once_names from o x.place i d d x.declared p refl in
-        x.image ∙ ap (λ (z : Mapping). Some z.image) (some_same (sym x.mapped ∙ ap (slice_get along) e ∙ q))
-
-filter_append : {A B : Type 0} (f : A → Option B) (xs ys : List A) → filter_map f (xs ++ ys) ≡ filter_map f xs ++ filter_map f ys
-filter_append f [] ys = refl
-filter_append f (x ∷ xs) ys = by (f x) (filter_append f xs ys)
-  where
-    by : (o : Option _) → filter_map f (xs ++ ys) ≡ filter_map f xs ++ filter_map f ys → cons_option o (filter_map f (xs ++ ys)) ≡ cons_option o (filter_map f xs) ++ filter_map f ys
-    by None e = e
-    by (Some y) e = ap (λ z. y ∷ z) e
+        x.image ∙ ap (λ (z : Mapping). Some z.image) (same_Some _ _ (sym x.mapped ∙ ap (slice_get along) e ∙ q))
 
 filter_nothing : {A B : Type 0} (f : A → Option B) (xs : List A) → ((x : A) → Member x xs → f x ≡ None) → filter_map f xs ≡ []
 filter_nothing f [] h = refl
@@ -96,7 +86,7 @@ module _ (setting : Setting) where
     pub added_is_induced : (structure : Name) (to : Signature) (along : HeadMap) → setting.structure ≡ Some structure → IsCoherentMap (flat_of setting.environment setting.domain) to along → added_all setting (flat_of setting.environment setting.domain) along ≡ induced setting structure along
     added_is_induced structure to along e k =
         added_filter structure along (flat_of setting.environment setting.domain) along e (imaged (flat_of setting.environment setting.domain) to along (flat_once setting.environment ok.coherent setting.domain) k)
-        ∙ filter_append (own_induced structure along) (own_parts setting.environment (included_theories setting)) (own_part setting.environment setting.domain)
+        ∙ filter_map-append (own_induced structure along) (own_parts setting.environment (included_theories setting)) (own_part setting.environment setting.domain)
         ∙ ap (λ z. z ++ filter_map (own_induced structure along) (own_part setting.environment setting.domain)) (filter_nothing (own_induced structure along) (own_parts setting.environment (included_theories setting)) not_included)
         ∙ filter_same (own_induced structure along) (induced_from setting structure along) (own_part setting.environment setting.domain) own
       where
@@ -109,7 +99,7 @@ module _ (setting : Setting) where
         own : (d : Declaration) → Member d (own_part setting.environment setting.domain) → own_induced structure along d ≡ induced_from setting structure along d
         own d m =
             ap (λ b. if_own b (induced_from setting structure along d))
-            (ap (λ n. same_name n setting.domain) (own_named setting.environment ok.coherent setting.domain d m) ∙ same_name_itself setting.domain)
+            (ap (λ n. same_name n setting.domain) (own_named setting.environment ok.coherent setting.domain d m) ∙ same_itself setting.domain)
 
     -- each induced constant, with the own constant of the domain that it is from
     pub record InducedFrom (structure : Name) (e : Declaration) : Type 0 where
@@ -119,7 +109,7 @@ module _ (setting : Setting) where
       pub alike : AlikeClasses e.class source.class
 
     made : (structure : Name) (d e : Declaration) (o : Option Image) (image : Image) → o ≡ Some image → option_map (induced_with (induced_constant setting structure d.name)) o ≡ Some e → e ≡ induced_with (induced_constant setting structure d.name) image
-    made structure d e o image g h = some_same (sym h ∙ ap (option_map (induced_with (induced_constant setting structure d.name))) g)
+    made structure d e o image g h = same_Some _ _ (sym h ∙ ap (option_map (induced_with (induced_constant setting structure d.name))) g)
 
     pub induced_members : (structure : Name) (to : Signature) (along : HeadMap) → IsCoherentMap (flat_of setting.environment setting.domain) to along → (e : Declaration) → Member e (induced setting structure along) → InducedFrom structure e
     induced_members structure to along k e m =

@@ -1,12 +1,13 @@
 -- The map of a link is coherent, and so are the constants that a structure induces.
 use Rattle.std.proofs.Common.{◌≡◌, ℕ, suc, ◌<◌, Bool, true, false, cond, List, [], ◌∷◌, ◌++◌, length, take, slice_get, Option, Some, None, option_map, Ok, ◌⊎◌, inl, inr, ⊎_elim, refl, sym, ap, ap₂, ◌∙◌, subst, true≢false, append_assoc, append-nil, arith}
-use Rattle.lf_meaning.specs.Terms.{Name, Path, Constant}
+use Rattle.name_meaning.specs.Names.{Name, Path}
+use Rattle.lf_meaning.specs.Terms.{Constant}
 use Rattle.lf_meaning.specs.Signatures.{Class, FamilyClass, KindClass, Value, SameAs, TermValue, FamilyValue, Declaration, Signature, same_constant, undefined_class, declared_class, class_of}
-use Rattle.lf_meaning.proofs.Equality.{same_name_sound, same_constant_itself}
-use Rattle.log_meaning.proofs.Members.{Member, in_append, append_left, append_right, in_flat_map}
-use Rattle.log_meaning.proofs.Order.{member_among}
-use Rattle.log_meaning.proofs.Places.{place_within, take_front, take_length, get_more}
-use Rattle.translation_meaning.specs.HeadMaps.{Mapping, HeadMap}
+use Rattle.lf_term_laws.proofs.Equality.{same_constant_itself}
+use Rattle.list_laws.proofs.Members.{Member, in_append, append_left, append_right, in_flat_map, place_member}
+use Rattle.name_laws.proofs.Order.{member_among, same_sound}
+use Rattle.list_laws.proofs.Places.{place_within, take_front, take_length, get_more}
+use Rattle.lf_meaning.specs.HeadMaps.{Mapping, HeadMap}
 use Rattle.translation_meaning.specs.Translation.{translate_class, translate_value}
 use Rattle.translation_meaning.specs.Differ.{value_in}
 use Rattle.library_meaning.specs.Words.{Link}
@@ -15,16 +16,15 @@ use Rattle.library_meaning.specs.Holding.{SameLevel, ClassHolds, ValueHolds, Opt
 use Rattle.library_meaning.specs.Coherence.{DeclarationsHold, declared_names, mapped_names, IsCoherentMap}
 use Rattle.text_meaning.specs.Tokens.{Span}
 use Rattle.expansion_meaning.specs.Rules.{Rule}
-use Rattle.expansion_meaning.proofs.Binding.{some_same}
 use Rattle.link_meaning.specs.Assignments.{Setting, included_theories, Assigned, Covering}
 use Rattle.link_meaning.specs.Coverings.{first_covering, value_by, covered_value}
 use Rattle.link_meaning.specs.Passes.{reached_by, induced_constant, is_own, image_by, mapping_to, map_all}
 use Rattle.link_meaning.specs.Induced.{defined_by, induced_with}
-use Rattle.link_meaning.specs.LinkLaws.{IsSettled}
-use Rattle.link_meaning.proofs.Covered.{there_refused, first_is_covering}
-use Rattle.link_meaning.proofs.Valued.{own_sound}
-use Rattle.link_meaning.proofs.Following.{Follows, walk_follows}
-use Rattle.link_meaning.proofs.Linked.{own_named, declarations_hold, includes_other, included_in}
+use Rattle.link_meaning.specs.LinkMaps.{IsSettled}
+use Rattle.link_laws.proofs.Covered.{there_refused, first_is_covering}
+use Rattle.link_laws.proofs.Valued.{own_sound}
+use Rattle.link_laws.proofs.Following.{Follows, walk_follows}
+use Rattle.link_laws.proofs.Linked.{own_named, declarations_hold, includes_other, included_in}
 use Rattle.holding_laws.specs.HoldingLaws.{Grows}
 use Rattle.holding_laws.specs.TranslationHolds.{MapsInto}
 use Rattle.holding_laws.specs.ExpansionHolds.{scope_signature}
@@ -32,10 +32,11 @@ use Rattle.holding_laws.proofs.Growing.{class_grows, value_grows, optional_grows
 use Rattle.holding_laws.proofs.Declared.{place_of, front_grows, class_in, class_at, value_at}
 use Rattle.holding_laws.proofs.Expanding.{DeclaredHolds}
 use Rattle.holding_laws.proofs.Translating.{coherent_maps_into, class_translated, value_translated, translated_alike, value_at_alike, alike_through, alike_back}
-use Rattle.link_coherence_laws.proofs.Onces.{place_member, Apart, Once, once_append, once_names, once_apart, member_declared, HoldAfter, after_declarations, hold_append}
+use Rattle.link_coherence_laws.proofs.Onces.{Apart, Once, once_append, once_names, once_apart, member_declared, HoldAfter, after_declarations, hold_append}
 use Rattle.link_coherence_laws.proofs.WordsHold.{map_grows, theory_at, flat_once, includes_theories}
 use Rattle.link_coherence_laws.proofs.ImagesHold.{SettingHolds, covering_holds, alike_itself}
 use Rattle.link_coherence_laws.proofs.AssignedHold.{reached_holds, ItemHolds, Due, Held, Copied, alike_due, own_due}
+use Rattle.std.proofs.lemmas.Option.{same_Some}
 
 -- ---- one more mapping
 
@@ -90,7 +91,7 @@ defined_holds signature class c (SameAs other) h = defined_holds_by signature cl
 defined_holds signature class c (TermValue m) h = h
 defined_holds signature class c (FamilyValue n body) h = h
 
-undefined_itself : (c : Constant) → defined_by c (SameAs c) ≡ None
+pub undefined_itself : (c : Constant) → defined_by c (SameAs c) ≡ None
 undefined_itself c = ap (λ b. cond b None (Some (SameAs c))) (same_constant_itself c)
 
 optional_translated : (from to : Signature) (along : HeadMap) → MapsInto from to along → (class : Class) (value : Option Value) → OptionalValueHolds from class value → OptionalValueHolds to (translate_class along class) (option_map (translate_value along) value)
@@ -130,7 +131,7 @@ module _ (setting : Setting) where
         ⊎_elim
         (λ n. let q = in_flat_map (own_part setting.environment) (included_theories setting) d n in
         absurd (includes_other setting.environment ok.coherent setting.domain q.0 (member_among (included_theories setting) q.0 q.1)
-        (sym (own_named setting.environment ok.coherent q.0 d q.2) ∙ same_name_sound d.name.theory setting.domain o)))
+        (sym (own_named setting.environment ok.coherent q.0 d q.2) ∙ same_sound d.name.theory setting.domain o)))
         (λ n. n) (in_append (own_parts setting.environment (included_theories setting)) (own_part setting.environment setting.domain) d m)
 
     own_path : (d : Declaration) → Member d (own_part setting.environment setting.domain) → 0 < length d.name.path
@@ -216,7 +217,7 @@ module _ (setting : Setting) where
         new = induced_with (induced_constant setting structure d.name) m.image
 
         one_structure : (other : Name) → setting.structure ≡ Some other → other ≡ structure
-        one_structure other g = some_same (sym g ∙ e)
+        one_structure other g = same_Some _ _ (sym g ∙ e)
 
         apart : Apart (before ++ ind) (new ∷ [])
         apart x y p (inr w) q = absurd w
@@ -228,7 +229,7 @@ module _ (setting : Setting) where
             (λ k. let r = s.from x k in
             let t = r.2 in
             let named : induced_constant setting r.0 (t.0).name ≡ induced_constant setting structure d.name = sym t.3 ∙ q ∙ ap (λ z. z.name) w in
-            let theories : (t.0).name.theory ≡ d.name.theory = same_name_sound (t.0).name.theory setting.domain t.2 ∙ sym (same_name_sound d.name.theory setting.domain o) in
+            let theories : (t.0).name.theory ≡ d.name.theory = same_sound (t.0).name.theory setting.domain t.2 ∙ sym (same_sound d.name.theory setting.domain o) in
             let paths : (t.0).name.path ≡ d.name.path = paths_same (ap (λ z. z.path) named) in
             (others t.0 t.1).1 (ap₂ (λ x y. made x y) theories paths))
             (in_append before ind x p)

@@ -1,27 +1,25 @@
 -- Signatures in which each name stands once, and whose declarations hold what stands before them.
 use Rattle.std.proofs.Common.{◌≡◌, ◌≢◌, ℕ, zero, suc, Bool, true, false, cond, List, [], ◌∷◌, ◌++◌, length, take, slice_get, Option, Some, None, inl, inr, ⊎_elim, refl, sym, ap, ◌∙◌, subst, append_assoc, append-nil, arith}
 use Rattle.std.specs.Prelude.{⊤}
-use Rattle.lf_meaning.specs.Terms.{Name, Constant}
+use Rattle.name_meaning.specs.Names.{Name}
+use Rattle.lf_meaning.specs.Terms.{Constant}
 use Rattle.lf_meaning.specs.Signatures.{Class, Declaration, Signature, same_constant, declaration_of, declared_class}
-use Rattle.lf_meaning.proofs.Equality.{same_constant_sound}
-use Rattle.log_meaning.proofs.Members.{Member, in_append, append_left, append_right, in_flat_map, flat_map_in}
-use Rattle.log_meaning.proofs.Order.{among_member, member_among}
-use Rattle.log_meaning.proofs.Places.{take_front, take_length}
+use Rattle.lf_term_laws.proofs.Equality.{same_constant_sound}
+use Rattle.list_laws.proofs.Members.{Member, in_append, append_left, append_right, in_flat_map, flat_map_in, place_member}
+use Rattle.name_laws.proofs.Order.{among_member, member_among}
+use Rattle.list_laws.proofs.Places.{take_front, take_length}
 use Rattle.library_meaning.specs.Faces.{TheoryFace, Environment, theory_of, includes_of, own_of, own_part, own_parts}
 use Rattle.library_meaning.specs.Closure.{sees}
 use Rattle.library_meaning.specs.Holding.{ClassHolds, OptionalValueHolds}
 use Rattle.library_meaning.specs.Coherence.{IsClosure, DeclarationsHold, IsCoherent}
-use Rattle.expansion_meaning.proofs.Binding.{some_same}
-use Rattle.link_meaning.proofs.Linked.{known_theory, own_named}
+use Rattle.link_laws.proofs.Linked.{known_theory, own_named}
 use Rattle.holding_laws.specs.HoldingLaws.{Grows}
 use Rattle.holding_laws.specs.ExpansionHolds.{NamesOnce}
 use Rattle.holding_laws.proofs.Growing.{class_grows, optional_grows}
 use Rattle.holding_laws.proofs.Declared.{place_of, declared_as}
-
-pub place_member : {A : Type 0} (xs : List A) (i : ℕ) (x : A) → slice_get xs i ≡ Some x → Member x xs
-place_member [] i x h = absurd (cc)
-place_member (y ∷ ys) zero x h = inl (sym (some_same h))
-place_member (y ∷ ys) (suc i) x h = inr (place_member ys i x h)
+use Rattle.std.proofs.lemmas.Option.{same_Some}
+use Rattle.lf_term_laws.proofs.Declarations.{declared_some}
+use Rattle.link_coherence_laws.proofs.Onces.{declarations_from}
 
 -- ---- names once
 
@@ -40,8 +38,8 @@ once_append (d ∷ xs) ys h g a =
 pub once_names : (xs : Signature) → Once xs → NamesOnce xs
 once_names [] h i j d e p q n = absurd (cc)
 once_names (x ∷ xs) h zero zero d e p q n = refl
-once_names (x ∷ xs) h zero (suc j) d e p q n = absurd (h.0 e (place_member xs j e q) (ap (λ z. z.name) (some_same p) ∙ n))
-once_names (x ∷ xs) h (suc i) zero d e p q n = absurd (h.0 d (place_member xs i d p) (ap (λ z. z.name) (some_same q) ∙ sym n))
+once_names (x ∷ xs) h zero (suc j) d e p q n = absurd (h.0 e (place_member xs j e q) (ap (λ z. z.name) (same_Some _ _ p) ∙ n))
+once_names (x ∷ xs) h (suc i) zero d e p q n = absurd (h.0 d (place_member xs i d p) (ap (λ z. z.name) (same_Some _ _ q) ∙ sym n))
 once_names (x ∷ xs) h (suc i) (suc j) d e p q n = ap suc (once_names xs h.1 i j d e p q n)
 
 pub names_once : (xs : Signature) → NamesOnce xs → Once xs
@@ -67,16 +65,12 @@ once_apart (x ∷ xs) ys h d e (inr m) n = once_apart xs ys h.1 d e m n
 -- ---- growth
 
 found_by : (b : Bool) (x d : Declaration) (xs : Signature) (c : Constant) → same_constant x.name c ≡ b → cond b (Some x) (declaration_of xs c) ≡ Some d → (declaration_of xs c ≡ Some d → Member d xs × (d.name ≡ c)) → Member d (x ∷ xs) × (d.name ≡ c)
-found_by true x d xs c e h f = (inl (some_same (sym h)), ap (λ z. z.name) (some_same (sym h)) ∙ same_constant_sound x.name c e)
+found_by true x d xs c e h f = (inl (same_Some _ _ (sym h)), ap (λ z. z.name) (same_Some _ _ (sym h)) ∙ same_constant_sound x.name c e)
 found_by false x d xs c e h f = let g = f h in (inr g.0, g.1)
 
 pub declaration_member : (xs : Signature) (c : Constant) (d : Declaration) → declaration_of xs c ≡ Some d → Member d xs × (d.name ≡ c)
 declaration_member [] c d h = absurd (cc)
 declaration_member (x ∷ xs) c d h = found_by (same_constant x.name c) x d xs c refl h (declaration_member xs c d)
-
-declared_some : (o : Option Declaration) (class : Class) → declared_class o ≡ Some class → (d : Declaration) × (o ≡ Some d)
-declared_some None class h = absurd (cc)
-declared_some (Some d) class h = (d, refl)
 
 pub member_declared : (ys : Signature) → Once ys → (d : Declaration) → Member d ys → declaration_of ys d.name ≡ Some d
 member_declared ys o d m = let p = place_of ys d m in declared_as ys (once_names ys o) p.0 d p.1
@@ -105,7 +99,7 @@ hold_behind before (d ∷ xs) ys h = subst (λ z. HoldAfter z ys) (append_assoc 
 hold_at : (before xs : Signature) → HoldAfter before xs → (i : ℕ) (d : Declaration) → slice_get xs i ≡ Some d → ClassHolds (before ++ take i xs) d.class × OptionalValueHolds (before ++ take i xs) d.class d.value
 hold_at before [] h i d p = absurd (cc)
 hold_at before (x ∷ xs) h zero d p =
-    subst (λ z. ClassHolds z d.class × OptionalValueHolds z d.class d.value) (sym (append-nil before)) (subst (λ (z : Declaration). ClassHolds before z.class × OptionalValueHolds before z.class z.value) (some_same p) (h.0, h.1))
+    subst (λ z. ClassHolds z d.class × OptionalValueHolds z d.class d.value) (sym (append-nil before)) (subst (λ (z : Declaration). ClassHolds before z.class × OptionalValueHolds before z.class z.value) (same_Some _ _ p) (h.0, h.1))
 hold_at before (x ∷ xs) h (suc i) d p =
     subst (λ z. ClassHolds z d.class × OptionalValueHolds z d.class d.value) (append_assoc before (x ∷ []) (take i xs)) (hold_at (before ++ x ∷ []) xs h.2 i d p)
 
@@ -122,9 +116,6 @@ declarations_from done (d ∷ xs) h =
     at : (ys : Signature) → slice_get (ys ++ d ∷ xs) (length ys) ≡ Some d
     at [] = refl
     at (y ∷ ys) = at ys
-
-pub declarations_after : (done xs : Signature) → DeclarationsHold (done ++ xs) → HoldAfter done xs
-declarations_after done xs h = declarations_from done xs h
 
 -- over more declarations
 pub hold_more : (b c xs : Signature) → Once (c ++ xs) → ((d : Declaration) → Member d b → Member d c) → HoldAfter b xs → HoldAfter c xs
@@ -171,7 +162,7 @@ module _ (environment : Environment) (coherent : IsCoherent environment) where
       let c = coherent.theories theory face (known_theory (environment theory) face e) in
       hold_more (own_parts environment face.includes) (own_parts environment done) face.own o
       (λ d m. let q = in_flat_map (own_part environment) face.includes d m in flat_map_in (own_part environment) done q.0 d (f q.0 (member_among face.includes q.0 q.1)) q.2)
-      (declarations_after (own_parts environment face.includes) face.own c.holds)
+      (declarations_from (own_parts environment face.includes) face.own c.holds)
 
   parts_append : (xs ys : List Name) → own_parts environment (xs ++ ys) ≡ own_parts environment xs ++ own_parts environment ys
   parts_append [] ys = refl

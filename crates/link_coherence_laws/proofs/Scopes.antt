@@ -1,6 +1,6 @@
 -- The scope of an accepted theory holds.
 use Rattle.library_meaning.specs.Faces.{flat_of}
-use Rattle.link_meaning.proofs.Linked.{declarations_hold}
+use Rattle.link_laws.proofs.Linked.{declarations_hold}
 use Rattle.link_coherence_laws.specs.TheoryScopes.{TheoryScopesHold}
 use Rattle.link_coherence_laws.proofs.Onces.{once_names}
 use Rattle.link_coherence_laws.proofs.WordsHold.{flat_once}

@@ -1,25 +1,24 @@
 -- Words of morphisms, and rows of them, have maps of each kind that composition keeps; so they have coherent ones.
 use Rattle.std.proofs.Common.{◌≡◌, ℕ, zero, suc, ◌<◌, Bool, true, false, cond, List, [], ◌∷◌, ◌++◌, length, take, slice_get, Option, Some, None, is_some, ◌⊎◌, inl, inr, ⊎_elim, refl, sym, ap, ◌∙◌, subst, true≢false}
 use Rattle.std.proofs.lemmas.Bool.{or_cases}
-use Rattle.lf_meaning.specs.Terms.{Name, Path}
-use Rattle.lf_meaning.specs.Signatures.{Declaration, Signature, same_name}
-use Rattle.lf_meaning.proofs.Equality.{same_name_sound}
-use Rattle.log_meaning.proofs.Members.{Member, in_append, append_left, in_flat_map, flat_map_in}
-use Rattle.log_meaning.proofs.Order.{among_member, member_among}
-use Rattle.translation_meaning.specs.HeadMaps.{HeadMap}
+use Rattle.name_meaning.specs.Names.{Name, Path, same_name}
+use Rattle.lf_meaning.specs.Signatures.{Declaration, Signature}
+use Rattle.list_laws.proofs.Members.{Member, in_append, append_left, in_flat_map, flat_map_in}
+use Rattle.name_laws.proofs.Order.{among_member, member_among, same_sound}
+use Rattle.lf_meaning.specs.HeadMaps.{HeadMap}
 use Rattle.translation_meaning.specs.Translation.{compose}
 use Rattle.library_meaning.specs.Faces.{StructureFace, TheoryFace, ViewFace, Known, IsAbsent, IsRefused, IsTheory, IsView, theory_face, Environment, theory_of, structure_of, includes_of, own_of, own_part, own_parts, flat_signature, flat_of}
 use Rattle.library_meaning.specs.Closure.{sees}
 use Rattle.library_meaning.specs.Coherence.{AreTheories, IsClosure, IsCoherentMap, IsCoherentTheory, IsCoherent}
 use Rattle.library_meaning.specs.Words.{Link, structure_link, followed_by, behind_structure, structures_of, link_by, is_empty, structures_link, Meaning, Means, Faulty, or_unknown, simple_word, longer_word, EndsApart, is_here, word_meaning, meets, RowMeaning, RowMeans, RowFaulty, next_by, row_from, first_by, row_meaning}
-use Rattle.expansion_meaning.proofs.Binding.{some_same}
-use Rattle.link_meaning.proofs.Linked.{known_theory, own_named, includes_other}
+use Rattle.link_laws.proofs.Linked.{known_theory, own_named, includes_other}
 use Rattle.holding_laws.specs.HoldingLaws.{Grows}
 use Rattle.holding_laws.proofs.Growing.{class_grows, value_grows}
 use Rattle.holding_laws.proofs.Translating.{composition_is_coherent}
 use Rattle.holding_laws.proofs.Declared.{place_of}
 use Rattle.link_coherence_laws.specs.LinkTargets.{target_of, StructuresHold, HereHolds, LinkHolds}
 use Rattle.link_coherence_laws.proofs.Onces.{Once, once_append, member_grows, own_is_once, closure_once}
+use Rattle.std.proofs.lemmas.Option.{same_Some}
 
 pub map_grows : (from to more : Signature) (along : HeadMap) → Grows to more → IsCoherentMap from to along → IsCoherentMap from more along
 map_grows from to more along g k =
@@ -33,7 +32,7 @@ Composes IsMap =
 coherent_composes : Composes IsCoherentMap
 coherent_composes from middle more to first second g k l = composition_is_coherent from more to first second (map_grows from middle more first g k) l
 
-absent_is_none : (known : Known) → known ≡ IsAbsent → is_some (theory_face known) ≡ true → ⊥
+pub absent_is_none : (known : Known) → known ≡ IsAbsent → is_some (theory_face known) ≡ true → ⊥
 absent_is_none known e h = true≢false (sym h ∙ ap (λ k. is_some (theory_face k)) e)
 
 module _ (environment : Environment) (coherent : IsCoherent environment) where
@@ -101,7 +100,7 @@ module _ (environment : Environment) (coherent : IsCoherent environment) where
   -- ---- structures
 
   structure_found : (b : Bool) (x : StructureFace) (o : Option StructureFace) (structure : StructureFace) → cond b (Some x) o ≡ Some structure → (structure ≡ x) ⊎ (o ≡ Some structure)
-  structure_found true x o structure h = inl (sym (some_same h))
+  structure_found true x o structure h = inl (sym (same_Some _ _ h))
   structure_found false x o structure h = inr h
 
   pub structure_member : (structures : List StructureFace) (name : Name) (structure : StructureFace) → structure_of structures name ≡ Some structure → Member structure structures
@@ -117,7 +116,7 @@ module _ (environment : Environment) (coherent : IsCoherent environment) where
     accepted_by (Some face) e name s = by (same_name face.name name) refl
       where
         by : (b : Bool) → same_name face.name name ≡ b → cond b (flat_signature environment face) (flat_of environment name) ≡ flat_of environment name
-        by true g = absurd (absent_is_none (environment name) (ap environment (sym (same_name_sound face.name name g)) ∙ holds.absent face e) s)
+        by true g = absurd (absent_is_none (environment name) (ap environment (sym (same_sound face.name name g)) ∙ holds.absent face e) s)
         by false g = refl
 
     -- an accepted theory is not the one that is being built
@@ -127,7 +126,7 @@ module _ (environment : Environment) (coherent : IsCoherent environment) where
     meets_grows : (so_far next : Link) → is_some (theory_of environment next.domain) ≡ true → meets environment so_far next ≡ true → Grows (target_of environment here so_far.codomain) (flat_of environment next.domain)
     meets_grows so_far next s h =
         ⊎_elim
-        (λ e. let q : so_far.codomain ≡ next.domain = same_name_sound so_far.codomain next.domain e in
+        (λ e. let q : so_far.codomain ≡ next.domain = same_sound so_far.codomain next.domain e in
         subst (λ z. Grows z (flat_of environment next.domain)) (sym (ap (target_of environment here) q ∙ accepted_target next.domain s)) (λ c class g. g))
         (λ e. subst (λ z. Grows z (flat_of environment next.domain)) (sym (accepted_target so_far.codomain (includes_theories next.domain so_far.codomain e))) (included_grows next.domain so_far.codomain e))
         (or_cases (same_name so_far.codomain next.domain) (sees (includes_of (theory_of environment next.domain)) so_far.codomain) h)
@@ -151,7 +150,7 @@ module _ (environment : Environment) (coherent : IsCoherent environment) where
       behind_is theory target structure None link k f h = absurd (cc)
       behind_is theory target structure (Some inner) link k f h =
           let b = f inner refl in
-          subst (ByStructures theory target) (some_same h)
+          subst (ByStructures theory target) (same_Some _ _ h)
           (record { domain = b.domain; codomain = refl; map_is = composes (flat_of environment inner.domain) (flat_of environment structure.domain) (flat_of environment structure.domain) target inner.map structure.map (λ c class g. g) b.map_is k })
 
       link_by_is : (theory : Name) (target : Signature) (structures : List StructureFace) (o : Option StructureFace) (last : Bool) (inner : Name → Option Link) (link : Link) → AreStructures structures target
@@ -162,7 +161,7 @@ module _ (environment : Environment) (coherent : IsCoherent environment) where
       link_by_is theory target structures (Some structure) true inner link s m f h =
           let p = place_of structures structure (m structure refl) in
           let q = s p.0 structure p.1 in
-          subst (ByStructures theory target) (some_same h) (record { domain = q.0; codomain = refl; map_is = q.1 })
+          subst (ByStructures theory target) (same_Some _ _ h) (record { domain = q.0; codomain = refl; map_is = q.1 })
       link_by_is theory target structures (Some structure) false inner link s m f h =
           let p = place_of structures structure (m structure refl) in
           let q = s p.0 structure p.1 in

@@ -4,7 +4,7 @@ use Rattle.library_meaning.specs.Faces.{theory_of}
 use Rattle.link_meaning.specs.Assignments.{Setting}
 use Rattle.link_coherence_laws.specs.TheoryScopes.{theory_scope}
 
--- Read: the link is from a known theory to a known theory, is no structure, and its values stand in the whole codomain. A view's
+-- The link is from a known theory to a known theory, is no structure, and its values stand in the whole codomain. A view's
 -- link is such.
 pub record IsBetweenTheories (setting : Setting) : Type 0 where
   pub here : setting.here ≡ None

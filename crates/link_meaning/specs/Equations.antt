@@ -1,9 +1,9 @@
 -- The map of a link, by equations on it (Rabe and Kohlhase 2013, section 3: a morphism translates by itself; which values it
 -- has is this profile).
 use Rattle.std.specs.Prelude.{◌≡◌, ℕ, true, false, List, slice_get, Option, Some, None, option_map, Bool, ⊤}
-use Rattle.lf_meaning.specs.Terms.{Name, Path}
+use Rattle.name_meaning.specs.Names.{Name, Path}
 use Rattle.lf_meaning.specs.Signatures.{Class, Value, SameAs, Declaration}
-use Rattle.translation_meaning.specs.HeadMaps.{Mapping, HeadMap}
+use Rattle.lf_meaning.specs.HeadMaps.{Mapping, HeadMap}
 use Rattle.translation_meaning.specs.Translation.{translate_class, translate_value}
 use Rattle.translation_meaning.specs.Differ.{value_in}
 use Rattle.library_meaning.specs.Faces.{theory_of, includes_of, own_parts, flat_of}
@@ -16,38 +16,38 @@ use Rattle.link_meaning.specs.Assignments.{Setting, is_or_includes, included_the
 use Rattle.link_meaning.specs.Coverings.{is_identity_covering, identity_on}
 use Rattle.link_meaning.specs.Passes.{Reached, ByNone, ByValue, ByStructure, reached_by, induced_constant, constant_in, is_own}
 
--- Read: the map is a covering of the theory: the identity, where it is one, or the map of an assignment whose link is from the
+-- The map is a covering of the theory: the identity, where it is one, or the map of an assignment whose link is from the
 -- theory or from one that includes it.
 pub data IsCovering (setting : Setting) (assigned : List Assigned) (theory : Name) (along : HeadMap) : Type 0 where
   ByIdentity : is_identity_covering setting assigned theory ≡ true → along ≡ identity_on setting theory → IsCovering setting assigned theory along
   ByAssignment : (place : ℕ) (first : Span) (by : Link) → slice_get assigned place ≡ Some (Covering first by)
       → is_or_includes setting.environment by.domain theory ≡ true → along ≡ by.map → IsCovering setting assigned theory along
 
--- Read: the theory has a covering.
+-- The theory has a covering.
 abbrev pub IsCovered : Setting → List Assigned → Name → Type 0
 IsCovered setting assigned theory = (along : HeadMap) × IsCovering setting assigned theory along
 
--- Read: every covering of its theory, and there is one, gives the constant this value.
+-- Every covering of its theory, and there is one, gives the constant this value.
 pub record CoveringsGive (setting : Setting) (assigned : List Assigned) (declaration : Declaration) (value : Value) : Type 0 where
   pub covered : IsCovered setting assigned declaration.name.theory
   pub give : (along : HeadMap) → IsCovering setting assigned declaration.name.theory along → value_in along declaration.name ≡ Some value
 
--- Read: of a defined constant, the value is its translated definition.
+-- Of a defined constant, the value is its translated definition.
 abbrev pub IsDefinition : Option Value → Value → Type 0
 IsDefinition None value = ⊤
 IsDefinition (Some definition) value = value ≡ definition
 
--- Read: a structure copies the constant; in a view this never holds.
+-- A structure copies the constant; in a view this never holds.
 abbrev pub IsCopied : Setting → Option Name → Declaration → Value → Type 0
 IsCopied setting None declaration value = ⊥
 IsCopied setting (Some structure) declaration value = value ≡ SameAs (induced_constant setting structure declaration.name)
 
--- Read: without an assignment, a defined constant has its translated definition, and an undefined one is copied.
+-- Without an assignment, a defined constant has its translated definition, and an undefined one is copied.
 abbrev pub IsUnassigned : Setting → Option Value → Declaration → Value → Type 0
 IsUnassigned setting None declaration value = IsCopied setting setting.structure declaration value
 IsUnassigned setting (Some definition) declaration value = value ≡ definition
 
--- Read: the value of an own constant of the domain, by what reaches it: an assigned value at its translated class; the image
+-- The value of an own constant of the domain, by what reaches it: an assigned value at its translated class; the image
 -- that a sharing link gives; else the translated definition, or the copy.
 abbrev pub OwnHasValue : Setting → Reached → Class → Option Value → Declaration → Value → Type 0
 OwnHasValue setting ByNone class definition declaration value = IsUnassigned setting definition declaration value
@@ -55,22 +55,22 @@ OwnHasValue setting (ByValue target expression) class definition declaration val
 OwnHasValue setting (ByStructure target rest structure first by) class definition declaration value =
     (value_in by.map (constant_in structure rest) ≡ Some value) × IsDefinition definition value
 
--- Read: the value of a constant of the domain, own or included.
+-- The value of a constant of the domain, own or included.
 abbrev pub HasValueBy : Setting → List Assigned → Bool → Class → Option Value → Declaration → Value → Type 0
 HasValueBy setting assigned true class definition declaration value = OwnHasValue setting (reached_by assigned declaration.name.path) class definition declaration value
 HasValueBy setting assigned false class definition declaration value = CoveringsGive setting assigned declaration value
 
--- Read: this value is due to a constant of the domain.
+-- This value is due to a constant of the domain.
 abbrev pub HasValue : Setting → List Assigned → Class → Option Value → Declaration → Value → Type 0
 HasValue setting assigned class definition declaration value = HasValueBy setting assigned (is_own setting declaration) class definition declaration value
 
--- Read: the shared structure's image of the constant, translated along the map, is the image that the sharing link gives.
+-- The shared structure's image of the constant, translated along the map, is the image that the sharing link gives.
 pub record IsShared (along : HeadMap) (structure by : Link) (declaration : Declaration) : Type 0 where
   pub value : Value
   pub image : value_in structure.map declaration.name ≡ Some value
   pub same : value_in by.map declaration.name ≡ Some (translate_value along value)
 
--- Read: the map meets the equations of the link: it has the names of the domain's flat signature, in order; each class is
+-- The map meets the equations of the link: it has the names of the domain's flat signature, in order; each class is
 -- translated by the map itself; each constant has the value that is due to it; every included theory is covered; and shared
 -- structures share what their domains include.
 pub record MeetsEquations (setting : Setting) (assigned : List Assigned) (along : HeadMap) : Type 0 where

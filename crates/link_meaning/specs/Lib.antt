@@ -5,4 +5,4 @@ pub mod Coverings
 pub mod Passes
 pub mod Induced
 pub mod Equations
-pub mod LinkLaws
+pub mod LinkMaps

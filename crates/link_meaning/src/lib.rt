@@ -1,6 +1,3 @@
-//! What links of theories mean: assignments, coverings, the map of a structure or a view, and the constants that a structure
-//! induces. The definitions stand in `specs/`, one topic a file. There is no code: each function here does nothing, and its
-//! contract is a law.
+//! What structures and views mean: assignments, the four passes, and the equations of a link: definitions, in `specs/`, one topic a
+//! file.
 #![tactic(auto)]
-
-pub mod link_laws;

@@ -2,11 +2,9 @@
 use Rattle.std.proofs.Common.{◌≡◌, ◌<◌, Bool, true, false, List, [], ◌∷◌, ◌++◌, length, Option, Some, None, not, ◌&&◌, ◌||◌, inl, inr, refl, sym, ap, ap₂, ◌∙◌, subst, true≢false, arith}
 use Rattle.std.specs.Prelude.{⊤}
 use Rattle.std.specs.List.{list_any}
-use Rattle.std.proofs.lemmas.Bool.{and_parts}
-use Rattle.lf_meaning.specs.Terms.{Name, Path}
-use Rattle.lf_meaning.specs.Signatures.{same_name}
-use Rattle.lf_meaning.proofs.Equality.{same_name_sound, same_name_itself}
-use Rattle.log_meaning.proofs.Members.{Member, any_not}
+use Rattle.std.proofs.lemmas.Bool.{and_parts, not-true}
+use Rattle.name_meaning.specs.Names.{Name, Path, same_name}
+use Rattle.list_laws.proofs.Members.{Member, any_not}
 use Rattle.library_meaning.specs.Faces.{flat_of}
 use Rattle.library_meaning.specs.Closure.{sees}
 use Rattle.library_meaning.specs.Words.{Link}
@@ -20,11 +18,12 @@ use Rattle.link_coherence_laws.proofs.ImagesHold.{SettingHolds}
 use Rattle.link_coherence_laws.proofs.AssignedHold.{rest_splits}
 use Rattle.link_typing.proofs.LinkInterface.{SettingTyped}
 use Rattle.row_typing.proofs.WordsTyped.{IsProperTranslation, row_translates}
+use Rattle.name_laws.proofs.Order.{same_sound, same_itself}
 
 -- ---- beginnings
 
 beginning_by : (b : Bool) (name other : Name) (rest path : Path) → same_name name other ≡ b → (is_beginning rest path ≡ true → (x : Path) × (path ≡ rest ++ x)) → (b && is_beginning rest path) ≡ true → (x : Path) × (other ∷ path ≡ (name ∷ rest) ++ x)
-beginning_by true name other rest path e f h = let r = f h in (r.0, ap₂ (λ n p. n ∷ p) (sym (same_name_sound name other e)) r.1)
+beginning_by true name other rest path e f h = let r = f h in (r.0, ap₂ (λ n p. n ∷ p) (sym (same_sound name other e)) r.1)
 beginning_by false name other rest path e f h = absurd (true≢false (sym h))
 
 pub beginning_is : (path other : Path) → is_beginning path other ≡ true → (x : Path) × (other ≡ path ++ x)
@@ -42,8 +41,8 @@ tail_of h = cc
 both_begin : (n o : Name) (a b : Path) → n ≡ o → (is_beginning a b || is_beginning b a) ≡ true → (is_beginning (n ∷ a) (o ∷ b) || is_beginning (o ∷ b) (n ∷ a)) ≡ true
 unfolding is_beginning
 both_begin n o a b e h =
-    let one : same_name n o ≡ true = ap (λ z. same_name z o) e ∙ same_name_itself o in
-    let two : same_name o n ≡ true = ap (same_name o) e ∙ same_name_itself o in
+    let one : same_name n o ≡ true = ap (λ z. same_name z o) e ∙ same_itself o in
+    let two : same_name o n ≡ true = ap (same_name o) e ∙ same_itself o in
     ap₂ (λ x y. (x && is_beginning a b) || (y && is_beginning b a)) one two ∙ h
 
 -- of two beginnings of one path one begins the other
@@ -55,7 +54,7 @@ two_beginnings (n ∷ a) (o ∷ b) x y e = both_begin n o a b (head_of e) (two_b
 
 rest_by : (n : Name) (target rest : Path) → rest_behind target (target ++ rest) ≡ Some rest → rest_behind (n ∷ target) ((n ∷ target) ++ rest) ≡ Some rest
 unfolding rest_behind
-rest_by n target rest h = ap (λ b. elim b as (λ _. Option Path) [ true ↦ rest_behind target (target ++ rest) | false ↦ None ]) (same_name_itself n) ∙ h
+rest_by n target rest h = ap (λ b. elim b as (λ _. Option Path) [ true ↦ rest_behind target (target ++ rest) | false ↦ None ]) (same_itself n) ∙ h
 
 pub rest_appended : (target rest : Path) → 0 < length rest → rest_behind target (target ++ rest) ≡ Some rest
 unfolding rest_behind
@@ -71,10 +70,6 @@ TargetsFree earlier (Covering first by ∷ assigned) = TargetsFree earlier assig
 TargetsFree earlier (Sharing target structure first by ∷ assigned) = (is_free earlier target ≡ true) × TargetsFree (target ∷ earlier) assigned
 TargetsFree earlier (Giving target value ∷ assigned) = (is_free earlier target ≡ true) × TargetsFree (target ∷ earlier) assigned
 
-not_true : (b : Bool) → not b ≡ true → b ≡ false
-not_true true h = absurd (true≢false (sym h))
-not_true false h = refl
-
 -- a later target does not overlap an earlier one
 later_free : (assigned : List Assigned) (earlier : List Path) (target other : Path) (structure : Link) (first : Span) (by : Link) → TargetsFree earlier assigned → Member (Sharing target structure first by) assigned → Member other earlier → overlap target other ≡ false
 later_free [] earlier target other structure first by f m n = absurd m
@@ -84,7 +79,7 @@ later_free (Giving t v ∷ assigned) earlier target other structure first by f (
 later_free (Giving t v ∷ assigned) earlier target other structure first by f (inr m) n = later_free assigned (t ∷ earlier) target other structure first by f.1 m (inr n)
 later_free (Sharing t k s l ∷ assigned) earlier target other structure first by f (inl e) n =
     let same : target ≡ t = targets e in
-    any_not (overlap target) earlier other (not_true (list_any (overlap target) earlier) (subst (λ z. is_free earlier z ≡ true) (sym same) f.0)) n
+    any_not (overlap target) earlier other (not-true (list_any (overlap target) earlier) (subst (λ z. is_free earlier z ≡ true) (sym same) f.0)) n
   where
     targets : Sharing target structure first by ≡ Sharing t k s l → target ≡ t
     targets q = cc

@@ -1,10 +1,10 @@
 -- A link between known theories has a typed map, as links have.
 use Rattle.std.proofs.Common.{◌≡◌, ◌++◌, Option, Some, None, is_some, true, true≢false, refl, sym, ap, ◌∙◌, subst, append-nil}
-use Rattle.lf_meaning.specs.Terms.{Name}
+use Rattle.name_meaning.specs.Names.{Name}
 use Rattle.lf_meaning.specs.Judgements.{IsSignature}
 use Rattle.translation_meaning.specs.TypedMaps.{IsTypedMap}
 use Rattle.library_meaning.specs.Faces.{TheoryFace, Environment, theory_of, includes_of, own_of, own_parts, flat_of}
-use Rattle.link_meaning.proofs.Linked.{known_theory}
+use Rattle.link_laws.proofs.Linked.{known_theory}
 use Rattle.holding_laws.specs.ExpansionHolds.{scope_signature}
 use Rattle.std.proofs.lemmas.Option.{none-some}
 use Rattle.link_coherence_laws.proofs.ImagesHold.{whole_scope, between_holds}

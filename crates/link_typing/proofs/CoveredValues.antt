@@ -1,15 +1,15 @@
 -- The values that coverings give to included constants fit their translated classes.
 use Rattle.std.proofs.Common.{◌≡◌, ℕ, zero, suc, Bool, true, false, List, [], ◌∷◌, ◌++◌, take, slice_get, Option, Some, None, is_some, option_map, ◌&&◌, ◌||◌, inl, inr, ⊎_elim, refl, sym, ap, ap₂, ◌∙◌, subst, subst₂}
 use Rattle.std.proofs.lemmas.Bool.{or_cases, and_parts}
-use Rattle.lf_meaning.specs.Terms.{Name, Constant}
-use Rattle.lf_meaning.specs.Signatures.{Class, Value, Declaration, Signature, same_name, undefined_class, declaration_of, class_of}
+use Rattle.name_meaning.specs.Names.{Name, same_name}
+use Rattle.lf_meaning.specs.Terms.{Constant}
+use Rattle.lf_meaning.specs.Signatures.{Class, Value, Declaration, Signature, undefined_class, declaration_of, class_of}
 use Rattle.lf_meaning.specs.Judgements.{Fits, ValueFits, IsDeclaration, IsSignature}
-use Rattle.lf_meaning.proofs.Equality.{same_name_sound, same_name_itself}
-use Rattle.lf_metatheory.proofs.Declared.{declared_as}
-use Rattle.lf_metatheory.proofs.Growing.{signature_shrinks}
-use Rattle.log_meaning.proofs.Members.{Member, in_append, append_left, append_right, in_flat_map, any_found, any_of}
-use Rattle.log_meaning.proofs.Order.{among_member, member_among}
-use Rattle.translation_meaning.specs.HeadMaps.{Image, HeadMap, image_of}
+use Rattle.lf_typing.proofs.Declared.{declared_as}
+use Rattle.lf_typing.proofs.Growing.{signature_shrinks}
+use Rattle.list_laws.proofs.Members.{Member, in_append, append_left, append_right, in_flat_map, any_found, any_of, place_member}
+use Rattle.name_laws.proofs.Order.{among_member, member_among, same_sound, same_itself}
+use Rattle.lf_meaning.specs.HeadMaps.{Image, HeadMap, image_of}
 use Rattle.translation_meaning.specs.Translation.{translate_class, translate_value}
 use Rattle.translation_meaning.specs.Differ.{value_in}
 use Rattle.translation_meaning.specs.ProperValues.{IsProperValue, ValuesAreProper}
@@ -25,15 +25,15 @@ use Rattle.link_meaning.specs.Assignments.{Setting, is_or_includes, included_the
 use Rattle.link_meaning.specs.Coverings.{identity_covers, is_identity_covering, identity_on}
 use Rattle.link_meaning.specs.Passes.{is_own}
 use Rattle.link_meaning.specs.Equations.{IsCovering, ByIdentity, ByAssignment, CoveringsGive, HasValue, HasValueBy, MeetsEquations}
-use Rattle.link_meaning.proofs.Linked.{own_named, own_by, includes_other, included_in, declarations_hold}
+use Rattle.link_laws.proofs.Linked.{own_named, own_by, includes_other, included_in, declarations_hold}
 use Rattle.holding_laws.specs.HoldingLaws.{Grows}
 use Rattle.holding_laws.specs.ExpansionHolds.{scope_signature}
 use Rattle.holding_laws.proofs.Declared.{place_of}
 use Rattle.holding_laws.proofs.Translating.{placed_in}
 use Rattle.link_coherence_laws.specs.LinkTargets.{target_of}
-use Rattle.link_coherence_laws.proofs.Onces.{place_member, Once, declaration_member, member_declared, own_is_once}
+use Rattle.link_coherence_laws.proofs.Onces.{Once, declaration_member, member_declared, own_is_once}
 use Rattle.link_coherence_laws.proofs.WordsHold.{flat_once, includes_closed, includes_theories, included_members}
-use Rattle.link_coherence_laws.proofs.ImagesHold.{SettingHolds, identity_grows}
+use Rattle.link_coherence_laws.proofs.ImagesHold.{SettingHolds, identity_grows, valued}
 use Rattle.link_typing.proofs.LinkInterface.{SettingTyped}
 use Rattle.row_typing.proofs.Grown.{fits_more}
 use Rattle.row_typing.proofs.WordsTyped.{flat_typed}
@@ -41,13 +41,8 @@ use Rattle.row_typing.proofs.SameValues.{SameAt, classes_same, values_same}
 use Rattle.row_typing.proofs.Identity.{identity_image, identity_typed}
 use Rattle.row_typing.proofs.ProperImages.{value_proper, images_proper}
 use Rattle.link_typing.proofs.Assigning.{ItemTyped}
-
-some_is : {A : Type 0} {x y : A} → Some x ≡ Some y → x ≡ y
-some_is e = cc
-
-classified : (o : Option Value) (class found : Class) → undefined_class o class ≡ Some found → class ≡ found
-classified None class found h = some_is h
-classified (Some v) class found h = absurd (cc)
+use Rattle.std.proofs.lemmas.Option.{same_Some}
+use Rattle.lf_term_laws.proofs.Declarations.{undefined_is}
 
 -- a constant of a signature, as a declaration of it
 pub record KnownAs (sig : Signature) (c : Constant) (class : Class) : Type 0 where
@@ -60,14 +55,11 @@ pub known_as : (sig : Signature) (c : Constant) (class : Class) → class_of sig
 known_as sig c class h =
     let d = declared_as sig c class h in
     let m = declaration_member sig c d.declaration d.found in
-    record { declaration = d.declaration; there = m.0; named = m.1; classed = classified d.declaration.value d.declaration.class class d.classified }
+    record { declaration = d.declaration; there = m.0; named = m.1; classed = undefined_is d.declaration.value d.declaration.class class d.classified }
 
 -- of two declarations of a signature with each name once
 pub same_declaration : (sig : Signature) → Once sig → (x y : Declaration) → Member x sig → Member y sig → x.name ≡ y.name → x ≡ y
-same_declaration sig o x y m n e = some_is (sym (member_declared sig o x m) ∙ ap (declaration_of sig) e ∙ member_declared sig o y n)
-
-pub value_of_image : (along : HeadMap) (c : Constant) (image : Image) (value : Value) → image_of along c ≡ Some image → value_in along c ≡ Some value → image.value ≡ value
-value_of_image along c image value e h = some_is (sym (ap (option_map (λ (i : Image). i.value)) e) ∙ h)
+same_declaration sig o x y m n e = same_Some _ _ (sym (member_declared sig o x m) ∙ ap (declaration_of sig) e ∙ member_declared sig o y n)
 
 module _ (setting : Setting) (ok : SettingHolds setting) (typed : SettingTyped setting) where
   abbrev pub environment : Environment
@@ -102,7 +94,7 @@ module _ (setting : Setting) (ok : SettingHolds setting) (typed : SettingTyped s
       ap (λ z. same_name theory z || sees (includes_of (theory_of setting.environment theory)) z) (own_named setting.environment ok.coherent q.0 x q.2)
       ∙ or_right (same_name theory q.0) (sees (includes_of (theory_of setting.environment theory)) q.0) (member_among (includes_of (theory_of setting.environment theory)) q.0 q.1))
       (λ n. ap (λ z. same_name theory z || sees (includes_of (theory_of setting.environment theory)) z) (own_named setting.environment ok.coherent theory x n)
-      ∙ or_left (same_name theory theory) (sees (includes_of (theory_of setting.environment theory)) theory) (same_name_itself theory))
+      ∙ or_left (same_name theory theory) (sees (includes_of (theory_of setting.environment theory)) theory) (same_itself theory))
       (in_append (own_parts setting.environment (includes_of (theory_of setting.environment theory))) (own_part setting.environment theory) x m)
     where
       or_left : (a b : Bool) → a ≡ true → (a || b) ≡ true
@@ -115,7 +107,7 @@ module _ (setting : Setting) (ok : SettingHolds setting) (typed : SettingTyped s
   -- what a theory has, a theory that is it or includes it has
   pub reached_member : (theory other : Name) (d : Declaration) → is_or_includes setting.environment theory other ≡ true → Member d (flat_of setting.environment other) → Member d (flat_of setting.environment theory)
   reached_member theory other d t m =
-      ⊎_elim (λ e. subst (λ z. Member d (flat_of setting.environment z)) (sym (same_name_sound theory other e)) m)
+      ⊎_elim (λ e. subst (λ z. Member d (flat_of setting.environment z)) (sym (same_sound theory other e)) m)
       (λ e. append_left (own_parts setting.environment (includes_of (theory_of setting.environment theory))) (own_part setting.environment theory) d
       (included_members setting.environment ok.coherent (includes_of (theory_of setting.environment theory)) (includes_closed setting.environment ok.coherent theory) other (among_member (includes_of (theory_of setting.environment theory)) other e) d m))
       (or_cases (same_name theory other) (sees (includes_of (theory_of setting.environment theory)) other) t)
@@ -182,7 +174,7 @@ module _ (setting : Setting) (ok : SettingHolds setting) (typed : SettingTyped s
 
     identity_covering : (theory : Name) → Member theory (included_theories setting) → is_identity_covering setting assigned theory ≡ true → (x : Declaration) → Member x (flat_of setting.environment theory) → is_identity_covering setting assigned x.name.theory ≡ true
     identity_covering theory k i x m =
-        ⊎_elim (λ e. subst (λ z. is_identity_covering setting assigned z ≡ true) (same_name_sound theory x.name.theory e) i) (λ e. spreads theory x.name.theory k e i)
+        ⊎_elim (λ e. subst (λ z. is_identity_covering setting assigned z ≡ true) (same_sound theory x.name.theory e) i) (λ e. spreads theory x.name.theory k e i)
         (or_cases (same_name theory x.name.theory) (sees (includes_of (theory_of setting.environment theory)) x.name.theory) (theory_reaches theory x m))
 
     identity_own : (sig : Signature) → Once sig → (x : Declaration) → Member x sig → value_in (identity_map sig) x.name ≡ Some (own_value x x.value)
@@ -205,7 +197,7 @@ module _ (setting : Setting) (ok : SettingHolds setting) (typed : SettingTyped s
 
     optional_proper : (sig : Signature) (class : Class) (o : Option Value) (v : Value) → OptionalValueHolds sig class o → o ≡ Some v → IsProperValue v
     optional_proper sig class None v h e = absurd (cc)
-    optional_proper sig class (Some w) v h e = subst IsProperValue (some_is e) (value_proper sig class w h)
+    optional_proper sig class (Some w) v h e = subst IsProperValue (same_Some _ _ e) (value_proper sig class w h)
 
     own_proper : (theory : Name) → is_some (theory_of setting.environment theory) ≡ true → (j : ℕ) (x : Declaration) → slice_get (flat_of setting.environment theory) j ≡ Some x → (v : Value) → x.value ≡ Some v → IsProperValue v
     own_proper theory s j x e v q = let h = declarations_hold setting.environment ok.coherent theory s j x e in optional_proper (take j (flat_of setting.environment theory)) x.class x.value v h.1 q
@@ -247,7 +239,7 @@ module _ (setting : Setting) (ok : SettingHolds setting) (typed : SettingTyped s
                 other_is = ap (image_of by) (sym y.named) ∙ t.mapped;
                 one_class = i.class_is ∙ ap (translate_class along) x.classed;
                 other_class = t.class ∙ ap (translate_class by) (sym classes);
-                value = sym (value_of_image by x.declaration.name t.image i.image.value (ap (image_of by) (x.named ∙ sym y.named) ∙ t.mapped) value);
+                value = sym (valued by x.declaration.name t.image i.image.value (ap (image_of by) (x.named ∙ sym y.named) ∙ t.mapped) value);
               },
             )
 
@@ -259,7 +251,7 @@ module _ (setting : Setting) (ok : SettingHolds setting) (typed : SettingTyped s
             let t = by_at d m in
             let i = place_of from d m in
             let k = declared_typed from from_is i.0 d i.1 in
-            let is : t.image.value ≡ value = value_of_image by d.name t.image value t.mapped (gives d m value h) in
+            let is : t.image.value ≡ value = valued by d.name t.image value t.mapped (gives d m value h) in
             let class : translate_class along d.class ≡ translate_class by d.class = classes_same from from_is along by done done_is same_on from_imaged d.class declared.class_is k.class in
             record {
               fits = subst₂ (Fits before) is (t.class ∙ sym class) (fits_more end before grows t.image.class t.image.value t.fits);

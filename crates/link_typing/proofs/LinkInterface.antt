@@ -1,7 +1,7 @@
 -- What is known where a link is checked, and what its map is then.
 use Rattle.std.proofs.Common.{◌≡◌, List, ◌++◌, Ok}
 use Rattle.lf_meaning.specs.Judgements.{IsSignature}
-use Rattle.translation_meaning.specs.HeadMaps.{HeadMap}
+use Rattle.lf_meaning.specs.HeadMaps.{HeadMap}
 use Rattle.translation_meaning.specs.TypedMaps.{IsTypedMap}
 use Rattle.library_meaning.specs.Faces.{theory_of, includes_of, own_parts, flat_of}
 use Rattle.text_meaning.specs.Trees.{Assign}

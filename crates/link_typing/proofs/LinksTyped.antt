@@ -1,20 +1,19 @@
 -- The map of a link is typed, and what a structure induces is well typed.
 use Rattle.std.proofs.Common.{◌≡◌, suc, ◌+◌, Bool, true, false, cond, List, [], ◌∷◌, ◌++◌, length, length-append, take, drop, slice_get, Option, Some, None, option_map, Ok, inl, ⊎_elim, refl, sym, ap, ap₂, ◌∙◌, subst, subst₂, append_assoc, append-nil, arith}
-use Rattle.lf_meaning.specs.Terms.{Name, Constant}
-use Rattle.lf_meaning.specs.Signatures.{Class, Value, SameAs, TermValue, FamilyValue, Declaration, Signature, same_name, same_constant}
+use Rattle.name_meaning.specs.Names.{Name, same_name}
+use Rattle.lf_meaning.specs.Terms.{Constant}
+use Rattle.lf_meaning.specs.Signatures.{Class, Value, SameAs, TermValue, FamilyValue, Declaration, Signature, same_constant}
 use Rattle.lf_meaning.specs.Judgements.{IsClass, Fits, ValueFits, IsDeclaration, IsSignature}
-use Rattle.lf_meaning.proofs.Equality.{same_name_itself}
-use Rattle.lf_metatheory.proofs.Growing.{signature_grows}
-use Rattle.log_meaning.proofs.Members.{Member, in_append, append_left, append_right}
-use Rattle.log_meaning.proofs.Places.{split_at}
-use Rattle.translation_meaning.specs.HeadMaps.{Image, Mapping, HeadMap, image_of}
+use Rattle.lf_typing.proofs.Growing.{signature_grows}
+use Rattle.list_laws.proofs.Members.{Member, in_append, append_left, append_right, place_member}
+use Rattle.list_laws.proofs.Places.{split_at}
+use Rattle.lf_meaning.specs.HeadMaps.{Image, Mapping, HeadMap, image_of}
 use Rattle.translation_meaning.specs.Translation.{translate_class, translate_value}
 use Rattle.translation_meaning.specs.TypedMaps.{KeepsValue, IsTypedAt}
 use Rattle.translation_typing.specs.TypedTranslation.{IsTypedTranslation}
 use Rattle.translation_typing.proofs.Laws.{class_carried, value_carried}
 use Rattle.library_meaning.specs.Faces.{own_part, own_parts, flat_of}
 use Rattle.library_meaning.specs.Coherence.{declared_names, mapped_names, IsCoherentMap}
-use Rattle.expansion_meaning.proofs.Binding.{came_by}
 use Rattle.expansion_typing.proofs.Expanding.{DeclaredTyped, value_fits}
 use Rattle.link_meaning.specs.Refusals.{each}
 use Rattle.link_meaning.specs.Assignments.{Setting, included_theories, Assigned, read_assigns}
@@ -22,28 +21,28 @@ use Rattle.link_meaning.specs.Coverings.{covered_tests}
 use Rattle.link_meaning.specs.Passes.{Reached, ByNone, ByValue, ByStructure, reached_by, induced_constant, is_own, map_all, shared_test, assigned_map, link_map}
 use Rattle.link_meaning.specs.Equations.{IsCopied, IsUnassigned, OwnHasValue, HasValueBy, MeetsEquations}
 use Rattle.link_meaning.specs.Induced.{defined_by, induced_with}
-use Rattle.link_meaning.proofs.Covered.{good_same}
-use Rattle.link_meaning.proofs.Reading.{assigns_sound}
-use Rattle.link_meaning.proofs.Linked.{own_named, passes_sound}
+use Rattle.link_laws.proofs.Covered.{good_same}
+use Rattle.link_laws.proofs.Reading.{assigns_sound}
+use Rattle.link_laws.proofs.Linked.{own_named, passes_sound}
 use Rattle.holding_laws.specs.HoldingLaws.{Grows}
 use Rattle.holding_laws.specs.ExpansionHolds.{scope_signature}
 use Rattle.holding_laws.proofs.Declared.{place_of, front_grows, take_grows, class_in}
 use Rattle.holding_laws.proofs.Translating.{placed_in}
-use Rattle.link_coherence_laws.proofs.Onces.{place_member, Once, once_left, once_names, member_declared}
+use Rattle.link_coherence_laws.proofs.Onces.{Once, once_left, once_names, member_declared}
 use Rattle.link_coherence_laws.proofs.ImagesHold.{SettingHolds}
 use Rattle.link_coherence_laws.proofs.AssignedHold.{ReachedHolds, reached_holds, rest_splits, items_hold}
-use Rattle.link_coherence_laws.proofs.LinksHold.{added_by, added, added_all, map_holds}
+use Rattle.link_coherence_laws.proofs.LinksHold.{added_by, added, added_all, map_holds, undefined_itself}
 use Rattle.row_typing.specs.TypedFaces.{HaveFittingImages}
 use Rattle.link_typing.proofs.LinkInterface.{SettingTyped, LinkTyped, LinksAreTyped}
 use Rattle.row_typing.proofs.Grown.{fits_more, declaration_more}
-use Rattle.row_typing.proofs.Places.{undefined_itself, class_declared, typed_more, typed_by_members}
+use Rattle.row_typing.proofs.Places.{class_declared, typed_more, typed_by_members}
 use Rattle.row_typing.proofs.ProperImages.{proper_atomic_map}
 use Rattle.link_typing.proofs.Assigning.{ItemTyped, TargetsFree, items_typed, targets_free}
 use Rattle.link_typing.proofs.CoveredValues.{flat_is_once, not_own, proper, ImageAt, image_at, covered_value, included_fits, done_is, declared}
 use Rattle.link_typing.proofs.SharedValues.{definition_keeps, shared_fits}
-
-some_is : {A : Type 0} {x y : A} → Some x ≡ Some y → x ≡ y
-some_is e = cc
+use Rattle.std.proofs.lemmas.Option.{same_Some}
+use Rattle.name_laws.proofs.Order.{same_itself}
+use Rattle.list_laws.proofs.Answers.{came_by}
 
 kept : (along : HeadMap) (o : Option Value) (image : Image) → ((v : Value) → o ≡ Some v → image.value ≡ translate_value along v) → KeepsValue along o image
 kept along None image h = tt
@@ -118,7 +117,7 @@ module _ (setting : Setting) (ok : SettingHolds setting) (typed : SettingTyped s
       unassigned (Some v) value e h =
           let own : Fits done v d.class = subst (λ z. ValueFits done z d.class) e declared_here.value_fits in (
             Fitting (subst (λ z. Fits (before ++ ind) z (translate_class along d.class)) (sym h) (value_carried done (before ++ ind) along translation d.class v declared_here.class_is own)),
-            λ w q. h ∙ ap (translate_value along) (some_is (sym e ∙ q)),
+            λ w q. h ∙ ap (translate_value along) (same_Some _ _ (sym e ∙ q)),
           )
 
       own_typed : Member d (own_part setting.environment setting.domain) → (reached : Reached) → ReachedHolds assigned d.name.path reached → (value : Value) → OwnHasValue setting reached (translate_class along d.class) (option_map (translate_value along) d.value) d value → OwnTyped (before ++ ind) d value × Keeps d value
@@ -197,7 +196,7 @@ module _ (setting : Setting) (ok : SettingHolds setting) (typed : SettingTyped s
           state_with done d ind (new ∷ []) s target (at_image (before ++ (ind ++ (new ∷ []))) d i (fits_by o class value over there) k)
         where
           copy_is : (other : Name) → setting.structure ≡ Some other → i.image.value ≡ SameAs (induced_constant setting other d.name) → i.image.value ≡ SameAs (induced_constant setting structure d.name)
-          copy_is other q h = h ∙ ap (λ z. SameAs (induced_constant setting z d.name)) (some_is (sym q ∙ e))
+          copy_is other q h = h ∙ ap (λ z. SameAs (induced_constant setting z d.name)) (same_Some _ _ (sym q ∙ e))
 
           by_value : OwnTyped (before ++ ind) d i.image.value → m.image.class ≡ translate_class along d.class → i.image.value ≡ m.image.value → ValueFits (before ++ ind) (defined_by (induced_constant setting structure d.name) m.image.value) m.image.class
           by_value (Fitting f) class value = defined_fits (before ++ ind) (induced_constant setting structure d.name) m.image.class m.image.value (subst₂ (Fits (before ++ ind)) value (sym class) f)
@@ -221,7 +220,7 @@ module _ (setting : Setting) (ok : SettingHolds setting) (typed : SettingTyped s
           from_included n = subst (λ z. State (done ++ (d ∷ [])) (ind ++ z)) (sym (ap (λ b. added_by setting b setting.structure d m) (not_own setting ok typed d n))) (step_included n)
 
           own_by_name : Member d (own_part setting.environment setting.domain) → is_own setting d ≡ true
-          own_by_name n = ap (λ z. same_name z setting.domain) (own_named setting.environment ok.coherent setting.domain d n) ∙ same_name_itself setting.domain
+          own_by_name n = ap (λ z. same_name z setting.domain) (own_named setting.environment ok.coherent setting.domain d n) ∙ same_itself setting.domain
 
           by_structure : (o : Option Name) → setting.structure ≡ o → Member d (own_part setting.environment setting.domain) → is_own setting d ≡ true → State (done ++ (d ∷ [])) (ind ++ added setting d m)
           by_structure None e n q =
@@ -247,7 +246,7 @@ module _ (setting : Setting) (ok : SettingHolds setting) (typed : SettingTyped s
         let there : Member d flat = place_member flat (length done) d at_d in
         let p = placed_in d.name d flat along coherent_map.names (member_declared flat (flat_is_once setting ok typed) d there) in
         let place : p.place ≡ length done = once_names flat (flat_is_once setting ok typed) p.place (length done) d d p.declared at_d refl in
-        p.image ∙ ap (λ (z : Mapping). Some z.image) (some_is (sym p.mapped ∙ ap (slice_get along) place ∙ at_m))
+        p.image ∙ ap (λ (z : Mapping). Some z.image) (same_Some _ _ (sym p.mapped ∙ ap (slice_get along) place ∙ at_m))
 
     same_length : (xs : HeadMap) (ys : Signature) → mapped_names xs ≡ declared_names ys → length xs ≡ length ys
     same_length [] [] e = refl
@@ -268,7 +267,7 @@ module _ (setting : Setting) (ok : SettingHolds setting) (typed : SettingTyped s
     walk (d ∷ ds) done (m ∷ ms) so_far ind e f l w s =
         let there : Member d flat = subst (Member d) (sym e) (append_right done (d ∷ ds) d (inl refl)) in
         let i = image_at setting ok typed assigned along meets whole coherent_map d there in
-        let image : i.image ≡ m.image = some_is (sym i.mapped ∙ beside done ds d so_far ms m e f l) in
+        let image : i.image ≡ m.image = same_Some _ _ (sym i.mapped ∙ beside done ds d so_far ms m e f l) in
         let count : length (so_far ++ (m ∷ [])) ≡ length (done ++ (d ∷ [])) = length-append so_far (m ∷ []) ∙ ap (λ n. n + 1) l ∙ sym (length-append done (d ∷ [])) in
         walk ds (done ++ (d ∷ [])) ms (so_far ++ (m ∷ [])) (ind ++ added setting d m)
         (e ∙ sym (append_assoc done (d ∷ []) ds)) (f ∙ sym (append_assoc so_far (m ∷ []) ms)) count (w ∙ sym (append_assoc ind (added setting d m) (added_all setting ds ms)))

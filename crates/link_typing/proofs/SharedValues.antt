@@ -1,17 +1,17 @@
 -- The values that sharing links give to the constants of a structure fit their translated classes.
 use Rattle.std.proofs.Common.{◌≡◌, ◌<◌, true, List, [], ◌∷◌, ◌++◌, length, Option, Some, None, option_map, inl, ⊎_elim, refl, sym, ap, ap₂, ◌∙◌, subst, subst₂, append_assoc, append-nil}
-use Rattle.lf_meaning.specs.Terms.{Name, Path, Constant}
+use Rattle.name_meaning.specs.Names.{Name, Path}
+use Rattle.lf_meaning.specs.Terms.{Constant}
 use Rattle.lf_meaning.specs.Signatures.{Class, Value, Declaration, Signature, class_of}
 use Rattle.lf_meaning.specs.Judgements.{Fits, IsDeclaration, IsSignature}
-use Rattle.lf_meaning.proofs.Equality.{same_name_itself}
-use Rattle.lf_metatheory.proofs.Growing.{signature_shrinks}
-use Rattle.log_meaning.proofs.Members.{Member, in_append, append_left, append_right}
-use Rattle.translation_meaning.specs.HeadMaps.{Image, HeadMap, image_of}
+use Rattle.lf_typing.proofs.Growing.{signature_shrinks}
+use Rattle.list_laws.proofs.Members.{Member, in_append, append_left, append_right}
+use Rattle.lf_meaning.specs.HeadMaps.{Image, HeadMap, image_of}
 use Rattle.translation_meaning.specs.Translation.{translate_class, translate_value, translate_image, compose}
 use Rattle.translation_meaning.specs.Differ.{value_in}
 use Rattle.translation_meaning.specs.ProperValues.{ValuesAreProper}
 use Rattle.translation_meaning.specs.TypedMaps.{KeepsValue, IsTypedAt}
-use Rattle.translation_meaning.proofs.Spines.{composed}
+use Rattle.translation_laws.proofs.Spines.{composed}
 use Rattle.translation_typing.specs.Composition.{AreComposable}
 use Rattle.translation_typing.proofs.DeclaredTyped.{declared_typed}
 use Rattle.translation_typing.proofs.Composing.{class_composed}
@@ -24,15 +24,15 @@ use Rattle.link_meaning.specs.Assignments.{Setting, Assigned, Sharing}
 use Rattle.link_meaning.specs.Passes.{ByStructure, reached_by, is_own}
 use Rattle.link_meaning.specs.Equations.{IsDefinition, OwnHasValue, HasValueBy, MeetsEquations}
 use Rattle.link_meaning.specs.Induced.{induced_with}
-use Rattle.link_meaning.proofs.Covered.{filter_map_in}
-use Rattle.link_meaning.proofs.Linked.{own_named}
+use Rattle.link_laws.proofs.Covered.{filter_map_in}
+use Rattle.link_laws.proofs.Linked.{own_named}
 use Rattle.holding_laws.specs.HoldingLaws.{Grows}
 use Rattle.holding_laws.specs.ExpansionHolds.{scope_signature}
 use Rattle.holding_laws.proofs.Declared.{place_of}
 use Rattle.link_coherence_laws.specs.LinkTargets.{target_of}
 use Rattle.link_coherence_laws.proofs.Onces.{Once}
 use Rattle.link_coherence_laws.proofs.WordsHold.{flat_once, paths_of_theory}
-use Rattle.link_coherence_laws.proofs.ImagesHold.{SettingHolds, Source, source_of}
+use Rattle.link_coherence_laws.proofs.ImagesHold.{SettingHolds, Source, source_of, valued}
 use Rattle.link_typing.proofs.LinkInterface.{SettingTyped}
 use Rattle.row_typing.proofs.Grown.{fits_more}
 use Rattle.row_typing.proofs.WordsTyped.{flat_typed}
@@ -41,10 +41,9 @@ use Rattle.row_typing.proofs.Places.{copy_at, copies_at, copies_append, copies_n
 use Rattle.row_typing.proofs.PlacedLinks.{found, PlacedAs, link_placed}
 use Rattle.row_typing.proofs.ProperImages.{proper_atomic_map}
 use Rattle.link_typing.proofs.Assigning.{ItemTyped, TargetsFree, reached_behind}
-use Rattle.link_typing.proofs.CoveredValues.{known_as, same_declaration, value_of_image, flat_is_once, reached_member, proper, image_at, done_is}
-
-some_is : {A : Type 0} {x y : A} → Some x ≡ Some y → x ≡ y
-some_is e = cc
+use Rattle.link_typing.proofs.CoveredValues.{known_as, same_declaration, flat_is_once, reached_member, proper, image_at, done_is}
+use Rattle.std.proofs.lemmas.Option.{same_Some}
+use Rattle.name_laws.proofs.Order.{same_itself}
 
 -- ---- one place of a name in a signature with each name once
 
@@ -67,7 +66,7 @@ constant t p = record { theory = t; path = p }
 
 pub definition_keeps : (along : HeadMap) (o : Option Value) (value : Value) → IsDefinition (option_map (translate_value along) o) value → (v : Value) → o ≡ Some v → value ≡ translate_value along v
 definition_keeps along None value h v e = absurd (cc)
-definition_keeps along (Some w) value h v e = h ∙ ap (translate_value along) (some_is e)
+definition_keeps along (Some w) value h v e = h ∙ ap (translate_value along) (same_Some _ _ e)
 
 pub kept_image : (along : HeadMap) (o : Option Value) (image : Image) → IsDefinition (option_map (translate_value along) o) image.value → KeepsValue along o image
 kept_image along None image h = tt
@@ -207,19 +206,19 @@ module _ (setting : Setting) (ok : SettingHolds setting) (typed : SettingTyped s
         let a = place_of assigned (Sharing path structure first by) m in
         let j = place_of inner_parts x k in
         let s = meets.shared a.0 path structure first by a.1 j.0 x j.1 in
-        s.same ∙ ap (λ z. Some (translate_value along z)) (sym (value_of_image structure.map x.name (image_of_map x n) s.value (map_at x (in_inner x n)).mapped s.image))
+        s.same ∙ ap (λ z. Some (translate_value along z)) (sym (valued structure.map x.name (image_of_map x n) s.value (map_at x (in_inner x n)).mapped s.image))
 
     own_reached : (x : Declaration) (k : Member x inner) → reached_by assigned (path ++ x.name.path) ≡ ByStructure path x.name.path structure first by
     own_reached x k = reached_behind assigned [] path x.name.path structure first by free m (paths_of_theory setting.environment ok.coherent structure.domain x k)
 
     image_irrelevant : (x : Declaration) (n k : Member x (inner_parts ++ inner)) → (map_at x n).image ≡ (map_at x k).image
-    image_irrelevant x n k = some_is (sym (map_at x n).mapped ∙ (map_at x k).mapped)
+    image_irrelevant x n k = same_Some _ _ (sym (map_at x n).mapped ∙ (map_at x k).mapped)
 
     shared_own : (x : Declaration) (n : Member x (inner_parts ++ at.front)) → Member x at.front → value_in by.map x.name ≡ Some (translate_value along (image_of_map x n).value)
     shared_own x n f =
         let k : Member x inner = subst (Member x) (sym at.parts) (append_left at.front (e ∷ at.back) x f) in
         let i = image_at setting ok typed assigned along meets to coherent_map (copy x k) (copy_flat x k) in
-        let here : is_own setting (copy x k) ≡ true = same_name_itself setting.domain in
+        let here : is_own setting (copy x k) ≡ true = same_itself setting.domain in
         let class : Class = translate_class along (copy x k).class in
         let definition : Option Value = option_map (translate_value along) (copy x k).value in
         let own : OwnHasValue setting (reached_by assigned (path ++ x.name.path)) class definition (copy x k) i.image.value = subst (λ b. HasValueBy setting assigned b class definition (copy x k) i.image.value) here i.value_is in
@@ -263,7 +262,7 @@ module _ (setting : Setting) (ok : SettingHolds setting) (typed : SettingTyped s
         let t = both_at x.declaration x.there in
         let u = by_at y.declaration y.there in
         let classes : class ≡ y.declaration.class = sym x.classed ∙ ap (λ (z : Declaration). z.class) same in
-        let one : t.image ≡ translate_image along (image_of_map x.declaration x.there) = some_is (sym t.mapped ∙ both_image x.declaration x.there) in (
+        let one : t.image ≡ translate_image along (image_of_map x.declaration x.there) = same_Some _ _ (sym t.mapped ∙ both_image x.declaration x.there) in (
           classes ∙ y.classed,
           record {
             one = t.image;
@@ -273,7 +272,7 @@ module _ (setting : Setting) (ok : SettingHolds setting) (typed : SettingTyped s
             one_class = t.class ∙ ap (translate_class both) x.classed;
             other_class = u.class ∙ ap (translate_class by.map) (sym classes);
             value = ap (λ (z : Image). z.value) one
-                ∙ sym (value_of_image by.map x.declaration.name u.image (translate_value along (image_of_map x.declaration x.there).value) (ap (image_of by.map) (x.named ∙ sym y.named) ∙ u.mapped) (shared_value x.declaration x.there));
+                ∙ sym (valued by.map x.declaration.name u.image (translate_value along (image_of_map x.declaration x.there).value) (ap (image_of by.map) (x.named ∙ sym y.named) ∙ u.mapped) (shared_value x.declaration x.there));
           },
         )
 
@@ -295,5 +294,5 @@ module _ (setting : Setting) (ok : SettingHolds setting) (typed : SettingTyped s
     pub shared_fits : (grows : Grows (target_of setting.environment setting.here by.codomain) target) (value : Value) → value_in by.map (record { theory = structure.domain; path = rest }) ≡ Some value → Fits target value (translate_class along d.class)
     shared_fits grows value h =
         let t = by_at e source_over in
-        let is : t.image.value ≡ value = value_of_image by.map e.name t.image value t.mapped (ap (value_in by.map) source.named ∙ h) in
+        let is : t.image.value ≡ value = valued by.map e.name t.image value t.mapped (ap (value_in by.map) source.named ∙ h) in
         subst₂ (Fits target) is (t.class ∙ sym class_same) (fits_more (target_of setting.environment setting.here by.codomain) target grows t.image.class t.image.value t.fits)

@@ -2,7 +2,7 @@
 -- a link is no structure, and its codomain is not being built. Of a structure, the theory of which is being built, the laws of
 -- typed faces say it.
 use Rattle.std.specs.Prelude.{◌≡◌, List, Ok}
-use Rattle.translation_meaning.specs.HeadMaps.{HeadMap}
+use Rattle.lf_meaning.specs.HeadMaps.{HeadMap}
 use Rattle.translation_meaning.specs.TypedMaps.{IsTypedMap}
 use Rattle.library_meaning.specs.Faces.{flat_of}
 use Rattle.library_meaning.specs.Coherence.{IsCoherent}
@@ -12,7 +12,7 @@ use Rattle.link_meaning.specs.Passes.{link_map}
 use Rattle.link_coherence_laws.specs.BetweenTheories.{IsBetweenTheories}
 use Rattle.row_typing.specs.TypedFaces.{IsTypedEnvironment}
 
--- Read: where all that is known is coherent and well typed, and the passes over the assignments of a link between known theories
+-- Where all that is known is coherent and well typed, and the passes over the assignments of a link between known theories
 -- answer a map, it is typed.
 abbrev pub LinksHaveTypedMaps : Type 0
 LinksHaveTypedMaps =

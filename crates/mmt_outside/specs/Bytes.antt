@@ -7,7 +7,7 @@ abbrev pub preceded : List ℕ → Option (List ℕ) → Option (List ℕ)
 preceded bytes None = None
 preceded bytes (Some rest) = Some (bytes ++ rest)
 
--- Read: where bytes left are told, none was read exactly where none was left.
+-- Where bytes left are told, none was read exactly where none was left.
 abbrev pub IsEndOfInput : Option (List ℕ) → ℕ → Type 0
 IsEndOfInput left count = IfSome left (λ bytes. (count ≡ 0) ↔ (bytes ≡ []))
 
@@ -26,7 +26,7 @@ abbrev pub flushed : Option Taken → Option Taken
 flushed None = None
 flushed (Some taken) = Some (record { bytes = taken.bytes; flushed = length taken.bytes })
 
--- Read: the sink took a first part of the piece, which may be none or all of it.
+-- The sink took a first part of the piece, which may be none or all of it.
 pub record TookPrefix (before now : Option Taken) (piece : List ℕ) : Type 0 where
   pub count : ℕ
   pub within : count ≤ length piece

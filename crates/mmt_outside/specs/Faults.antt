@@ -3,16 +3,16 @@ use Rattle.std.specs.Prelude.{ℕ, ◌+◌, ◌-◌, ◌^◌, ◌≤◌, min, On
 use Rattle.mmt_outside.specs.declared.fault.OutFault.{OutFault}
 use Rattle.mmt_outside.specs.declared.fault.OutFault.TheVariants.{Failed}
 
--- Read: the count rose, or it stands at the greatest number of 64 bits.
+-- The count rose, or it stands at the greatest number of 64 bits.
 abbrev pub Rose : ℕ → ℕ → Type 0
 Rose before now = min (before + 1) (2 ^ 64 - 1) ≤ now
 
--- Read: the count has not fallen, and the result is an error only where the count rose.
+-- The count has not fallen, and the result is an error only where the count rose.
 pub record HasCause {T E : Type 0} (before now : ℕ) (result : Result T E) : Type 0 where
   pub later : before ≤ now
   pub failed : OnErr result (Rose before now)
 
--- Read: the count has not fallen, and the result is the error `Failed` only where the count rose.
+-- The count has not fallen, and the result is the error `Failed` only where the count rose.
 pub record HasCauseOrNoMemory {T : Type 0} (before now : ℕ) (result : Result T OutFault) : Type 0 where
   pub later : before ≤ now
   pub failed : IsErrOf result Failed → Rose before now

@@ -17,7 +17,7 @@ one_more count = min (count + 1) (2 ^ 64 - 1)
 abbrev pub no_calls : List ℕ → Calls
 no_calls fails = record { made = 0; fails = fails; faults = 0 }
 
--- Read: the next call fails.
+-- The next call fails.
 abbrev pub next_fails : Calls → Bool
 next_fails calls = list_any (λ number. number == one_more calls.made) calls.fails
 
@@ -48,11 +48,11 @@ pub record SinkState : Type 0 where
 abbrev pub room_left : SinkState → ℕ
 room_left sink = sink.room - length sink.taken.bytes
 
--- Read: the sink is full, and a piece of this length has a byte.
+-- The sink is full, and a piece of this length has a byte.
 abbrev pub is_full_for : SinkState → ℕ → Bool
 is_full_for sink count = nat_lt 0 count && room_left sink == 0
 
--- Read: the next write of a piece of this length fails.
+-- The next write of a piece of this length fails.
 abbrev pub write_fails : SinkState → ℕ → Bool
 write_fails sink count = next_fails sink.calls || is_full_for sink count
 

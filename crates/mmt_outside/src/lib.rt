@@ -27,6 +27,3 @@ pub use source::Source;
 pub use standard_input::StdSource;
 pub use standard_output::StdSink;
 pub use writing::write_all;
-
-#[cfg(test)]
-mod tests;

@@ -1,6 +1,7 @@
 -- Which modules a module depends on directly, in the order of the text, with repeats (this profile).
 use Rattle.std.specs.Prelude.{Bool, true, false, List, [], ◌∷◌, Option, Some, None, filter, flat_map, map, not, ◌&&◌, bytes_eq}
-use Rattle.text_meaning.specs.Tokens.{Span, Name, Path}
+use Rattle.text_meaning.specs.Tokens.{Span}
+use Rattle.name_meaning.specs.Names.{Name, Path}
 use Rattle.text_meaning.specs.Trees.{Written, Assign, IncludeAssign, StructAssign, ConstAssign, Decl, IncludeDecl, StructDecl, ConstDecl, Module, SigModule, ViewModule}
 
 -- a name, and the written path that begins with it

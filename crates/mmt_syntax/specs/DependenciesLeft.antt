@@ -2,7 +2,7 @@
 use Rattle.std.specs.Prelude.{ℕ, List, [], ◌∷◌, ◌++◌, Option, Some, None, flat_map}
 use Rattle.std.specs.Option.{option_map}
 use Rattle.std.specs.Borrow.{Bor}
-use Rattle.text_meaning.specs.Tokens.{Name}
+use Rattle.name_meaning.specs.Names.{Name}
 use Rattle.lf_terms.specs.declared.span.Span.{Span}
 use Rattle.mmt_syntax.specs.Readings.{read_span, read_written, read_words, read_assigns, read_decls}
 use Rattle.mmt_syntax.specs.Dependencies.{Dependency, dependency, word_dependencies, assign_dependencies, decl_dependencies}

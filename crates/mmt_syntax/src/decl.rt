@@ -1,7 +1,7 @@
 //! Declarations of theories.
 ghost use Rattle.std.specs.Prelude.{◌≡◌, ◌↔◌, ◌≤◌, ◌∷◌, ◌++◌, [], length, slice_get, IfErr, OnErr, OnOk, IsNone};
 ghost use Rattle.std.specs.Option.{option_copied};
-ghost use Rattle.mmt_syntax.specs.Labels.{label_of};
+ghost use Rattle.text_meaning.specs.Labels.{label_of};
 ghost use Rattle.mmt_syntax.specs.Readings.{read_decl};
 
 use crate::{Assigns, Expr, Written};

@@ -2,7 +2,7 @@
 ghost use Rattle.std.specs.Prelude.{◌≡◌, ◌≤◌, ◌^◌, ◌==◌, not, length};
 ghost use Rattle.std.specs.List.{count_by, suffix_len};
 ghost use Rattle.text_meaning.specs.Bytes.{line_feed};
-ghost use Rattle.mmt_syntax.specs.Places.{line_at, column_at};
+ghost use Rattle.text_meaning.specs.Places.{line_at, column_at};
 
 /// A line and a column of a text, both counted from 1. A column is counted in bytes.
 #[derive(Clone, Copy, Debug, PartialEq, Eq)]

@@ -1,7 +1,7 @@
-pub mod PieceSteps
-pub mod Forms
-pub mod Bodies
 pub mod Texts
-pub mod Levels
 pub mod Turns
 pub mod Sessions
+pub mod FirstPieces
+pub mod FirstForms
+pub mod FirstBodies
+pub mod FirstLevels

@@ -3,11 +3,12 @@ use Rattle.std.proofs.Common.{◌≡◌, ℕ, Bool, true, false, List, [], ◌�
 use Rattle.std.specs.Prelude.{Option, Some, None, IfSome, IsSome}
 use Rattle.mmt_outside.specs.Bytes.{Taken, appended, flushed, TookPrefix, preceded}
 use Rattle.mmt_outside.proofs.Bytes.{appended-nil, appended-appended, TookPrefix-after}
-use Rattle.output_meaning.specs.Script as meant
+use Rattle.first_path_meaning.specs.Script as meant
 use Rattle.script_reader.specs.Reading.{Reading}
 use Rattle.mmt_top.specs.declared.status.Status.{Status}
 use Rattle.mmt_top.specs.declared.status.Status.TheVariants.{Done, Refused, Usage, ReadFault, WriteFault, Memory, ScriptFault}
 use Rattle.mmt_top.specs.Session.{items_to_come, output_to_come, GoesOn, EndsAs, TurnTells}
+use Rattle.script_reader.proofs.TextSoFar.{if_some_map}
 
 -- the session so far: where the bytes to come were told, they are, and what was written is what goes before their output
 abbrev pub Played : Option Taken → Option Taken → Option (List ℕ) → Option (List ℕ) → Option meant.Put → Option meant.Put → Reading → Reading → Type 0
@@ -101,10 +102,6 @@ played_all before now new (Some bytes) (Some rest) left theory next then reading
 -- the script before anything was read
 abbrev pub start : Reading
 start = record { buffered = []; line = 1; may_put = true; is_spent = false }
-
-if_some_map : (o : Option (List ℕ)) (P Q : List ℕ → Type 0) → ((bytes : List ℕ) → P bytes → Q bytes) → IfSome o P → IfSome o Q
-if_some_map None P Q f h = tt
-if_some_map (Some bytes) P Q f h = f bytes h
 
 pub played_done : (before now new : Option Taken) (come after : Option (List ℕ)) (buffered : List ℕ) (left : Option (List ℕ)) (theory next then : Option meant.Put) (reading later last : Reading)
     → Played before now come after theory next reading later

@@ -4,10 +4,11 @@ use Rattle.std.specs.Prelude.{Option, Some, None, IfSome, IsSome}
 use Rattle.mmt_outside.specs.Bytes.{Taken, TookPrefix}
 use Rattle.mmt_outside.proofs.Bytes.{TookPrefix-append, TookPrefix-none}
 use Rattle.output_meaning.specs.Lines.{lines_of}
-use Rattle.output_meaning.specs.Commands as commands
+use Rattle.first_path_meaning.specs.Commands as commands
 use Rattle.output_meaning.specs.Printed.{bad_line, unended_line}
-use Rattle.output_meaning.specs.Script as meant
-use Rattle.output_meaning.proofs.Items.{items_of-next}
+use Rattle.first_path_meaning.specs.Script as meant
+use Rattle.output_meaning.specs.ScriptLines.{line_after}
+use Rattle.first_path_laws.proofs.Items.{items_of-next}
 use Rattle.script_reader.specs.Reading.{Reading, may_put_next}
 use Rattle.script_reader.specs.Texts.{StaysTold}
 use Rattle.script_reader.specs.Answers.{Leaves, IsNext, IsFault, IsGiven}
@@ -23,14 +24,14 @@ use Rattle.mmt_top.specs.Session.{command_in, items_to_come, output_to_come, Goe
 
 items_by_next : (reading : Reading) (bytes : List ℕ) (next : commands.Next) → commands.next_of reading.may_put (lines_of bytes) ≡ next
     → items_to_come reading bytes
-    ≡ meant.items_by next reading.line (λ c rest. meant.items_of (meant.line_after reading.line (lines_of bytes) rest) (meant.may_put_after reading.may_put c) rest)
+    ≡ meant.items_by next reading.line (λ c rest. meant.items_of (line_after reading.line (lines_of bytes) rest) (meant.may_put_after reading.may_put c) rest)
 items_by_next reading bytes next is =
     items_of-next reading.line reading.may_put (lines_of bytes)
-    ∙ ap (λ (n : commands.Next). meant.items_by n reading.line (λ c rest. meant.items_of (meant.line_after reading.line (lines_of bytes) rest) (meant.may_put_after reading.may_put c) rest)) is
+    ∙ ap (λ (n : commands.Next). meant.items_by n reading.line (λ c rest. meant.items_of (line_after reading.line (lines_of bytes) rest) (meant.may_put_after reading.may_put c) rest)) is
 
 -- one command, and what follows it
 items_command : (reading later : Reading) (bytes rest : List ℕ) (c : commands.Command) → commands.next_of reading.may_put (lines_of bytes) ≡ commands.gives c (lines_of rest)
-    → later.line ≡ meant.line_after reading.line (lines_of bytes) (lines_of rest) → later.may_put ≡ meant.may_put_after reading.may_put c
+    → later.line ≡ line_after reading.line (lines_of bytes) (lines_of rest) → later.may_put ≡ meant.may_put_after reading.may_put c
     → items_to_come reading bytes ≡ meant.command c ∷ items_to_come later rest
 items_command reading later bytes rest c is line may_put =
     items_by_next reading bytes (commands.gives c (lines_of rest)) is
@@ -74,7 +75,7 @@ fault_command c items = refl
 
 goes_on : (reading later : Reading) (bytes rest : List ℕ) (theory next : Option meant.Put) (before now : Option Taken) (command : Command)
     → (commands.next_of reading.may_put (lines_of bytes) ≡ commands.gives (command_in command) (lines_of rest))
-    × (later.line ≡ meant.line_after reading.line (lines_of bytes) (lines_of rest))
+    × (later.line ≡ line_after reading.line (lines_of bytes) (lines_of rest))
     → later.may_put ≡ may_put_next reading.may_put command
     → SpokenTells None before now theory next (command_in command) → GoesOn before now bytes theory next reading later rest
 goes_on reading later bytes rest theory next before now command leaves may_put tells =

@@ -5,7 +5,7 @@ use Rattle.output_meaning.specs.Printed.{usage_line}
 use Rattle.mmt_top.specs.declared.status.Status.{Status}
 use Rattle.mmt_top.specs.declared.status.Status.TheVariants.{Done, Refused, Usage, ReadFault, WriteFault, Memory, ScriptFault}
 
--- Read: the usage line was written and flushed; or the sink failed, and a first part of it was written.
+-- The usage line was written and flushed; or the sink failed, and a first part of it was written.
 abbrev pub IsUsage : Status → Option Taken → Option Taken → Type 0
 IsUsage Done before now = ⊥
 IsUsage Refused before now = ⊥

@@ -1,20 +1,17 @@
 //! The program as one call: `run` reads the words of the command line, and plays the script on the source.
 #![tactic(auto)]
 
-mod answer;
-mod form;
-mod lines;
-mod pieces;
+mod first_answer;
+mod first_form;
+mod first_lines;
+mod first_pieces;
+mod first_theory;
+mod first_tokens;
+mod first_verdict;
 mod program;
 mod session;
 mod status;
-mod theory;
-mod tokens;
-mod verdict;
 mod words;
 
 pub use program::run;
 pub use status::Status;
-
-#[cfg(test)]
-mod tests;

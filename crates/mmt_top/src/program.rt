@@ -2,12 +2,12 @@
 ghost use Rattle.std.specs.Prelude.{◌≡◌, ◌≤◌, true, false, [], Some, map, IfSome};
 ghost use Rattle.std.specs.String.{string_bytes};
 ghost use Rattle.mmt_outside.specs.Faults.{Rose};
-ghost use Rattle.output_meaning.specs.Script.{output_of, script_of, has_fault};
-ghost use Rattle.output_meaning.specs.Words as meant;
+ghost use Rattle.first_path_meaning.specs.Script.{output_of, script_of, has_fault};
+ghost use Rattle.first_path_meaning.specs.Words as meant;
 ghost use Rattle.mmt_top.specs.Session.{EndsAs, FlushesAt, IsSessionStatus};
 ghost use Rattle.mmt_top.specs.Runs.{IsUsage};
 
-use crate::lines::USAGE;
+use crate::first_lines::USAGE;
 use crate::session::{play, write_last};
 use crate::status::Status;
 use crate::words::is_accepted;

@@ -2,13 +2,13 @@
 ghost use Rattle.std.specs.Prelude.{◌≡◌, ◌≤◌, true, false, [], Some, IfSome, IsNone, OnOk, OnErr};
 ghost use Rattle.mmt_outside.specs.Bytes.{appended, flushed, TookPrefix};
 ghost use Rattle.mmt_outside.specs.Faults.{Rose, HasCause};
-ghost use Rattle.output_meaning.specs.Script.{output_of, script_of, has_fault};
+ghost use Rattle.first_path_meaning.specs.Script.{output_of, script_of, has_fault};
 ghost use Rattle.script_reader.specs.Answers.{IsGiven};
 ghost use Rattle.script_reader.specs.Reading.{to_come};
 ghost use Rattle.mmt_top.specs.Session.{put_in, command_in, items_to_come, output_to_come, GoesOn, EndsAs, IsFlushed, FlushesAt, IsSessionStatus, SpokenTells, FaultTells, TurnTells};
 
-use crate::answer::{Theory, answer};
-use crate::lines::{bad_line, unended_line};
+use crate::first_answer::{Theory, answer};
+use crate::first_lines::{bad_line, unended_line};
 use crate::status::Status;
 use mmt_outside::{Failed, Sink, Source, write_all};
 use script_reader::{Command, Script, ScriptFault};

@@ -2,7 +2,7 @@
 ghost use Rattle.std.specs.Prelude.{◌≡◌, ◌&&◌, map, codes};
 ghost use Rattle.std.specs.Str.{bytes_eq};
 ghost use Rattle.std.specs.String.{string_bytes};
-ghost use Rattle.output_meaning.specs.Words as meant;
+ghost use Rattle.first_path_meaning.specs.Words as meant;
 
 fn is_play_alone(command: &str, option: &str, number: &str) -> bool
     ensures { result ≡ (bytes_eq command.now (codes "play") && (bytes_eq option.now (codes "--workers") && bytes_eq number.now (codes "0"))) }

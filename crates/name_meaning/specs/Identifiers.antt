@@ -8,14 +8,14 @@ use Rattle.name_meaning.specs.Characters.{is_identifier_byte}
 abbrev pub reserved_words : List (List ℕ)
 reserved_words = codes "type" ∷ codes "->" ∷ codes "<-" ∷ codes "=" ∷ codes "_" ∷ []
 
--- Read: the text is a reserved word.
+-- The text is a reserved word.
 abbrev pub is_reserved : List ℕ → Bool
 is_reserved text = list_any (pointwise nat_eq text) reserved_words
 
--- Read: the text is a run of at least one identifier byte and nothing else.
+-- The text is a run of at least one identifier byte and nothing else.
 abbrev pub is_run : List ℕ → Bool
 is_run text = not (length text == 0) && list_all is_identifier_byte text
 
--- Read: the text is an identifier, that is a run which is no reserved word.
+-- The text is an identifier, that is a run which is no reserved word.
 abbrev pub is_identifier : List ℕ → Bool
 is_identifier text = is_run text && not (is_reserved text)

@@ -6,13 +6,13 @@ use Rattle.std.specs.Ordering.{nat_cmp, is_lt, is_eq, ordering_reverse}
 use Rattle.std.specs.Cmp.Lexicographic.{slice_cmp, nat_list_cmp_total, texts_ties}
 use Rattle.std.proofs.lemmas.Bool.{and_parts}
 use Rattle.std.proofs.lemmas.List.Sorted.{searchable_from_sorted}
-use Rattle.log_meaning.specs.Names.{Name, comes_before, is_ascending}
+use Rattle.name_meaning.specs.Names.{Name, comes_before, is_ascending}
 use Rattle.std.proofs.lemmas.List.{set_split}
 use Rattle.std.proofs.lemmas.List.Edits.{insert_end}
-use Rattle.log_meaning.specs.Rows.{Rows, row_names, IsTable, row_of, with_row, without_row, IsGap}
-use Rattle.log_meaning.proofs.Members.{all_at}
-use Rattle.log_meaning.proofs.Order.{same_sound}
-use Rattle.log_meaning.proofs.RowLaws.{member_at, not_before, gap_absent, row_at, row_absent, with_row_at, with_row_gap, without_row_at, without_absent, table_with}
+use Rattle.name_meaning.specs.Rows.{Rows, row_names, IsTable, row_of, with_row, without_row, IsGap}
+use Rattle.list_laws.proofs.Members.{all_at}
+use Rattle.name_laws.proofs.Order.{same_sound}
+use Rattle.name_laws.proofs.Rows.{member_at, not_before, gap_absent, row_at, row_absent, with_row_at, with_row_gap, without_row_at, without_absent, table_with}
 
 module _ {A : Type 0} where
   -- the row at a place

@@ -4,7 +4,7 @@ ghost use Rattle.std.specs.Prelude.{◌≡◌, ◌∷◌, ◌++◌, [], length, 
 ghost use Rattle.std.specs.Option.{option_copied, option_map};
 ghost use Rattle.std.specs.Ordering.{nat_cmp};
 ghost use Rattle.std.specs.Cmp.Lexicographic.{slice_cmp};
-ghost use Rattle.log_meaning.specs.Rows.{row_names, row_of, with_row, without_row, IsTable, IsGap};
+ghost use Rattle.name_meaning.specs.Rows.{row_names, row_of, with_row, without_row, IsTable, IsGap};
 
 use lf_terms::Name;
 use std::alloc::Global;
@@ -19,7 +19,7 @@ pub struct NameTable<V> {
 
 impl<V> Model for NameTable<V> {
     ghost use Rattle.std.specs.Prelude.{List, ℕ};
-    ghost use Rattle.log_meaning.specs.Rows.{IsTable};
+    ghost use Rattle.name_meaning.specs.Rows.{IsTable};
 
     ghost Value = { List (List ℕ × V) };
 

@@ -1,9 +1,3 @@
 pub mod Lines
-pub mod Commands
-pub mod Pieces
-pub mod FirstForm
-pub mod Declared
-pub mod Verdicts
 pub mod Printed
-pub mod Script
-pub mod Words
+pub mod ScriptLines

@@ -4,7 +4,7 @@ use Rattle.std.specs.Prelude.{if◌then◌else◌}
 use Rattle.text_meaning.specs.Tokens.{Span}
 use Rattle.text_meaning.specs.Trees.{Expr, TypeExpr, NameExpr, AppExpr, PiExpr, LamExpr, TypedLamExpr, ArrowExpr, BackExpr, Exprs, NoArgs, ThenArg}
 use Rattle.text_meaning.specs.Grammar.{applied}
-use Rattle.print_laws.specs.PrintedExpressions.{is_word, is_binding, is_operand, is_back}
+use Rattle.print_meaning.specs.PrintedExpressions.{is_word, is_binding, is_operand, is_back}
 use Rattle.parentheses_laws.proofs.Costs.{placed_cost, cost, args_cost, atom_cost, argument_cost, operand_cost, body_cost, front_cost, last_cost}
 
 -- an argument that is free costs no more than one that is not, and at most two less

@@ -1,7 +1,7 @@
 -- How many parentheses a printed tree has, by recursion on the tree.
 use Rattle.std.specs.Prelude.{ℕ, ◌+◌, Bool, true, false, ◌&&◌, ◌||◌, List, [], ◌∷◌, Option, Some, None, if◌then◌else◌}
 use Rattle.text_meaning.specs.Trees.{Expr, TypeExpr, NameExpr, AppExpr, PiExpr, LamExpr, TypedLamExpr, ArrowExpr, BackExpr, Exprs, NoArgs, ThenArg, Assign, IncludeAssign, StructAssign, ConstAssign, Decl, IncludeDecl, StructDecl, ConstDecl, Module, SigModule, ViewModule}
-use Rattle.print_laws.specs.PrintedExpressions.{is_word, is_binding, is_operand, is_last_operand, is_back}
+use Rattle.print_meaning.specs.PrintedExpressions.{is_word, is_binding, is_operand, is_last_operand, is_back}
 
 -- an expression that stands as it is, or in two parentheses
 abbrev pub placed_cost : Bool → ℕ → ℕ → ℕ

@@ -2,9 +2,9 @@
 use Rattle.std.proofs.Common.{◌≡◌, ℕ, ◌+◌, Bool, true, false, ◌&&◌, ◌||◌, List, [], ◌∷◌, ◌++◌, length, refl, ap, ap₂, ◌∙◌, arith}
 use Rattle.std.specs.Prelude.{Option, Some, None, flat_map, if◌then◌else◌}
 use Rattle.text_meaning.specs.Trees.{Binder, Expr, TypeExpr, NameExpr, AppExpr, PiExpr, LamExpr, TypedLamExpr, ArrowExpr, BackExpr, Exprs, NoArgs, ThenArg, Written, Assign, IncludeAssign, StructAssign, ConstAssign, Decl, IncludeDecl, StructDecl, ConstDecl, Module, SigModule, ViewModule}
-use Rattle.print_laws.specs.PrintedItems.{Gap, tight, space, new_line, Item, colon_item, right_paren, right_bracket, right_brace, arrow_item, back_item, dot_item, tokens_of}
-use Rattle.print_laws.specs.PrintedExpressions.{is_word, is_binding, is_operand, is_last_operand, is_back, binder_item, placed, expr_items, args_items}
-use Rattle.print_laws.specs.PrintedModules.{morph_items, assign_items, body_items, value_items, value_gap, decl_items, module_items}
+use Rattle.print_meaning.specs.PrintedItems.{Gap, tight, space, new_line, Item, colon_item, right_paren, right_bracket, right_brace, arrow_item, back_item, dot_item, tokens_of}
+use Rattle.print_meaning.specs.PrintedExpressions.{is_word, is_binding, is_operand, is_last_operand, is_back, binder_item, placed, expr_items, args_items}
+use Rattle.print_meaning.specs.PrintedModules.{morph_items, assign_items, body_items, value_items, value_gap, decl_items, module_items}
 use Rattle.parentheses_laws.specs.FewestParentheses.{is_parenthesis, parentheses}
 use Rattle.parentheses_laws.proofs.Costs.{placed_cost, cost, args_cost, assign_cost, assigns_cost, value_cost, decl_cost, decls_cost, module_cost}
 

@@ -2,10 +2,10 @@
 use Rattle.std.proofs.Common.{◌≡◌, ◌+◌, true, ◌∷◌, length, sym, ap, ◌∙◌, arith}
 use Rattle.text_meaning.specs.Trees.{Expr, Module, Judgement}
 use Rattle.text_meaning.specs.UpToSpans.{IsSameModule, IsSameExpr}
-use Rattle.print_laws.specs.PrintedItems.{tight, space, colon_item, text_of, tokens_of}
-use Rattle.print_laws.specs.PrintedExpressions.{expr_items}
-use Rattle.print_laws.specs.PrintedModules.{module_items, module_text, expr_text}
-use Rattle.print_laws.specs.PrintedJudgements.{judgement_text}
+use Rattle.print_meaning.specs.PrintedItems.{tight, space, colon_item, text_of, tokens_of}
+use Rattle.print_meaning.specs.PrintedExpressions.{expr_items}
+use Rattle.print_meaning.specs.PrintedModules.{module_items, module_text, expr_text}
+use Rattle.print_meaning.specs.PrintedJudgements.{judgement_text}
 use Rattle.print_laws.specs.PrintLaws.{IsSpelledModule, IsSpelledExpr}
 use Rattle.print_laws.proofs.Printed.{same_items, same_module_items, module_lexed, expression_lexed}
 use Rattle.print_laws.proofs.PrintedJudged.{judged_items, judgement_lexed}

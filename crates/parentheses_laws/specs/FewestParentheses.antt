@@ -5,8 +5,8 @@ use Rattle.text_meaning.specs.Cut.{Tokens, IsLexed}
 use Rattle.text_meaning.specs.Trees.{Expr, Module, Judgement}
 use Rattle.text_meaning.specs.Grammar.{SpellsExpr, SpellsModule, SpellsJudgement}
 use Rattle.text_meaning.specs.UpToSpans.{IsSameModule, IsSameExpr}
-use Rattle.print_laws.specs.PrintedModules.{module_text, expr_text}
-use Rattle.print_laws.specs.PrintedJudgements.{judgement_text}
+use Rattle.print_meaning.specs.PrintedModules.{module_text, expr_text}
+use Rattle.print_meaning.specs.PrintedJudgements.{judgement_text}
 use Rattle.print_laws.specs.PrintLaws.{IsSpelledModule, IsSpelledExpr, IsSameJudgement}
 
 -- `(` or `)`

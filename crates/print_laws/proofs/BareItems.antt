@@ -3,9 +3,9 @@ use Rattle.std.proofs.Common.{◌≡◌, Bool, true, false, ◌&&◌, ◌||◌, 
 use Rattle.std.specs.Prelude.{Option, Some, None, map, flat_map, option_map, if◌then◌else◌}
 use Rattle.text_meaning.specs.Trees.{Expr, TypeExpr, NameExpr, AppExpr, PiExpr, LamExpr, TypedLamExpr, ArrowExpr, BackExpr, Exprs, NoArgs, ThenArg, Written, Assign, IncludeAssign, StructAssign, ConstAssign, Decl, IncludeDecl, StructDecl, ConstDecl, Module, SigModule, ViewModule}
 use Rattle.text_meaning.specs.UpToSpans.{bare_expr, bare_exprs, bare_written, bare_assign, bare_decl, bare_module}
-use Rattle.print_laws.specs.PrintedItems.{Gap, tight, space, new_line, Item, path_item, sig_item, view_item, include_item, struct_item, assign_item, arrow_item, back_item, left_bracket, left_brace, right_brace, right_bracket, colon_item, dot_item, equal_item}
-use Rattle.print_laws.specs.PrintedExpressions.{is_word, is_binding, is_application, is_operand, is_last_operand, is_back, binder_item, placed, expr_items, args_items}
-use Rattle.print_laws.specs.PrintedModules.{morph_items, assign_items, body_items, body_gap, value_items, value_gap, decl_items, module_items}
+use Rattle.print_meaning.specs.PrintedItems.{Gap, tight, space, new_line, Item, path_item, sig_item, view_item, include_item, struct_item, assign_item, arrow_item, back_item, left_bracket, left_brace, right_brace, right_bracket, colon_item, dot_item, equal_item}
+use Rattle.print_meaning.specs.PrintedExpressions.{is_word, is_binding, is_application, is_operand, is_last_operand, is_back, binder_item, placed, expr_items, args_items}
+use Rattle.print_meaning.specs.PrintedModules.{morph_items, assign_items, body_items, body_gap, value_items, value_gap, decl_items, module_items}
 
 bare_word : (e : Expr) → is_word (bare_expr e) ≡ is_word e
 unfolding bare_expr

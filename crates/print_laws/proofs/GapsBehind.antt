@@ -3,8 +3,8 @@ use Rattle.std.proofs.Common.{◌≡◌, ℕ, Bool, true, false, ◌&&◌, ◌||
 use Rattle.std.specs.Prelude.{if◌then◌else◌}
 use Rattle.text_meaning.specs.Tokens.{Kind, Mark, Ident, TypeWord, RightParen, spelled}
 use Rattle.text_meaning.specs.Trees.{Expr, TypeExpr, NameExpr, AppExpr, PiExpr, LamExpr, TypedLamExpr, ArrowExpr, BackExpr, Exprs, NoArgs, ThenArg}
-use Rattle.print_laws.specs.PrintedItems.{Gap, tight, space, Item, item, left_paren, right_paren, left_bracket, left_brace, right_bracket, right_brace, colon_item, arrow_item, back_item, text_of}
-use Rattle.print_laws.specs.PrintedExpressions.{is_word, is_binding, is_operand, is_last_operand, is_back, binder_item, placed, expr_items, args_items}
+use Rattle.print_meaning.specs.PrintedItems.{Gap, tight, space, Item, item, left_paren, right_paren, left_bracket, left_brace, right_bracket, right_brace, colon_item, arrow_item, back_item, text_of}
+use Rattle.print_meaning.specs.PrintedExpressions.{is_word, is_binding, is_operand, is_last_operand, is_back, binder_item, placed, expr_items, args_items}
 use Rattle.print_laws.proofs.LaidOut.{text_append}
 use Rattle.print_laws.proofs.WellWritten.{IsWellWritten, AreWellWritten, HasArgs}
 

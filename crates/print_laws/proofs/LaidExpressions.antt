@@ -8,15 +8,16 @@ use Rattle.std.specs.Prelude.{Some, None, if◌then◌else◌}
 use Rattle.name_meaning.specs.Characters.{is_white_space, is_identifier_byte}
 use Rattle.name_meaning.specs.Identifiers.{is_run}
 use Rattle.text_meaning.specs.Bytes.{begins, equal}
-use Rattle.text_meaning.specs.Tokens.{Path, Mark, Sign, token, percent_sign, LeftParen, RightParen, LeftBracket, RightBracket, LeftBrace, RightBrace, DotSign, row_kind, spelled}
+use Rattle.name_meaning.specs.Names.{Path}
+use Rattle.text_meaning.specs.Tokens.{Mark, Sign, token, percent_sign, LeftParen, RightParen, LeftBracket, RightBracket, LeftBrace, RightBrace, DotSign, row_kind, spelled}
 use Rattle.text_meaning.specs.Cut.{Cut, percent_word, assign, lone_colon, bracket, lone_dot, row, is_row, ends_row, bracket_sign}
 use Rattle.text_meaning.specs.Trees.{Binder, Expr, TypeExpr, NameExpr, AppExpr, PiExpr, LamExpr, TypedLamExpr, ArrowExpr, BackExpr, Exprs, NoArgs, ThenArg}
-use Rattle.twelf_lexer.proofs.Places.{ends_row_begins}
-use Rattle.print_laws.specs.PrintedItems.{Gap, tight, space, new_line, Item, item, path_item, colon_item, assign_item, right_paren, right_bracket, right_brace, arrow_item, back_item, text_of}
-use Rattle.print_laws.specs.PrintedExpressions.{is_word, is_binding, is_operand, is_last_operand, is_back, binder_item, enclosed, placed, expr_items, args_items}
+use Rattle.print_meaning.specs.PrintedItems.{Gap, tight, space, new_line, Item, item, path_item, colon_item, assign_item, right_paren, right_bracket, right_brace, arrow_item, back_item, text_of}
+use Rattle.print_meaning.specs.PrintedExpressions.{is_word, is_binding, is_operand, is_last_operand, is_back, binder_item, enclosed, placed, expr_items, args_items}
 use Rattle.print_laws.proofs.LaidOut.{IsFit, IsLaid, laid_append}
 use Rattle.print_laws.proofs.Writable.{IsWritable}
 use Rattle.print_laws.proofs.WellWritten.{IsWrittenBinder, IsWellWritten, AreWellWritten}
+use Rattle.token_laws.proofs.Bytes.{ends_row_begins}
 
 -- each byte is ASCII
 abbrev pub AreLow : List ℕ → Type 0
@@ -47,10 +48,6 @@ one_space = record { spaces = refl; utf8 = one_low 32 (omega arith) }
 
 pub one_line : IsGap new_line
 one_line = record { spaces = refl; utf8 = one_low 10 (omega arith) }
-
--- what follows begins with no byte that lengthens a token
-pub no_byte : (behind : List ℕ) → ends_row behind ≡ true → begins is_identifier_byte behind ≡ false
-no_byte = ends_row_begins
 
 not_equal_sign : (behind : List ℕ) → begins is_identifier_byte behind ≡ false → begins (λ b. b == equal) behind ≡ false
 not_equal_sign [] h = refl

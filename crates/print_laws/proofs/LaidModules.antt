@@ -4,9 +4,9 @@ use Rattle.std.specs.Prelude.{Option, Some, None, flat_map}
 use Rattle.text_meaning.specs.Tokens.{LeftBrace, RightBrace}
 use Rattle.text_meaning.specs.Cut.{ends_row}
 use Rattle.text_meaning.specs.Trees.{Expr, Written, Assign, IncludeAssign, StructAssign, ConstAssign, Decl, IncludeDecl, StructDecl, ConstDecl, Module, SigModule, ViewModule}
-use Rattle.print_laws.specs.PrintedItems.{Gap, tight, space, new_line, sig_item, view_item, include_item, struct_item, right_brace, dot_item, arrow_item, equal_item, text_of}
-use Rattle.print_laws.specs.PrintedExpressions.{whole_items}
-use Rattle.print_laws.specs.PrintedModules.{written_item, morph_items, assign_items, body_items, body_gap, value_items, value_gap, decl_items, module_items}
+use Rattle.print_meaning.specs.PrintedItems.{Gap, tight, space, new_line, sig_item, view_item, include_item, struct_item, right_brace, dot_item, arrow_item, equal_item, text_of}
+use Rattle.print_meaning.specs.PrintedExpressions.{whole_items}
+use Rattle.print_meaning.specs.PrintedModules.{written_item, morph_items, assign_items, body_items, body_gap, value_items, value_gap, decl_items, module_items}
 use Rattle.print_laws.proofs.LaidOut.{IsFit, IsLaid, laid_append}
 use Rattle.print_laws.proofs.Writable.{IsWritable}
 use Rattle.print_laws.proofs.WellWritten.{IsWellWritten, IsWrittenName, AreWrittenWords, IsWrittenAssign, AreWrittenAssigns, IsWrittenValue, IsWrittenDecl, AreWrittenDecls, IsWrittenModule}

@@ -6,7 +6,7 @@ use Rattle.std.proofs.lemmas.Str.{IsUtf8-append, IsUtf8-nil}
 use Rattle.name_meaning.specs.Characters.{is_white_space}
 use Rattle.text_meaning.specs.Tokens.{Token, token}
 use Rattle.text_meaning.specs.Cut.{Ending, Finished, Cut, at_end, white_space}
-use Rattle.print_laws.specs.PrintedItems.{Gap, Item, text_of, end_of, tokens_of}
+use Rattle.print_meaning.specs.PrintedItems.{Gap, Item, text_of, end_of, tokens_of}
 
 pub text_append : (xs ys : List Item) → text_of (xs ++ ys) ≡ text_of xs ++ text_of ys
 unfolding text_of

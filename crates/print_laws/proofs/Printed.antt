@@ -5,9 +5,9 @@ use Rattle.text_meaning.specs.Cut.{Tokens, IsLexed}
 use Rattle.text_meaning.specs.Trees.{Expr, Module}
 use Rattle.text_meaning.specs.Reading.{spells_module, nesting}
 use Rattle.text_meaning.specs.UpToSpans.{IsSameModule, IsSameExpr}
-use Rattle.print_laws.specs.PrintedItems.{tight, text_of, tokens_of}
-use Rattle.print_laws.specs.PrintedExpressions.{expr_items}
-use Rattle.print_laws.specs.PrintedModules.{module_items, module_text, expr_text}
+use Rattle.print_meaning.specs.PrintedItems.{tight, text_of, tokens_of}
+use Rattle.print_meaning.specs.PrintedExpressions.{expr_items}
+use Rattle.print_meaning.specs.PrintedModules.{module_items, module_text, expr_text}
 use Rattle.print_laws.specs.PrintLaws.{IsSpelledModule, IsSpelledExpr, SpellsBack, SpellsBackExpr}
 use Rattle.print_laws.proofs.LaidOut.{laid_whole, laid_utf8}
 use Rattle.print_laws.proofs.Writable.{AreValid, cut_valid}

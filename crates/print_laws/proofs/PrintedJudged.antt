@@ -6,10 +6,10 @@ use Rattle.text_meaning.specs.Trees.{Expr, Judgement}
 use Rattle.text_meaning.specs.Grammar.{SpellsJudgement, judgement}
 use Rattle.text_meaning.specs.Reading.{spells_judgement, nesting, with_end}
 use Rattle.text_meaning.specs.UpToSpans.{IsSameExpr}
-use Rattle.print_laws.specs.PrintedItems.{tight, space, Item, colon_item, text_of, end_of, tokens_of}
-use Rattle.print_laws.specs.PrintedExpressions.{expr_items}
-use Rattle.print_laws.specs.PrintedModules.{expr_text}
-use Rattle.print_laws.specs.PrintedJudgements.{judgement_text}
+use Rattle.print_meaning.specs.PrintedItems.{tight, space, Item, colon_item, text_of, end_of, tokens_of}
+use Rattle.print_meaning.specs.PrintedExpressions.{expr_items}
+use Rattle.print_meaning.specs.PrintedModules.{expr_text}
+use Rattle.print_meaning.specs.PrintedJudgements.{judgement_text}
 use Rattle.print_laws.specs.PrintLaws.{IsSpelledExpr, IsSpelledJudgement, SpellsBackJudgement, SpellsBackWithin}
 use Rattle.print_laws.proofs.LaidOut.{IsLaid, text_append, tokens_append, laid_append, laid_whole, laid_utf8}
 use Rattle.print_laws.proofs.Writable.{AreValid, valid_left, valid_right}

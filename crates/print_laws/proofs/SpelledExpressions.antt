@@ -6,8 +6,8 @@ use Rattle.text_meaning.specs.Tokens.{Span, Token, Mark, token, spelled, LeftBra
 use Rattle.text_meaning.specs.Trees.{Binder, Expr, TypeExpr, NameExpr, AppExpr, PiExpr, LamExpr, TypedLamExpr, ArrowExpr, BackExpr, Exprs, NoArgs, ThenArg}
 use Rattle.text_meaning.specs.Grammar.{join, SpellsBinder, named, blank, name, type_word, pi, lam, typed_lam}
 use Rattle.text_meaning.specs.UpToSpans.{no_span, bare_expr}
-use Rattle.print_laws.specs.PrintedItems.{Gap, tight, space, Item, path_item, type_item, right_brace, right_bracket, arrow_item, back_item, text_of, end_of, tokens_of}
-use Rattle.print_laws.specs.PrintedExpressions.{is_word, is_binding, is_operand, is_last_operand, is_back, binder_item, placed, expr_items, args_items}
+use Rattle.print_meaning.specs.PrintedItems.{Gap, tight, space, Item, path_item, type_item, right_brace, right_bracket, arrow_item, back_item, text_of, end_of, tokens_of}
+use Rattle.print_meaning.specs.PrintedExpressions.{is_word, is_binding, is_operand, is_last_operand, is_back, binder_item, placed, expr_items, args_items}
 use Rattle.print_laws.proofs.LaidOut.{tokens_append}
 use Rattle.print_laws.proofs.WellWritten.{IsWellWritten, AreWellWritten, HasArgs}
 use Rattle.print_laws.proofs.SpellingParts.{ExprAt, ArrowsAt, LastAt, BindingAt, AtomAt, AtomsAt, RowAt, TailAt, FrontAt, arrows_at, last_at, binding_at, atoms_at, atom_at, atom_row, row_more, row_atoms, row_binding, arrow_at, atoms_front, front_more, atoms_tail, last_tail, back_at, enclosed_at, placed_atom, placed_atoms, placed_arrows, placed_front}

@@ -6,9 +6,9 @@ use Rattle.text_meaning.specs.Trees.{Expr, Written, Assign, IncludeAssign, Struc
 use Rattle.text_meaning.specs.Grammar.{written, simple, SpellsMorph, one_word, more_words, SpellsAssign, const_assign, include_assign, struct_assign, SpellsAssigns, no_assigns, more_assigns, SpellsDecl, include_decl, bare_struct, struct, const, defined, SpellsDecls, no_decls, more_decls, SpellsModule, sig, view}
 use Rattle.text_meaning.specs.Reading.{with_end}
 use Rattle.text_meaning.specs.UpToSpans.{no_span, bare_expr, bare_written, bare_assign, bare_decl, bare_module}
-use Rattle.print_laws.specs.PrintedItems.{Gap, tight, space, new_line, Item, struct_item, colon_item, right_brace, dot_item, equal_item, end_of, tokens_of}
-use Rattle.print_laws.specs.PrintedExpressions.{whole_items}
-use Rattle.print_laws.specs.PrintedModules.{written_item, morph_items, assign_items, body_items, body_gap, value_items, value_gap, decl_items, module_items}
+use Rattle.print_meaning.specs.PrintedItems.{Gap, tight, space, new_line, Item, struct_item, colon_item, right_brace, dot_item, equal_item, end_of, tokens_of}
+use Rattle.print_meaning.specs.PrintedExpressions.{whole_items}
+use Rattle.print_meaning.specs.PrintedModules.{written_item, morph_items, assign_items, body_items, body_gap, value_items, value_gap, decl_items, module_items}
 use Rattle.print_laws.proofs.LaidOut.{tokens_append}
 use Rattle.print_laws.proofs.WellWritten.{IsWellWritten, IsWrittenName, HasWords, IsWrittenAssign, AreWrittenAssigns, IsWrittenValue, IsWrittenDecl, AreWrittenDecls, IsWrittenModule}
 use Rattle.print_laws.proofs.SpelledExpressions.{forms}
@@ -16,10 +16,6 @@ use Rattle.print_laws.proofs.SpelledExpressions.{forms}
 -- the span of a token of so many bytes
 abbrev span_at : ℕ → ℕ → Span
 span_at at count = record { from = at; to = at + count }
-
-map_last : {A B : Type 0} (f : A → B) (xs : List A) (x : A) → map f (xs ++ (x ∷ [])) ≡ map f xs ++ (f x ∷ [])
-map_last f [] x = refl
-map_last f (y ∷ ys) x = ap (λ zs. f y ∷ zs) (map_last f ys x)
 
 -- items, and one more at their end
 tokens_last : (at : ℕ) (xs : List Item) (x : Item) → tokens_of at (xs ++ (x ∷ [])) ≡ tokens_of at xs ++ (token (end_of at xs) (end_of at xs + length x.bytes) x.kind ∷ [])

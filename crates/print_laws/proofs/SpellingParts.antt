@@ -4,8 +4,8 @@ use Rattle.text_meaning.specs.Tokens.{Span, Token, Mark, token, sign, LeftParen,
 use Rattle.text_meaning.specs.Trees.{Expr, AppExpr, ArrowExpr, BackExpr, Exprs, NoArgs, ThenArg}
 use Rattle.text_meaning.specs.Grammar.{join, applied, SpellsExpr, arrows, backs, SpellsArrows, only_last, only_atoms, arrow, SpellsBacks, back, SpellsTail, tail_last, tail_atoms, tail_more, SpellsLast, only_binder, atoms_binder, SpellsAtoms, first_atom, more_atoms, SpellsAtom, parens, SpellsBinding}
 use Rattle.text_meaning.specs.UpToSpans.{no_span, bare_expr, bare_exprs}
-use Rattle.print_laws.specs.PrintedItems.{Gap, Item, text_of, end_of, tokens_of, right_paren}
-use Rattle.print_laws.specs.PrintedExpressions.{enclosed, placed}
+use Rattle.print_meaning.specs.PrintedItems.{Gap, Item, text_of, end_of, tokens_of, right_paren}
+use Rattle.print_meaning.specs.PrintedExpressions.{enclosed, placed}
 use Rattle.print_laws.proofs.LaidOut.{tokens_append}
 
 pub record ExprAt (ts : List Token) (e : Expr) : Type 0 where

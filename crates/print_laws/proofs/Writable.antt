@@ -6,10 +6,11 @@ use Rattle.std.proofs.lemmas.Str.{IsUtf8-take, IsUtf8-drop, IsCharBoundary-befor
 use Rattle.name_meaning.specs.Characters.{is_identifier_byte}
 use Rattle.name_meaning.specs.Identifiers.{is_reserved}
 use Rattle.text_meaning.specs.Bytes.{begins}
-use Rattle.text_meaning.specs.Tokens.{Path, Kind, Mark, Ident, Sign, Stray, Token, run_kind, row_kind, spelled}
+use Rattle.name_meaning.specs.Names.{Path}
+use Rattle.text_meaning.specs.Tokens.{Kind, Mark, Ident, Sign, Stray, Token, run_kind, row_kind, spelled}
 use Rattle.text_meaning.specs.Cut.{Ending, Cut, at_end, at_mark, white_space, line_comment, nested_comment, unclosed_comment, percent_word, stray_percent, stray_quote, assign, lone_colon, bracket, lone_dot, row, is_row, ends_line, Closes, opens, closes, passes, brackets, bracket_sign}
 use Rattle.token_laws.proofs.CutFollows.{of_sign_in, white_space_is_not}
-use Rattle.twelf_lexer.proofs.Places.{low_byte, ends_row_begins}
+use Rattle.token_laws.proofs.Bytes.{low_byte, ends_row_begins}
 
 -- a path that is spelled by a row of runs, none reserved, in UTF-8
 pub record IsWritable (path : Path) : Type 0 where

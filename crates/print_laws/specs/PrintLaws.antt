@@ -7,8 +7,8 @@ use Rattle.text_meaning.specs.Grammar.{SpellsModule, SpellsJudgement}
 use Rattle.text_meaning.specs.Nesting.{module_nesting, judgement_nesting}
 use Rattle.text_meaning.specs.Reading.{ModuleText, JudgementText, ModuleTree, JudgementTree, Read, any_too_deep, with_end, Reads, TextSpellsModule, TextSpellsExpr}
 use Rattle.text_meaning.specs.UpToSpans.{IsSameModule, IsSameExpr}
-use Rattle.print_laws.specs.PrintedModules.{module_text, expr_text}
-use Rattle.print_laws.specs.PrintedJudgements.{judgement_text}
+use Rattle.print_meaning.specs.PrintedModules.{module_text, expr_text}
+use Rattle.print_meaning.specs.PrintedJudgements.{judgement_text}
 
 -- Some text spells the module, up to spans; some text spells the expression, up to spans.
 pub record IsSpelledModule (m : Module) : Type 0 where

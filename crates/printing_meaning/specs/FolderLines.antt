@@ -2,10 +2,10 @@
 use Rattle.std.specs.Prelude.{ℕ, List, [], ◌++◌, Option, Some, None, codes}
 use Rattle.std.specs.Fmt.{decimal}
 use Rattle.output_meaning.specs.Printed.{end_of_line}
-use Rattle.log_meaning.specs.Names.{Name}
+use Rattle.name_meaning.specs.Names.{Name}
 use Rattle.printing_meaning.specs.VerdictLines.{place_text}
 
--- Read: why a file was not loaded.
+-- Why a file was not loaded.
 pub data FileWord : Type 0 where
   LongFile : FileWord
   BadSyntax : FileWord
@@ -22,7 +22,7 @@ file_word DuplicateName = codes "duplicate-name"
 file_word TooManyModules = codes "too-many"
 file_word FullLog = codes "full"
 
--- Read: the fault of a file, at a place that is counted in its bytes from 0, and the module that it names, if it names one.
+-- The fault of a file, at a place that is counted in its bytes from 0, and the module that it names, if it names one.
 pub record FileFault : Type 0 where
   pub at : ℕ
   pub word : FileWord
@@ -32,16 +32,16 @@ abbrev pub about_text : Option Name → List ℕ
 about_text None = []
 about_text (Some name) = codes " " ++ name
 
--- Read: `FILE refused L:C WORD`, and the module's name where one is named.
+-- `FILE refused L:C WORD`, and the module's name where one is named.
 abbrev pub file_line : Name → List ℕ → FileFault → List ℕ
 file_line file bytes fault =
     file ++ codes " refused " ++ place_text bytes fault.at ++ codes " " ++ file_word fault.word ++ about_text fault.about ++ end_of_line
 
--- Read: `FILE:L:C`, counted in the file.
+-- `FILE:L:C`, counted in the file.
 abbrev pub place_in_file : Name → List ℕ → ℕ → List ℕ
 place_in_file file bytes at = file ++ codes ":" ++ place_text bytes at
 
--- Read: `files F modules M accepted A refused R`.
+-- `files F modules M accepted A refused R`.
 abbrev pub files_line : ℕ → ℕ → ℕ → ℕ → List ℕ
 files_line files modules accepted refused =
     codes "files " ++ decimal files ++ codes " modules " ++ decimal modules ++ codes " accepted " ++ decimal accepted ++ codes " refused " ++ decimal refused ++ end_of_line

@@ -8,5 +8,3 @@ pub mod VerdictLines
 pub mod CarriedLines
 pub mod FolderLines
 pub mod GeneratorLines
-pub mod PrintingLaws
-pub mod Examples

@@ -2,11 +2,11 @@
 use Rattle.std.specs.Prelude.{ℕ, Bool, false, List, [], ◌∷◌, ◌==◌, ◌&&◌, not, nat_le}
 use Rattle.std.specs.List.{list_all}
 
--- Read: the byte is a decimal digit.
+-- The byte is a decimal digit.
 abbrev pub is_digit : ℕ → Bool
 is_digit byte = nat_le 48 byte && nat_le byte 57
 
--- Read: decimal digits, at least one, without a leading zero, `0` itself excepted.
+-- Decimal digits, at least one, without a leading zero, `0` itself excepted.
 abbrev pub is_number : List ℕ → Bool
 is_number [] = false
 is_number (digit ∷ []) = is_digit digit

@@ -5,7 +5,7 @@ use Rattle.lf_meaning.specs.Terms.{Object, Lam, At, Atomic, Var, Con, App, Famil
 use Rattle.lf_meaning.specs.Signatures.{Class, FamilyClass, KindClass, Value, SameAs, TermValue, FamilyValue}
 use Rattle.printing_meaning.specs.Constants.{Seen, constant_text, variable_text}
 
--- Read: the variable stands in the term. Under a binder it is one more.
+-- The variable stands in the term. Under a binder it is one more.
 unfoldable mutual
   pub object_uses : ℕ → Object → Bool
   object_uses variable (Lam body) = object_uses (suc variable) body
@@ -29,23 +29,23 @@ unfoldable pub kind_uses : ℕ → Kind → Bool
 kind_uses variable Ty = false
 kind_uses variable (PiKind domain body) = family_uses variable domain || kind_uses (suc variable) body
 
--- Read: the text, in parentheses where that is asked.
+-- The text, in parentheses where that is asked.
 abbrev pub parenthesized : Bool → List ℕ → List ℕ
 parenthesized true text = codes "(" ++ text ++ codes ")"
 parenthesized false text = text
 
--- Read: the object is a head alone.
+-- The object is a head alone.
 abbrev pub is_head : Object → Bool
 is_head (Lam body) = false
 is_head (At (Var index)) = true
 is_head (At (Con constant)) = true
 is_head (At (App head argument)) = false
 
--- Read: `M` as an argument: in parentheses unless it is a head alone.
+-- `M` as an argument: in parentheses unless it is a head alone.
 abbrev pub needs_parentheses : Object → Bool
 needs_parentheses argument = if is_head argument then false else true
 
--- Read: a λ prints `[v] M`; an application prints its head and its arguments, parted by one space.
+-- A λ prints `[v] M`; an application prints its head and its arguments, parted by one space.
 unfoldable mutual
   pub object_text : Seen → ℕ → Object → List ℕ
   object_text seen depth (Lam body) = codes "[" ++ variable_text seen (suc depth) ++ codes "] " ++ object_text seen (suc depth) body
@@ -66,7 +66,7 @@ abbrev pub is_product : Family → Bool
 is_product (Pi domain body) = true
 is_product (AtFamily atomic) = false
 
--- Read: a Π whose body uses its variable prints `{v:A} B`; another prints `A -> B`, with A in parentheses where it is a Π.
+-- A Π whose body uses its variable prints `{v:A} B`; another prints `A -> B`, with A in parentheses where it is a Π.
 abbrev pub product_text : Bool → List ℕ → Bool → List ℕ → List ℕ → List ℕ
 product_text true variable bracketed domain body = codes "{" ++ variable ++ codes ":" ++ domain ++ codes "} " ++ body
 product_text false variable bracketed domain body = parenthesized bracketed domain ++ codes " -> " ++ body
@@ -85,12 +85,12 @@ abbrev pub class_text : Seen → Class → List ℕ
 class_text seen (FamilyClass family) = family_text seen 0 family
 class_text seen (KindClass kind) = kind_text seen 0 kind
 
--- Read: `[v] ` for each of so many binders, the first of which has the number that follows this depth.
+-- `[v] ` for each of so many binders, the first of which has the number that follows this depth.
 unfoldable pub binders_text : Seen → ℕ → ℕ → List ℕ
 binders_text seen depth zero = []
 binders_text seen depth (suc binders) = codes "[" ++ variable_text seen (suc depth) ++ codes "] " ++ binders_text seen (suc depth) binders
 
--- Read: the value of a constant. A family value prints its binders, and then its body.
+-- The value of a constant. A family value prints its binders, and then its body.
 abbrev pub value_text : Seen → Value → List ℕ
 value_text seen (SameAs constant) = constant_text seen constant
 value_text seen (TermValue object) = object_text seen 0 object

@@ -6,7 +6,7 @@ use Rattle.text_meaning.specs.Cutting.{lex}
 use Rattle.text_meaning.specs.Nesting.{Nesting}
 use Rattle.text_meaning.specs.Reading.{Target, Tree, Spells, nesting, Begins, is_too_deep, any_too_deep, StopsAt, IsLeftOut, IsTooDeepAt, Answer, Read, Syntax, TooDeep, Unsupported, IsAnswer, with_end, IsAnswerTo}
 use Rattle.text_meaning.specs.Parsing.{State, Whole, AtOperand, step, level, run, levels, is_refused, is_left_out, fault, answer_at_end, answer_on, start, parse}
-use Rattle.text_laws.specs.ReadingLaws.{answer_to, read}
+use Rattle.text_meaning.specs.TextAnswers.{answer_to, read}
 use Rattle.reading_laws.specs.AnswerLaws.{TokensHaveOneAnswer, EachTextHasOneReading, TextsSpellOneTree}
 use Rattle.token_laws.proofs.CutFollows.{or_front, or_back}
 use Rattle.token_laws.proofs.OneCut.{one_cut}

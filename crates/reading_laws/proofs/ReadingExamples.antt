@@ -5,7 +5,7 @@ use Rattle.std.specs.Str.Lossy.{utf8_valid_len}
 use Rattle.std.proofs.Common.{refl}
 use Rattle.text_meaning.specs.Cutting.{cut_on, lex}
 use Rattle.text_meaning.specs.Parsing.{resume, answer_on, parse}
-use Rattle.text_laws.specs.ReadingLaws.{read}
+use Rattle.text_meaning.specs.TextAnswers.{read}
 use Rattle.reading_laws.specs.ReadingExamples.{ReadingExamples}
 
 pub reading_examples : ReadingExamples

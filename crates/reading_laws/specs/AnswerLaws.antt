@@ -4,7 +4,7 @@ use Rattle.text_meaning.specs.Tokens.{Token}
 use Rattle.text_meaning.specs.Cut.{Tokens, IsLexed}
 use Rattle.text_meaning.specs.Reading.{Target, Tree, Spells, Answer, IsAnswer, with_end, Reads}
 use Rattle.text_meaning.specs.Parsing.{parse}
-use Rattle.text_laws.specs.ReadingLaws.{read}
+use Rattle.text_meaning.specs.TextAnswers.{read}
 
 -- Tokens, the end of the input behind them, spell a tree or have exactly one fault, and the function answers it.
 pub record HasOneAnswer (target : Target) (ts : List Token) (end : ℕ) : Type 0 where

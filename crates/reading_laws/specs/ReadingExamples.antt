@@ -4,7 +4,7 @@ use Rattle.text_meaning.specs.Tokens.{Span}
 use Rattle.text_meaning.specs.Trees.{Expr, TypeExpr, NameExpr, AppExpr, PiExpr, LamExpr, TypedLamExpr, ArrowExpr, BackExpr, NoArgs, ThenArg, ConstAssign, StructAssign, IncludeAssign, IncludeDecl, StructDecl, ConstDecl, SigModule, ViewModule}
 use Rattle.text_meaning.specs.Grammar.{simple, written}
 use Rattle.text_meaning.specs.Reading.{ModuleText, JudgementText, ModuleTree, JudgementTree, Answer, Read, Syntax, TooDeep, Unsupported}
-use Rattle.text_laws.specs.ReadingLaws.{read}
+use Rattle.text_meaning.specs.TextAnswers.{read}
 
 abbrev pub span : ℕ → ℕ → Span
 span from to = record { from = from; to = to }

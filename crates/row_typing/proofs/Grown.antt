@@ -1,6 +1,6 @@
 -- Judgements, and typed maps, over signatures that have more.
 use Rattle.lf_meaning.specs.Signatures.{Signature}
-use Rattle.translation_meaning.specs.HeadMaps.{HeadMap}
+use Rattle.lf_meaning.specs.HeadMaps.{HeadMap}
 use Rattle.translation_meaning.specs.TypedMaps.{IsTypedMap}
 use Rattle.holding_laws.specs.HoldingLaws.{Grows}
 pub use Rattle.translation_typing.proofs.Grown.{class_more, fits_more, optional_fits_more, declaration_more}

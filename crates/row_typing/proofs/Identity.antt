@@ -2,27 +2,24 @@
 use Rattle.std.proofs.Common.{◌≡◌, ℕ, zero, suc, [], ◌∷◌, slice_get, Bool, true, false, cond, Option, Some, None, option_map, refl, sym, ap, ap₂, ◌∙◌}
 use Rattle.lf_meaning.specs.Terms.{Constant, Object, Lam, At, Atomic, Var, Con, App, Family, Pi, AtFamily, AtomicFamily, FamilyCon, FamilyApp, Kind, Ty, PiKind, with_domains}
 use Rattle.lf_meaning.specs.Erasure.{erase, erase_context}
-use Rattle.lf_meaning.specs.Replacement.{Kept, object_of, takes, replace, replace_head}
+use Rattle.lf_meaning.specs.Replacement.{Kept, object_of, takes, replace, replace_head, of_constants}
 use Rattle.lf_meaning.specs.Signatures.{Class, FamilyClass, KindClass, Value, SameAs, TermValue, FamilyValue, Declaration, Signature, same_constant, declaration_of, undefined_class, declared_class, class_of}
 use Rattle.lf_meaning.specs.Judgements.{IsClass, Fits, IsSignature}
-use Rattle.lf_meaning.proofs.Equality.{same_constant_sound}
-use Rattle.lf_substitution_laws.specs.Uniform.{of_constants}
-use Rattle.lf_metatheory.proofs.Typed.{checks_sort}
-use Rattle.lf_metatheory.proofs.Declared.{declared_as}
+use Rattle.lf_term_laws.proofs.Equality.{same_constant_sound}
+use Rattle.lf_typing.proofs.Typed.{checks_sort}
+use Rattle.lf_typing.proofs.Declared.{declared_as}
 use Rattle.translation_meaning.specs.Heads.{FamilyHead, head_takes}
-use Rattle.translation_meaning.specs.HeadMaps.{Image, HeadMap, image_of}
+use Rattle.lf_meaning.specs.HeadMaps.{Image, HeadMap, image_of}
 use Rattle.translation_meaning.specs.Translation.{headed_image, family_head_image, family_of, image_kind, translate_object, translate_head, translate_family, translate_kind, translate_class, translate_value, object_value, family_value, same_image}
 use Rattle.translation_meaning.specs.ProperValues.{IsProperValue}
 use Rattle.translation_meaning.specs.TypedMaps.{KeepsValue, IsTypedMap}
-use Rattle.sorted_translation.proofs.Images.{by_images}
-use Rattle.sorted_translation.proofs.Kinded.{family_kinded, kind_kinded}
-use Rattle.sorted_translation.proofs.Known.{ObjectKnown, AtomicKnown, HeadKnown, FamilyKnown, KindKnown, object_known, family_known, kind_known}
+use Rattle.translation_sort_laws.proofs.Images.{by_images}
+use Rattle.translation_sort_laws.proofs.Kinded.{family_kinded, kind_kinded}
+use Rattle.translation_sort_laws.proofs.Known.{ObjectKnown, AtomicKnown, HeadKnown, FamilyKnown, KindKnown, object_known, family_known, kind_known}
 use Rattle.translation_typing.proofs.Proper.{proper_object, proper_body}
 use Rattle.translation_typing.proofs.DeclaredTyped.{declared_typed}
 use Rattle.library_meaning.specs.Words.{own_value, identity_mapping, identity_map}
-
-some_is : {A : Type 0} {x y : A} → Some x ≡ Some y → x ≡ y
-some_is e = cc
+use Rattle.std.proofs.lemmas.Option.{same_Some}
 
 -- each constant has itself as its image
 abbrev pub IsIdentityOn : Signature → HeadMap → Type 0
@@ -93,7 +90,7 @@ identity_image [] c = refl
 identity_image (d ∷ sig) c = identity_by (same_constant d.name c) d (declaration_of sig c) (image_of (identity_map sig) c) (identity_image sig c)
 
 named_by : (b : Bool) (e d : Declaration) (c : Constant) (o : Option Declaration) → same_constant e.name c ≡ b → (o ≡ Some d → d.name ≡ c) → cond b (Some e) o ≡ Some d → d.name ≡ c
-named_by true e d c o f g h = ap (λ (z : Declaration). z.name) (some_is (sym h)) ∙ same_constant_sound e.name c f
+named_by true e d c o f g h = ap (λ (z : Declaration). z.name) (same_Some _ _ (sym h)) ∙ same_constant_sound e.name c f
 named_by false e d c o f g h = g h
 
 pub declared_name : (sig : Signature) (c : Constant) (d : Declaration) → declaration_of sig c ≡ Some d → d.name ≡ c
@@ -101,7 +98,7 @@ declared_name [] c d h = absurd (cc)
 declared_name (e ∷ sig) c d h = named_by (same_constant e.name c) e d c (declaration_of sig c) refl (declared_name sig c d) h
 
 undefined_is : (o : Option Value) (class found : Class) → undefined_class o class ≡ Some found → (o ≡ None) × (class ≡ found)
-undefined_is None class found h = (refl, some_is h)
+undefined_is None class found h = (refl, same_Some _ _ h)
 undefined_is (Some v) class found h = absurd (cc)
 
 pub identity_on : (sig : Signature) → IsIdentityOn sig (identity_map sig)

@@ -1,24 +1,21 @@
 -- The link of any path of structures of an accepted theory is placed.
 use Rattle.std.proofs.Common.{◌≡◌, Bool, true, false, cond, List, [], ◌∷◌, ◌++◌, Option, Some, None, is_some, refl, sym, ap, ◌∙◌, subst}
-use Rattle.lf_meaning.specs.Terms.{Name, Path}
-use Rattle.lf_meaning.specs.Signatures.{same_name}
+use Rattle.name_meaning.specs.Names.{Name, Path, same_name}
 use Rattle.lf_meaning.specs.Judgements.{IsSignature}
-use Rattle.lf_meaning.proofs.Equality.{same_name_sound}
-use Rattle.log_meaning.proofs.Members.{Member}
+use Rattle.list_laws.proofs.Members.{Member}
 use Rattle.library_meaning.specs.Faces.{StructureFace, TheoryFace, IsTheory, Environment, theory_face, theory_of, structure_of, includes_of, own_of, own_parts, flat_of}
 use Rattle.library_meaning.specs.Coherence.{IsCoherent}
 use Rattle.library_meaning.specs.Words.{Link, structure_link, behind_structure, structures_of, link_by, is_empty, structures_link}
-use Rattle.link_meaning.proofs.Linked.{known_theory}
+use Rattle.link_laws.proofs.Linked.{known_theory}
 use Rattle.holding_laws.proofs.Declared.{place_of}
 use Rattle.link_coherence_laws.proofs.WordsHold.{structure_member}
 use Rattle.row_typing.specs.TypedFaces.{IsTypedEnvironment}
 use Rattle.row_typing.proofs.Places.{LinkPlaced, structure_placed, structure_within}
-
-some_is : {A : Type 0} {x y : A} → Some x ≡ Some y → x ≡ y
-some_is e = cc
+use Rattle.std.proofs.lemmas.Option.{same_Some}
+use Rattle.name_laws.proofs.Order.{same_sound}
 
 named_by : (b : Bool) (x structure : StructureFace) (name : Name) (o : Option StructureFace) → same_name x.name name ≡ b → (o ≡ Some structure → structure.name ≡ name) → cond b (Some x) o ≡ Some structure → structure.name ≡ name
-named_by true x structure name o e f h = ap (λ (z : StructureFace). z.name) (some_is (sym h)) ∙ same_name_sound x.name name e
+named_by true x structure name o e f h = ap (λ (z : StructureFace). z.name) (same_Some _ _ (sym h)) ∙ same_sound x.name name e
 named_by false x structure name o e f h = f h
 
 structure_named : (structures : List StructureFace) (name : Name) (structure : StructureFace) → structure_of structures name ≡ Some structure → structure.name ≡ name
@@ -60,7 +57,7 @@ module _ (environment : Environment) (coherent : IsCoherent environment) (typed 
         let p = f inner refl in
         let d = found structure.domain (known_domain structure m) in
         let e = found inner.domain p.known in
-        subst (PlacedAs theory (structure.name ∷ path)) (some_is h)
+        subst (PlacedAs theory (structure.name ∷ path)) (same_Some _ _ h)
         (record { known = p.known; placed = structure_within environment coherent typed theory face is structure m path inner.domain inner.map p.placed (flat_typed inner.domain e.face e.is) (flat_typed structure.domain d.face d.is) })
 
     by_link : (o : Option StructureFace) (path : Path) (b : Bool) (inner : Name → Option Link) (link : Link) (name : Name) → is_empty path ≡ b
@@ -72,7 +69,7 @@ module _ (environment : Environment) (coherent : IsCoherent environment) (typed 
         let q = m structure refl in
         subst (λ n. PlacedAs theory (n ∷ path) link) q.1
         (subst (λ z. PlacedAs theory (structure.name ∷ z) link) (sym (empty_path path e))
-        (subst (PlacedAs theory (structure.name ∷ [])) (some_is h) (record { known = known_domain structure q.0; placed = structure_placed environment coherent typed theory face is structure q.0 })))
+        (subst (PlacedAs theory (structure.name ∷ [])) (same_Some _ _ h) (record { known = known_domain structure q.0; placed = structure_placed environment coherent typed theory face is structure q.0 })))
     by_link (Some structure) path false inner link name e m f h =
         let q = m structure refl in
         subst (λ n. PlacedAs theory (n ∷ path) link) q.1 (behind structure q.0 path (inner structure.domain) link (λ within g. f structure within refl g) h)

@@ -1,32 +1,33 @@
 -- What a structure induces stands in the order of its domain, and up to each of these constants the structure's map is typed.
 use Rattle.std.proofs.Common.{◌≡◌, ℕ, Bool, true, false, cond, List, [], ◌∷◌, ◌++◌, filter_map, slice_get, Option, Some, None, option_map, inl, inr, ⊎_elim, refl, sym, ap, ap₂, ◌∙◌, subst, subst₂, append_assoc, append-nil}
 use Rattle.std.specs.List.{cons_option}
-use Rattle.lf_meaning.specs.Terms.{Name, Path, Constant}
+use Rattle.name_meaning.specs.Names.{Name, Path}
+use Rattle.lf_meaning.specs.Terms.{Constant}
 use Rattle.lf_meaning.specs.Signatures.{Class, Value, SameAs, TermValue, FamilyValue, Declaration, Signature, same_constant, undefined_class, declared_class, class_of}
 use Rattle.lf_meaning.specs.Judgements.{Fits, ValueFits, IsDeclaration, IsSignature}
-use Rattle.lf_meaning.proofs.Equality.{same_constant_sound, same_constant_itself}
-use Rattle.log_meaning.proofs.Members.{Member, in_append, append_left, append_right}
-use Rattle.translation_meaning.specs.HeadMaps.{Image, HeadMap, image_of}
+use Rattle.lf_term_laws.proofs.Equality.{same_constant_sound, same_constant_itself}
+use Rattle.list_laws.proofs.Members.{Member, in_append, append_left, append_right, place_member}
+use Rattle.lf_meaning.specs.HeadMaps.{Image, HeadMap, image_of}
 use Rattle.translation_meaning.specs.Translation.{translate_value, translate_image, same_image, compose}
 use Rattle.translation_meaning.specs.ProperValues.{ValuesAreProper}
-use Rattle.translation_meaning.proofs.Spines.{composed}
+use Rattle.translation_laws.proofs.Spines.{composed}
 use Rattle.translation_typing.specs.Composition.{AreComposable}
 use Rattle.translation_typing.proofs.Composed.{composition_is_typed, composition_is_proper}
-use Rattle.lf_metatheory.proofs.Growing.{signature_shrinks}
+use Rattle.lf_typing.proofs.Growing.{signature_shrinks}
 use Rattle.translation_meaning.specs.TypedMaps.{KeepsValue, IsTypedAt, IsTypedMap}
 use Rattle.library_meaning.specs.Faces.{StructureFace, TheoryFace, IsTheory, Environment, theory_face, theory_of, includes_of, own_of, own_part, own_parts, flat_signature, flat_of}
 use Rattle.library_meaning.specs.Coherence.{IsCoherent}
 use Rattle.link_meaning.specs.Induced.{defined_by, induced_with}
 use Rattle.holding_laws.specs.HoldingLaws.{Grows}
 use Rattle.holding_laws.proofs.Declared.{place_of, front_grows}
-use Rattle.link_coherence_laws.proofs.Onces.{place_member, Once, once_left, member_declared}
+use Rattle.link_coherence_laws.proofs.Onces.{Once, once_left, member_declared}
 use Rattle.link_coherence_laws.proofs.WordsHold.{flat_once}
 use Rattle.row_typing.specs.TypedFaces.{IsPlaced, IsTypedTheory, IsTypedEnvironment}
 use Rattle.row_typing.proofs.ProperImages.{images_proper, proper_atomic_map}
 use Rattle.row_typing.proofs.Grown.{fits_more}
-
-some_is : {A : Type 0} {x y : A} → Some x ≡ Some y → x ≡ y
-some_is e = cc
+use Rattle.std.proofs.lemmas.Option.{same_Some}
+use Rattle.std.proofs.lemmas.List.Elements.{filter_map-append}
+use Rattle.link_coherence_laws.proofs.LinksHold.{undefined_itself}
 
 -- ---- copies
 
@@ -39,16 +40,8 @@ copy_at theory path along d = option_map (induced_with (record { theory = theory
 abbrev pub copies_at : Name → Path → HeadMap → Signature → Signature
 copies_at theory path along ds = filter_map (copy_at theory path along) ds
 
-filter_append : {A B : Type 0} (f : A → Option B) (xs ys : List A) → filter_map f (xs ++ ys) ≡ filter_map f xs ++ filter_map f ys
-filter_append f [] ys = refl
-filter_append f (x ∷ xs) ys = by (f x) (filter_append f xs ys)
-  where
-    by : (o : Option _) → filter_map f (xs ++ ys) ≡ filter_map f xs ++ filter_map f ys → cons_option o (filter_map f (xs ++ ys)) ≡ cons_option o (filter_map f xs) ++ filter_map f ys
-    by None e = e
-    by (Some y) e = ap (λ z. y ∷ z) e
-
 pub copies_append : (theory : Name) (path : Path) (along : HeadMap) (xs ys : Signature) → copies_at theory path along (xs ++ ys) ≡ copies_at theory path along xs ++ copies_at theory path along ys
-copies_append theory path along xs ys = filter_append (copy_at theory path along) xs ys
+copies_append theory path along xs ys = filter_map-append (copy_at theory path along) xs ys
 
 pub copies_next : (theory : Name) (path : Path) (along : HeadMap) (d : Declaration) (ds : Signature) (image : Image) → image_of along d.name ≡ Some image
     → copies_at theory path along (d ∷ ds) ≡ induced_with (record { theory = theory; path = path ++ d.name.path }) image ∷ copies_at theory path along ds
@@ -78,9 +71,6 @@ pub copied_fits : (before sig : Signature) (c : Constant) (class : Class) (value
 copied_fits before sig c class (SameAs other) g h f = defined_fits_by before sig c other class (same_constant other c) refl g h f
 copied_fits before sig c class (TermValue m) g h f = fits_more before sig g class (TermValue m) h
 copied_fits before sig c class (FamilyValue n body) g h f = fits_more before sig g class (FamilyValue n body) h
-
-pub undefined_itself : (c : Constant) → defined_by c (SameAs c) ≡ None
-undefined_itself c = ap (λ b. cond b None (Some (SameAs c))) (same_constant_itself c)
 
 -- a declaration without a value is found with its class
 pub class_declared : (sig : Signature) → Once sig → (d : Declaration) → Member d sig → d.value ≡ None → class_of sig d.name ≡ Some d.class
@@ -160,7 +150,7 @@ module _ (environment : Environment) where
       map_at d n = let i = place_of (flat_of environment structure.domain) d n in faced.maps at.0 structure at.1 i.0 d i.1
 
       image_same : (d : Declaration) (i j : Image) → image_of structure.map d.name ≡ Some i → image_of structure.map d.name ≡ Some j → i ≡ j
-      image_same d i j e f = some_is (sym e ∙ f)
+      image_same d i j e f = same_Some _ _ (sym e ∙ f)
 
       target : Signature → Signature
       target pre = parts_of theory ++ (placed.front ++ copies pre)

@@ -2,14 +2,14 @@
 use Rattle.std.proofs.Common.{◌≡◌, ℕ, zero, suc, Bool, true, false, cond, [], ◌∷◌, slice_get, Option, Some, refl, subst}
 use Rattle.lf_meaning.specs.Terms.{Constant}
 use Rattle.lf_meaning.specs.Signatures.{Class, FamilyClass, KindClass, Value, SameAs, TermValue, FamilyValue, Signature, same_constant}
-use Rattle.translation_meaning.specs.HeadMaps.{Image, Mapping, HeadMap, image_of}
+use Rattle.lf_meaning.specs.HeadMaps.{Image, Mapping, HeadMap, image_of}
 use Rattle.translation_meaning.specs.ProperValues.{IsProperValue, ValuesAreProper}
-use Rattle.sorted_translation.specs.AtomicBodies.{BodiesAreAtomic}
+use Rattle.translation_sort_laws.specs.AtomicBodies.{BodiesAreAtomic}
 use Rattle.translation_typing.proofs.Proper.{proper_atomic}
 use Rattle.library_meaning.specs.Holding.{ValueHolds}
 use Rattle.library_meaning.specs.Coherence.{IsCoherentMap}
-use Rattle.expansion_meaning.proofs.Binding.{some_same}
 use Rattle.row_typing.specs.TypedLinks.{CoherentMapsAreProper}
+use Rattle.std.proofs.lemmas.Option.{same_Some}
 
 -- where the image of a constant stands
 record Placed (along : HeadMap) (image : Image) : Type 0 where
@@ -19,7 +19,7 @@ record Placed (along : HeadMap) (image : Image) : Type 0 where
   is : mapping.image ≡ image
 
 placed_by : (b : Bool) (m : Mapping) (ms : HeadMap) (o : Option Image) (image : Image) → cond b (Some m.image) o ≡ Some image → (o ≡ Some image → Placed ms image) → Placed (m ∷ ms) image
-placed_by true m ms o image h f = record { place = zero; mapping = m; mapped = refl; is = some_same h }
+placed_by true m ms o image h f = record { place = zero; mapping = m; mapped = refl; is = same_Some _ _ h }
 placed_by false m ms o image h f = let p = f h in record { place = suc p.place; mapping = p.mapping; mapped = p.mapped; is = p.is }
 
 placed : (along : HeadMap) (c : Constant) (image : Image) → image_of along c ≡ Some image → Placed along image

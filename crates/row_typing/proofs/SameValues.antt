@@ -3,16 +3,15 @@ use Rattle.std.proofs.Common.{◌≡◌, ℕ, zero, suc, ◌+◌, ◌≤◌, [],
 use Rattle.lf_meaning.specs.Terms.{Constant}
 use Rattle.lf_meaning.specs.Signatures.{Class, Value, Signature, same_constant, undefined_class, class_of}
 use Rattle.lf_meaning.specs.Judgements.{IsClass, Fits, IsDeclaration, IsSignature}
-use Rattle.lf_metatheory.proofs.Declared.{declared_as, found_in, class_more}
-use Rattle.lf_metatheory.proofs.Closed.{class_is_class}
-use Rattle.lf_metatheory.proofs.Growing.{signature_shrinks}
-use Rattle.translation_meaning.specs.HeadMaps.{Image, HeadMap, image_of}
+use Rattle.lf_typing.proofs.Declared.{declared_as, found_in, class_more}
+use Rattle.lf_typing.proofs.Closed.{class_is_class}
+use Rattle.lf_typing.proofs.Growing.{signature_shrinks}
+use Rattle.lf_meaning.specs.HeadMaps.{Image, HeadMap, image_of}
 use Rattle.translation_meaning.specs.Translation.{translate_class, translate_value}
 use Rattle.translation_typing.proofs.Agreeing.{AgreeOn, class_agrees, value_agrees}
 use Rattle.translation_typing.proofs.Restricted.{restrict, restricted, restricted_there}
-
-some_is : {A : Type 0} {x y : A} → Some x ≡ Some y → x ≡ y
-some_is e = cc
+use Rattle.std.proofs.lemmas.Option.{same_Some}
+use Rattle.lf_term_laws.proofs.Declarations.{undefined_is, image_front}
 
 -- both maps have an image of the constant, of its class by their own translation, and of one value
 pub record SameAt (first second : HeadMap) (c : Constant) (class : Class) : Type 0 where
@@ -32,11 +31,6 @@ front_image_by : (b : Bool) (x image : Image) (o : Option Image) (more : Option 
 front_image_by true x image o more f h = h
 front_image_by false x image o more f h = f h
 
-front_image : (xs ys : HeadMap) (c : Constant) (image : Image) → image_of xs c ≡ Some image → image_of (xs ++ ys) c ≡ Some image
-unfolding image_of
-front_image [] ys c image h = absurd (cc)
-front_image (m ∷ xs) ys c image h = front_image_by (same_constant m.name c) m.image image (image_of xs c) (image_of (xs ++ ys) c) (front_image xs ys c image) h
-
 back_image_by : (b : Bool) (x : Image) (o more rest : Option Image) → (o ≡ None → more ≡ rest) → cond b (Some x) o ≡ None → cond b (Some x) more ≡ rest
 back_image_by true x o more rest f h = absurd (cc)
 back_image_by false x o more rest f h = f h
@@ -48,7 +42,7 @@ back_image (m ∷ xs) ys c h = back_image_by (same_constant m.name c) m.image (i
 
 -- where the signature has the constant, and where not
 patched_there : (sig : Signature) (first second : HeadMap) (c : Constant) (class : Class) (image : Image) → class_of sig c ≡ Some class → image_of second c ≡ Some image → image_of (patched sig second first) c ≡ Some image
-patched_there sig first second c class image e h = front_image (restrict sig second) first c image (restricted_there sig c second class e ∙ h)
+patched_there sig first second c class image e h = image_front (restrict sig second) first c image (restricted_there sig c second class e ∙ h)
 
 patched_not : (sig : Signature) (first second : HeadMap) (c : Constant) → class_of sig c ≡ None → image_of (patched sig second first) c ≡ image_of first c
 patched_not sig first second c e = back_image (restrict sig second) first c (restricted sig c second ∙ ap (λ o. cond (is_some o) (image_of second c) None) e)
@@ -62,10 +56,6 @@ pub record ClassBefore (sig : Signature) (class : Class) : Type 0 where
   pub is : IsClass before class
   pub more : (c : Constant) (k : Class) → class_of before c ≡ Some k → class_of sig c ≡ Some k
 
-classified : (o : Option Value) (class found : Class) → undefined_class o class ≡ Some found → class ≡ found
-classified None class found h = some_is h
-classified (Some v) class found h = absurd (cc)
-
 pub class_before : (sig : Signature) → IsSignature sig → (c : Constant) (class : Class) → class_of sig c ≡ Some class → ClassBefore sig class
 class_before sig typed c class h =
     let d = declared_as sig c class h in
@@ -76,7 +66,7 @@ class_before sig typed c class h =
       before = f.before;
       shorter = omega (arith, count);
       typed = signature_shrinks f.before (d.declaration ∷ f.after) (subst IsSignature f.split typed);
-      is = subst (IsClass f.before) (classified d.declaration.value d.declaration.class class d.classified) is.class_is;
+      is = subst (IsClass f.before) (undefined_is d.declaration.value d.declaration.class class d.classified) is.class_is;
       more = λ x k e. subst (λ z. class_of z x ≡ Some k) (sym f.split) (class_more f.before (d.declaration ∷ f.after) x k e);
     }
 

@@ -1,10 +1,10 @@
 -- Words of morphisms, and rows of them, have typed maps.
 use Rattle.std.proofs.Common.{◌≡◌, List, ◌++◌, Option, Some, None, refl}
-use Rattle.lf_meaning.specs.Terms.{Name, Path}
+use Rattle.name_meaning.specs.Names.{Name, Path}
 use Rattle.lf_meaning.specs.Signatures.{Signature}
 use Rattle.lf_meaning.specs.Judgements.{IsSignature}
-use Rattle.lf_metatheory.proofs.Growing.{empty_signature}
-use Rattle.translation_meaning.specs.HeadMaps.{HeadMap}
+use Rattle.lf_typing.proofs.Growing.{empty_signature}
+use Rattle.lf_meaning.specs.HeadMaps.{HeadMap}
 use Rattle.translation_meaning.specs.ProperValues.{ValuesAreProper}
 use Rattle.translation_meaning.specs.TypedMaps.{IsTypedMap}
 use Rattle.translation_typing.specs.Composition.{AreComposable}
@@ -13,7 +13,7 @@ use Rattle.translation_typing.proofs.Composed.{composition_is_typed, composition
 use Rattle.library_meaning.specs.Faces.{TheoryFace, ViewFace, IsView, Environment, theory_of, includes_of, own_of, own_parts, flat_signature, flat_of}
 use Rattle.library_meaning.specs.Coherence.{IsCoherentMap, IsCoherent}
 use Rattle.library_meaning.specs.Words.{Link, RowMeans, row_meaning, structures_of, structures_link}
-use Rattle.link_meaning.proofs.Linked.{known_theory}
+use Rattle.link_laws.proofs.Linked.{known_theory}
 use Rattle.link_coherence_laws.specs.LinkTargets.{target_of, HereHolds}
 use Rattle.link_coherence_laws.proofs.WordsHold.{Composes, AreStructures, theory_at, structures_link_is, row_is}
 use Rattle.row_typing.specs.TypedFaces.{IsTypedEnvironment}

@@ -3,7 +3,7 @@ use Rattle.std.proofs.Common.{refl}
 use Rattle.std.specs.Str.{is_utf8, chars}
 use Rattle.std.specs.Fmt.{digits}
 use lib.Utf8.{encode}
-use Rattle.log_meaning.specs.Names.{is_among}
+use Rattle.name_meaning.specs.Names.{is_among}
 use Rattle.log_meaning.specs.Log.{with_module, without_module, library_of, text_of}
 use Rattle.log_meaning.specs.Append.{append_answer, appended}
 use Rattle.text_meaning.specs.Cutting.{cut_on, lex}

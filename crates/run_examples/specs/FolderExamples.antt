@@ -1,8 +1,8 @@
 -- Worked examples of folders, and of the generator's draws.
 use Rattle.std.specs.Prelude.{◌≡◌, ℕ, List, [], ◌∷◌, None, map, codes, if◌then◌else◌}
 use Rattle.lf_meaning.specs.Terms.{Ty}
-use Rattle.lf_meaning.specs.Signatures.{KindClass, Declaration, same_name}
-use Rattle.log_meaning.specs.Names.{Name, Text}
+use Rattle.lf_meaning.specs.Signatures.{KindClass, Declaration}
+use Rattle.name_meaning.specs.Names.{same_name, Name, Text}
 use Rattle.log_meaning.specs.Log.{Library, edited_name}
 use Rattle.library_meaning.specs.Faces.{TheoryFace}
 use Rattle.printing_meaning.specs.VerdictLines.{Judged, Refused, AcceptedTheory}

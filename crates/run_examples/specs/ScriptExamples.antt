@@ -1,6 +1,6 @@
 -- Worked examples of scripts, for any judging.
 use Rattle.std.specs.Prelude.{◌≡◌, ℕ, List, [], ◌∷◌, ◌++◌, take, replicate, codes}
-use Rattle.log_meaning.specs.Names.{Name, Text}
+use Rattle.name_meaning.specs.Names.{Name, Text}
 use Rattle.log_meaning.specs.Log.{Put, Drop}
 use Rattle.run_meaning.specs.Judging.{Judging}
 use Rattle.run_meaning.specs.ScriptOutput.{output_of}

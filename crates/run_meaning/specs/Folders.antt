@@ -1,6 +1,6 @@
 -- What checking a folder prints (this profile).
 use Rattle.std.specs.Prelude.{ℕ, Bool, true, false, find, List, ◌++◌, ◌+◌, ◌||◌, not, length, filter, flat_map, nat_eq, Option, Some, None}
-use Rattle.log_meaning.specs.Names.{Name, same_name}
+use Rattle.name_meaning.specs.Names.{Name, same_name}
 use Rattle.log_meaning.specs.Log.{Log, Library, names_of, library_of, version_of}
 use Rattle.output_meaning.specs.Printed.{absent_line}
 use Rattle.printing_meaning.specs.VerdictLines.{Judged, Refused, AcceptedTheory, AcceptedView, judged_line}
@@ -10,11 +10,11 @@ use Rattle.walk_meaning.specs.Walks.{Dependencies}
 use Rattle.run_meaning.specs.ScriptLogs.{Telling, told_of_all}
 use Rattle.run_meaning.specs.Files.{File, module_files, Origin, Damaged, Loading, load}
 
--- Read: the origin of a loaded module.
+-- The origin of a loaded module.
 abbrev pub origin_named : List Origin → Name → Option Origin
 origin_named origins name = find (λ (origin : Origin). same_name name origin.name) origins
 
--- Read: the verdict line of a module of the folder; a place is counted in its file.
+-- The verdict line of a module of the folder; a place is counted in its file.
 abbrev pub loaded_line : Judging → Log → Name → Option Origin → List ℕ
 loaded_line judging log name None = absent_line name (version_of log)
 loaded_line judging log name (Some origin) =
@@ -32,29 +32,29 @@ is_refused (Refused refusal) = true
 is_refused (AcceptedTheory face) = false
 is_refused (AcceptedView face) = false
 
--- Read: how many modules of the library are refused, and how many are accepted.
+-- How many modules of the library are refused, and how many are accepted.
 abbrev pub refused_count : Judging → Library → ℕ
 refused_count judging library = length (filter (λ (name : Name). is_refused (judging.judged library name)) (names_of library))
 
 abbrev pub accepted_count : Judging → Library → ℕ
 accepted_count judging library = length (filter (λ (name : Name). not (is_refused (judging.judged library name))) (names_of library))
 
--- Read: the faults of files in order, the verdict lines of all modules in byte order, and the line of the counts.
+-- The faults of files in order, the verdict lines of all modules in byte order, and the line of the counts.
 abbrev pub loading_text : Judging → ℕ → Loading → List ℕ
 loading_text judging files loading =
     flat_map damaged_line loading.damaged
     ++ flat_map (module_line judging loading) (names_of (library_of loading.log))
     ++ files_line files (length (library_of loading.log)) (accepted_count judging (library_of loading.log)) (refused_count judging (library_of loading.log))
 
--- Read: the output of a checked folder with these files.
+-- The output of a checked folder with these files.
 unfoldable pub folder_output : Judging → List File → List ℕ
 folder_output judging files = loading_text judging (length (module_files files)) (load files)
 
--- Read: what the lines of a checked folder tell.
+-- What the lines of a checked folder tell.
 abbrev pub folder_told : Dependencies → List File → List Telling
 folder_told dependencies files = told_of_all dependencies (load files).log
 
--- Read: a module or a file is refused.
+-- A module or a file is refused.
 unfoldable pub has_refusal : Judging → List File → Bool
 has_refusal judging files =
     not (nat_eq (refused_count judging (library_of (load files).log)) 0) || not (nat_eq (length (load files).damaged) 0)

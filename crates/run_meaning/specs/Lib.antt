@@ -6,4 +6,3 @@ pub mod ScriptLogs
 pub mod Files
 pub mod Folders
 pub mod Generator
-pub mod RunLaws

@@ -1,22 +1,18 @@
 -- How the lines of a script are cut into commands, all of them (this profile).
+use Rattle.name_meaning.specs.Limits.{put_limit, line_limit, text_limit}
 use Rattle.std.specs.Prelude.{ℕ, suc, List, [], ◌∷◌, ◌==◌, ◌^◌, length, take, drop, nat_eq, nat_lt, Option, Some, None, option_map, if◌then◌else◌, codes}
 use Rattle.std.specs.List.{starts_with}
 use Rattle.std.specs.Str.{bytes_eq}
 use Rattle.output_meaning.specs.Lines.{content_of}
-use Rattle.output_meaning.specs.Commands.{line_limit, is_name, is_silent, text_before, behind_end}
-use Rattle.log_meaning.specs.Names.{Name, Text}
+use Rattle.output_meaning.specs.ScriptLines.{is_name, is_silent, text_before, behind_end}
+use Rattle.name_meaning.specs.Names.{Name, Text}
 use Rattle.log_meaning.specs.Log.{Edit, Put, Drop}
-use Rattle.log_meaning.specs.Append.{text_limit}
 
--- Read: the greatest number of bytes between a `put` line and its end line, or the end of the input.
-abbrev pub put_limit : ℕ
-put_limit = 2 ^ 26
-
--- Read: what is kept of a text that is put: all of it, or as many bytes as show that it is longer than the limit of a text.
+-- What is kept of a text that is put: all of it, or as many bytes as show that it is longer than the limit of a text.
 abbrev pub kept : Text → Text
 kept text = take (suc text_limit) text
 
--- Read: an edit; the report of a name; the verdicts of all modules; the flat text of a name; the judgement of this text,
+-- An edit; the report of a name; the verdicts of all modules; the flat text of a name; the judgement of this text,
 -- carried along a view; the log; or nothing, by a blank line or a comment.
 pub data Command : Type 0 where
   EditCommand : Edit → Command
@@ -27,17 +23,17 @@ pub data Command : Type 0 where
   LogCommand : Command
   BlankCommand : Command
 
--- Read: a line begins the text that is put under a name, is a command by itself, or is no line of a script.
+-- A line begins the text that is put under a name, is a command by itself, or is no line of a script.
 pub data Said : Type 0 where
   Puts : Name → Said
   Says : Command → Said
   Wrong : Said
 
--- Read: what the line says of the name, where it is one.
+-- What the line says of the name, where it is one.
 abbrev pub of_name : (Name → Said) → List ℕ → Said
 of_name said name = if is_name name then said name else Wrong
 
--- Read: some bytes, and those behind the first space that follows them.
+-- Some bytes, and those behind the first space that follows them.
 pub record Parted : Type 0 where
   pub front : List ℕ
   pub behind : List ℕ
@@ -45,13 +41,13 @@ pub record Parted : Type 0 where
 abbrev pub with_byte : ℕ → Parted → Parted
 with_byte byte parted = record { front = byte ∷ parted.front; behind = parted.behind }
 
--- Read: the bytes in front of the first space, and those behind it, if there is a space.
+-- The bytes in front of the first space, and those behind it, if there is a space.
 unfoldable pub parted_at_space : List ℕ → Option Parted
 parted_at_space [] = None
 parted_at_space (byte ∷ bytes) =
     if byte == 32 then Some (record { front = []; behind = bytes }) else option_map (with_byte byte) (parted_at_space bytes)
 
--- Read: a name, one space, and a judgement that is not empty.
+-- A name, one space, and a judgement that is not empty.
 abbrev pub carry_of : Name → Text → Said
 carry_of view [] = Wrong
 carry_of view (byte ∷ bytes) = Says (CarryCommand view (byte ∷ bytes))
@@ -60,7 +56,7 @@ abbrev pub carry_by : Option Parted → Said
 carry_by None = Wrong
 carry_by (Some parted) = of_name (λ (view : Name). carry_of view parted.behind) parted.front
 
--- Read: what the content of a command line says. The word of a command and its name are parted by one space.
+-- What the content of a command line says. The word of a command and its name are parted by one space.
 abbrev pub command_by : List ℕ → Said
 command_by content =
     if starts_with nat_eq content (codes "put ") then of_name Puts (drop 4 content)
@@ -71,35 +67,35 @@ command_by content =
     else (if starts_with nat_eq content (codes "carry ") then carry_by (parted_at_space (drop 6 content))
     else (if bytes_eq content (codes "log") then Says LogCommand else Wrong))))))
 
--- Read: what the content of a line says. A longer line than the limit is wrong whatever it holds.
+-- What the content of a line says. A longer line than the limit is wrong whatever it holds.
 abbrev pub said_by : List ℕ → Said
 said_by content =
     if nat_lt line_limit (length content) then Wrong else (if is_silent content then Says BlankCommand else command_by content)
 
--- Read: nothing is left; or a command, with the lines behind it; or a bad line; or a `put` line whose text has no end.
+-- Nothing is left; or a command, with the lines behind it; or a bad line; or a `put` line whose text has no end.
 pub data Next : Type 0 where
   Ends : Next
   Gives : Command → List (List ℕ) → Next
   Bad : Next
   Unended : Next
 
--- Read: the `put` of what is kept of a text that stands in front of these lines, or unended where there is no end line.
+-- The `put` of what is kept of a text that stands in front of these lines, or unended where there is no end line.
 abbrev pub ended : Name → Text → Option (List (List ℕ)) → Next
 ended name text None = Unended
 ended name text (Some rest) = Gives (EditCommand (Put name (kept text))) rest
 
--- Read: the `put` of the text that the lines begin with. A longer text than the limit of a `put` is bad, ended or not.
+-- The `put` of the text that the lines begin with. A longer text than the limit of a `put` is bad, ended or not.
 abbrev pub put_of : Name → List (List ℕ) → Next
 put_of name lines =
     if nat_lt put_limit (length (text_before lines)) then Bad else ended name (text_before lines) (behind_end lines)
 
--- Read: what a line that says this gives in front of these lines.
+-- What a line that says this gives in front of these lines.
 abbrev pub next_by : Said → List (List ℕ) → Next
 next_by (Puts name) lines = put_of name lines
 next_by (Says command) lines = Gives command lines
 next_by Wrong lines = Bad
 
--- Read: what the lines that are left say next.
+-- What the lines that are left say next.
 abbrev pub next_of : List (List ℕ) → Next
 next_of [] = Ends
 next_of (line ∷ lines) = next_by (said_by (content_of line)) lines

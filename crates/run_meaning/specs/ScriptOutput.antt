@@ -1,7 +1,7 @@
 -- What a script prints (this profile).
 use Rattle.std.specs.Prelude.{ℕ, Bool, true, false, List, [], ◌∷◌, ◌++◌, flat_map, Option, Some, None}
 use Rattle.output_meaning.specs.Printed.{absent_line, bad_line, unended_line}
-use Rattle.log_meaning.specs.Names.{Name, Text}
+use Rattle.name_meaning.specs.Names.{Name, Text}
 use Rattle.log_meaning.specs.Log.{Log, Library, names_of, library_of, text_of, version_of}
 use Rattle.log_meaning.specs.Append.{appended}
 use Rattle.library_meaning.specs.Faces.{Environment}
@@ -13,17 +13,17 @@ use Rattle.run_meaning.specs.Judging.{Judging, environment_of, seen_along}
 use Rattle.run_meaning.specs.ScriptCommands.{Command, EditCommand, ReportCommand, CheckCommand, FlatCommand, CarryCommand, LogCommand, BlankCommand}
 use Rattle.run_meaning.specs.ScriptItems.{Item, Spoken, BadAt, UnendedAt, script_of}
 
--- Read: the verdict line of a name that has this text, if it has one.
+-- The verdict line of a name that has this text, if it has one.
 abbrev pub verdict_by : Judging → Library → ℕ → Name → Option Text → List ℕ
 verdict_by judging library version name None = absent_line name version
 verdict_by judging library version name (Some text) =
     judged_line (environment_of judging library) name version (place_text text) (judging.judged library name)
 
--- Read: the verdict line of a name over a log.
+-- The verdict line of a name over a log.
 unfoldable pub report_text : Judging → Log → Name → List ℕ
 report_text judging log name = verdict_by judging (library_of log) (version_of log) name (text_of (library_of log) name)
 
--- Read: the flat text of a module that was accepted, else the verdict line.
+-- The flat text of a module that was accepted, else the verdict line.
 abbrev pub flat_by_judged : Environment → ℕ → Name → Text → Judged → List ℕ
 flat_by_judged environment version name text (Refused refusal) = refused_line name version (place_text text refusal.at) refusal
 flat_by_judged environment version name text (AcceptedTheory face) = theory_text environment name version face
@@ -37,7 +37,7 @@ flat_by judging library version name (Some text) =
 unfoldable pub flat_text : Judging → Log → Name → List ℕ
 flat_text judging log name = flat_by judging (library_of log) (version_of log) name (text_of (library_of log) name)
 
--- Read: the verdict line of every module, in byte order of names.
+-- The verdict line of every module, in byte order of names.
 abbrev pub check_text : Judging → Log → List ℕ
 check_text judging log = flat_map (report_text judging log) (names_of (library_of log))
 
@@ -45,7 +45,7 @@ unfoldable pub carry_text : Judging → Log → Name → Text → List ℕ
 carry_text judging log view judgement =
     carried_line view (version_of log) (seen_along (environment_of judging (library_of log)) view) (judging.carried (library_of log) view judgement)
 
--- Read: the lines of a command over the log before it.
+-- The lines of a command over the log before it.
 unfoldable pub command_text : Judging → Log → Command → List ℕ
 command_text judging log (EditCommand edit) = edited_line log edit
 command_text judging log (ReportCommand name) = report_text judging log name
@@ -55,7 +55,7 @@ command_text judging log (CarryCommand view judgement) = carry_text judging log 
 command_text judging log LogCommand = log_text log
 command_text judging log BlankCommand = []
 
--- Read: the log after a command. Edits alone change it.
+-- The log after a command. Edits alone change it.
 unfoldable pub log_after : Log → Command → Log
 log_after log (EditCommand edit) = appended log edit
 log_after log (ReportCommand name) = log
@@ -65,18 +65,18 @@ log_after log (CarryCommand view judgement) = log
 log_after log LogCommand = log
 log_after log BlankCommand = log
 
--- Read: the lines of the items in order, over this log; after a fault its line, and nothing more.
+-- The lines of the items in order, over this log; after a fault its line, and nothing more.
 unfoldable pub output_from : Judging → Log → List Item → List ℕ
 output_from judging log [] = []
 output_from judging log (Spoken command ∷ items) = command_text judging log command ++ output_from judging (log_after log command) items
 output_from judging log (BadAt line ∷ items) = bad_line line
 output_from judging log (UnendedAt line ∷ items) = unended_line line
 
--- Read: the output of a script.
+-- The output of a script.
 unfoldable pub output_of : Judging → List ℕ → List ℕ
 output_of judging bytes = output_from judging [] (script_of bytes)
 
--- Read: some item is a fault.
+-- Some item is a fault.
 unfoldable pub has_fault : List Item → Bool
 has_fault [] = false
 has_fault (Spoken command ∷ items) = has_fault items

@@ -5,9 +5,10 @@ use Rattle.std.specs.declared.option.Option.{Option}
 use Rattle.std.proofs.lemmas.List.{append-nil, length-append}
 use Rattle.mmt_outside.specs.Bytes.{preceded}
 use Rattle.output_meaning.specs.Lines.{lines_of, NoFeed, content_of}
-use Rattle.output_meaning.specs.Commands.{bad, next_of, said_by, wrong}
-use Rattle.output_meaning.proofs.LineLemmas.{lines_of-last}
-use Rattle.output_meaning.proofs.LongLines.{first_begins, said_by-long}
+use Rattle.first_path_meaning.specs.Commands.{bad, next_of, said_by, wrong}
+use Rattle.output_laws.proofs.LineLemmas.{lines_of-last}
+use Rattle.output_laws.proofs.LongLines.{first_begins}
+use Rattle.first_path_laws.proofs.LongLines.{said_by-long}
 use Rattle.script_reader.specs.Pieces.{ReadsLine}
 use Rattle.script_reader.specs.declared.line.LineEnd.TheVariants.{Feed, Input, Limit}
 use Rattle.script_reader.specs.Texts.{StaysTold}

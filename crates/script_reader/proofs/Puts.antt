@@ -3,8 +3,8 @@ use Rattle.std.proofs.Common.{◌≡◌, ℕ, ◌+◌, ◌-◌, ◌^◌, ◌<◌
 use Rattle.std.specs.Prelude.{Some, None, IfSome, IsSome, min, Result, Ok, Err}
 use Rattle.std.specs.declared.option.Option.{Option}
 use Rattle.output_meaning.specs.Lines.{lines_of, content_of}
-use Rattle.output_meaning.specs.Commands as meant
-use Rattle.output_meaning.proofs.Items.{put_of-shorter}
+use Rattle.first_path_meaning.specs.Commands as meant
+use Rattle.first_path_laws.proofs.Items.{put_of-shorter}
 use Rattle.script_reader.specs.Texts.{StaysTold}
 use Rattle.script_reader.specs.Answers.{Leaves, IsNext, IsAnswer}
 use Rattle.script_reader.specs.declared.command.Command.{Command}

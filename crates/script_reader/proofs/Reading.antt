@@ -6,17 +6,14 @@ use Rattle.std.specs.declared.option.Option.{Option}
 use Rattle.std.proofs.lemmas.List.{take_more, take-append-drop, length-append, length-take}
 use Rattle.mmt_outside.specs.Bytes.{preceded}
 use Rattle.output_meaning.specs.Lines.{NoFeed}
-use Rattle.output_meaning.proofs.LineLemmas.{NoFeed-append}
+use Rattle.output_laws.proofs.LineLemmas.{NoFeed-append}
 use Rattle.script_reader.specs.Pieces.{EndsInFeed, MovesFront, ReadsLine}
 use Rattle.script_reader.specs.declared.line.LineEnd.TheVariants.{Feed}
+use Rattle.mmt_outside.proofs.Bytes.{preceded-nil}
 
 pub preceded-append : (xs ys : List ℕ) (left : Option (List ℕ)) → preceded (xs ++ ys) left ≡ preceded xs (preceded ys left)
 preceded-append xs ys None = refl
 preceded-append xs ys (Some bytes) = ap (λ (bs : List ℕ). Some bs) (append_assoc xs ys bytes)
-
-pub preceded-nil : (left : Option (List ℕ)) → preceded [] left ≡ left
-preceded-nil None = refl
-preceded-nil (Some bytes) = refl
 
 -- a first part of a line was read, without a line feed
 pub record ReadsPart (before after : Option (List ℕ)) (line now : List ℕ) : Type 0 where

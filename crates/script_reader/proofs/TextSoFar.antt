@@ -5,15 +5,16 @@ use Rattle.std.specs.declared.option.Option.{Option}
 use Rattle.std.proofs.lemmas.List.{append-nil, length-append}
 use Rattle.mmt_outside.specs.Bytes.{preceded}
 use Rattle.output_meaning.specs.Lines.{lines_of, NoFeed}
-use Rattle.output_meaning.specs.Commands.{is_end_line, text_before, behind_end, text_limit}
-use Rattle.output_meaning.specs.Script.{line_after}
-use Rattle.output_meaning.proofs.LineLemmas.{lines_of-last}
-use Rattle.output_meaning.proofs.TextLemmas.{IsTextSoFar, IsTextSoFar-nil, IsTextSoFar-more, EndsText, text_ends, RunsOut, text_runs_out, text_longer, first_line-feed}
-use Rattle.output_meaning.proofs.LongLines.{text_before-long}
+use Rattle.output_meaning.specs.ScriptLines.{is_end_line, text_before, behind_end, line_after}
+use Rattle.name_meaning.specs.Limits.{text_limit}
+use Rattle.output_laws.proofs.LineLemmas.{lines_of-last}
+use Rattle.output_laws.proofs.TextLemmas.{IsTextSoFar, IsTextSoFar-nil, IsTextSoFar-more, EndsText, text_ends, RunsOut, text_runs_out, text_longer, first_line-feed}
+use Rattle.output_laws.proofs.LongLines.{text_before-long}
 use Rattle.script_reader.specs.Pieces.{EndsInFeed}
 use Rattle.script_reader.specs.Texts.{ReadsTextLine, StaysTold}
 use Rattle.script_reader.specs.declared.text.TextLine.TheVariants.{Text, End, Last, Long}
-use Rattle.script_reader.proofs.Reading.{preceded-append, preceded-nil}
+use Rattle.script_reader.proofs.Reading.{preceded-append}
+use Rattle.mmt_outside.proofs.Bytes.{preceded-nil}
 
 -- the text so far was taken from the bytes to come, and the count of lines went on over its lines
 pub record HasText (before now : Option (List ℕ)) (line counted : ℕ) (text : List ℕ) : Type 0 where
@@ -166,7 +167,7 @@ pub has_told : (before now next : Option (List ℕ)) (line counted : ℕ) (text 
 has_told before now next line counted text longer piece has e =
     stays_told (text ++ piece) before next (has.bytes ∙ ap (λ (bs : Option (List ℕ)). preceded text bs) e ∙ sym (preceded-append text piece next))
 
-if_some_map : (o : Option (List ℕ)) (P Q : List ℕ → Type 0) → ((bytes : List ℕ) → P bytes → Q bytes) → IfSome o P → IfSome o Q
+pub if_some_map : (o : Option (List ℕ)) (P Q : List ℕ → Type 0) → ((bytes : List ℕ) → P bytes → Q bytes) → IfSome o P → IfSome o Q
 if_some_map None P Q f h = tt
 if_some_map (Some bytes) P Q f h = f bytes h
 

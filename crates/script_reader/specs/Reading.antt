@@ -13,11 +13,11 @@ pub record Reading : Type 0 where
   pub may_put : Bool
   pub is_spent : Bool
 
--- Read: the bytes to come, where the source tells those that it has left.
+-- The bytes to come, where the source tells those that it has left.
 abbrev pub to_come : Reading → Option (List ℕ) → Option (List ℕ)
 to_come reading left = preceded reading.buffered left
 
--- Read: a `put` may come after the command where one might before it, and the command is none.
+-- A `put` may come after the command where one might before it, and the command is none.
 abbrev pub may_put_next : Bool → Command → Bool
 may_put_next may_put (commands.Put name text) = false
 may_put_next may_put (commands.Drop name) = may_put

@@ -1,6 +1,7 @@
 -- What the reader takes a line to say, as the definitions say it.
 use Rattle.std.specs.Prelude.{◌≤◌, length}
-use Rattle.output_meaning.specs.Commands as meant
+use Rattle.first_path_meaning.specs.Commands as meant
+use Rattle.name_meaning.specs.Limits.{line_limit}
 use Rattle.script_reader.specs.declared.said.Said.{Said}
 use Rattle.script_reader.specs.declared.said.Said.TheVariants.{Nothing, Puts, Reports, Wrong}
 
@@ -10,9 +11,9 @@ meaning_of (Puts name) = meant.puts name
 meaning_of (Reports name) = meant.reports name
 meaning_of Wrong = meant.wrong
 
--- Read: the name in what a line says is no longer than a line may be.
+-- The name in what a line says is no longer than a line may be.
 abbrev pub IsWithin : Said → Type 0
 IsWithin Nothing = Unit {0}
-IsWithin (Puts name) = length name ≤ meant.line_limit
-IsWithin (Reports name) = length name ≤ meant.line_limit
+IsWithin (Puts name) = length name ≤ line_limit
+IsWithin (Reports name) = length name ≤ line_limit
 IsWithin Wrong = Unit {0}

@@ -3,15 +3,15 @@ use Rattle.std.specs.Prelude.{◌≡◌, ◌<◌, ◌≤◌, ◌+◌, ℕ, false
 use Rattle.std.specs.declared.option.Option.{Option}
 use Rattle.mmt_outside.specs.Bytes.{preceded}
 use Rattle.output_meaning.specs.Lines.{lines_of, NoFeed}
-use Rattle.output_meaning.specs.Commands.{is_end_line, text_before, behind_end, text_limit}
-use Rattle.output_meaning.specs.Script.{line_after}
+use Rattle.output_meaning.specs.ScriptLines.{is_end_line, text_before, behind_end, line_after}
+use Rattle.name_meaning.specs.Limits.{text_limit}
 use Rattle.script_reader.specs.Pieces.{EndsInFeed}
 use Rattle.script_reader.specs.declared.text.TextLine.{TextLine}
 use Rattle.script_reader.specs.declared.text.TextLine.TheVariants.{Text, End, Last, Long}
 use Rattle.script_reader.specs.declared.text.Ending.{Ending}
 use Rattle.script_reader.specs.declared.text.Ending.TheVariants.{Whole, TooLong, Unended}
 
--- Read: a line of a text went to the end of the text; or the line was the end line, and the text is as before; or the
+-- A line of a text went to the end of the text; or the line was the end line, and the text is as before; or the
 -- input ended in a line that is not; or the line has no line feed among its first bytes, so many that it is no end line.
 abbrev pub IsTextLine : TextLine → List ℕ → List ℕ → List ℕ → Option (List ℕ) → Type 0
 IsTextLine Text text now piece after = EndsInFeed piece × (is_end_line piece ≡ false) × (now ≡ text ++ piece)
@@ -24,7 +24,7 @@ pub record ReadsTextLine (before after : Option (List ℕ)) (text now : List ℕ
   pub bytes : before ≡ preceded piece after
   pub is : IsTextLine line text now piece after
 
--- Read: a text was read, with its end line; or the text is too long; or it has no end line.
+-- A text was read, with its end line; or the text is too long; or it has no end line.
 abbrev pub TextGives : Ending → List (List ℕ) → Option (List ℕ) → ℕ → ℕ → Type 0
 TextGives (Whole text) lines after line now =
     (length text.items ≤ text_limit) × (text.items ≡ text_before lines)
@@ -32,11 +32,11 @@ TextGives (Whole text) lines after line now =
 TextGives TooLong lines after line now = text_limit < length (text_before lines)
 TextGives Unended lines after line now = (length (text_before lines) ≤ text_limit) × (behind_end lines ≡ None)
 
--- Read: where the bytes to come were told, they still are.
+-- Where the bytes to come were told, they still are.
 abbrev pub StaysTold : Option (List ℕ) → Option (List ℕ) → Type 0
 StaysTold before after = IsSome before → IsSome after
 
--- Read: a text that was read is no longer than the limit.
+-- A text that was read is no longer than the limit.
 abbrev pub IsWithinLimit : Ending → Type 0
 IsWithinLimit (Whole text) = length text.items ≤ text_limit
 IsWithinLimit TooLong = Unit {0}

@@ -13,6 +13,3 @@ mod text;
 pub use command::Command;
 pub use fault::ScriptFault;
 pub use script::Script;
-
-#[cfg(test)]
-mod tests;

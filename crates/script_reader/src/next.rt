@@ -2,7 +2,8 @@
 ghost use Rattle.std.specs.Prelude.{◌≡◌, ◌≤◌, ℕ, List, [], length, IfOk, IfErr, OnOk, IfSome};
 ghost use Rattle.mmt_outside.specs.Bytes.{preceded};
 ghost use Rattle.output_meaning.specs.Lines.{lines_of};
-ghost use Rattle.output_meaning.specs.Commands.{line_limit, put_of, next_of};
+ghost use Rattle.name_meaning.specs.Limits.{line_limit};
+ghost use Rattle.first_path_meaning.specs.Commands.{put_of, next_of};
 ghost use Rattle.script_reader.specs.Pieces.{IsCaused};
 ghost use Rattle.script_reader.specs.Answers.{IsFirstLine, IsAnswer, IsShort, IsGiven, HasCause};
 ghost use Rattle.script_reader.specs.Texts.{StaysTold};

@@ -3,12 +3,14 @@ ghost use Rattle.std.specs.Prelude.{◌≡◌, ◌≤◌, length, IfOk, if◌the
 ghost use Rattle.std.specs.List.{list_all};
 ghost use Rattle.std.specs.Str.Lines.{strip_carriage_return};
 ghost use Rattle.output_meaning.specs.Lines as lines;
-ghost use Rattle.output_meaning.specs.Commands as commands;
+ghost use Rattle.first_path_meaning.specs.Commands as commands;
+ghost use Rattle.name_meaning.specs.Limits.{line_limit};
+ghost use Rattle.output_meaning.specs.ScriptLines.{is_name, is_silent, is_end_line};
 ghost use Rattle.name_meaning.specs.Characters as characters;
 ghost use Rattle.script_reader.specs.Said.{meaning_of, IsWithin};
 
 use lf_terms::{Memory, Name, NameFault};
-use name_meaning::is_white_space;
+use identifiers::is_white_space;
 use std::alloc::Global;
 
 /// The greatest length of a line outside the text of a `put`, its line end not counted.
@@ -52,13 +54,13 @@ fn content(line: &[u8]) -> &[u8]
 
 /// Whether the line ends the text of a `put`.
 pub(crate) fn is_end_line(line: &[u8]) -> bool
-    ensures { result ≡ commands.is_end_line line.now }
+    ensures { result ≡ is_end_line line.now }
 {
     without_return(without_line_feed(line)) == b"%%end".as_slice()
 }
 
 fn name_of(alloc: Global, bytes: &[u8]) -> Result<Option<Name>, Memory>
-    ensures { IfOk result (λ name. name ≡ (if commands.is_name bytes.now then Some bytes.now else None)) }
+    ensures { IfOk result (λ name. name ≡ (if is_name bytes.now then Some bytes.now else None)) }
 {
     let Ok(text) = str::from_utf8(bytes) else {
         return Ok(None);
@@ -78,13 +80,13 @@ fn is_blank(content: &[u8]) -> bool
 
 /// Whether the content of a line is blank or a comment.
 fn is_silent(content: &[u8]) -> bool
-    ensures { result ≡ commands.is_silent content.now }
+    ensures { result ≡ is_silent content.now }
 {
     is_blank(content) || content.starts_with(b"#")
 }
 
 fn puts(alloc: Global, name: &[u8]) -> Result<Said, Memory>
-    requires { length name.now ≤ commands.line_limit }
+    requires { length name.now ≤ line_limit }
     ensures said { IfOk result (λ said. meaning_of said ≡ commands.of_name commands.puts name.now) }
     ensures within { IfOk result IsWithin }
 {
@@ -95,7 +97,7 @@ fn puts(alloc: Global, name: &[u8]) -> Result<Said, Memory>
 }
 
 fn reports(alloc: Global, name: &[u8]) -> Result<Said, Memory>
-    requires { length name.now ≤ commands.line_limit }
+    requires { length name.now ≤ line_limit }
     ensures said { IfOk result (λ said. meaning_of said ≡ commands.of_name commands.reports name.now) }
     ensures within { IfOk result IsWithin }
 {
@@ -106,7 +108,7 @@ fn reports(alloc: Global, name: &[u8]) -> Result<Said, Memory>
 }
 
 fn command_by(alloc: Global, content: &[u8]) -> Result<Said, Memory>
-    requires { length content.now ≤ commands.line_limit }
+    requires { length content.now ≤ line_limit }
     ensures said { IfOk result (λ said. meaning_of said ≡ commands.command_by content.now) }
     ensures within { IfOk result IsWithin }
 {

@@ -1,7 +1,7 @@
 //! The script that is read.
 ghost use Rattle.std.specs.Prelude.{◌≡◌, ◌≤◌, true, false, [], IsTrue, IfSome, IfOk, OnOk, OnErr, IsErrOf, ◌↔◌};
 ghost use Rattle.output_meaning.specs.Lines.{lines_of};
-ghost use Rattle.output_meaning.specs.Commands.{next_of};
+ghost use Rattle.first_path_meaning.specs.Commands.{next_of};
 ghost use Rattle.mmt_outside.specs.Faults.{Rose};
 ghost use Rattle.script_reader.specs.Reading.{to_come, may_put_next};
 ghost use Rattle.script_reader.specs.Answers.{IsAnswer, IsShort, IsGiven};

@@ -25,7 +25,7 @@ left_brace = 123
 abbrev pub right_brace : ℕ
 right_brace = 125
 
--- Read: the list has a first byte, and it passes the test.
+-- The list has a first byte, and it passes the test.
 abbrev pub begins : (ℕ → Bool) → List ℕ → Bool
 begins test [] = false
 begins test (b ∷ bs) = test b

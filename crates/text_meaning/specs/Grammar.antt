@@ -1,7 +1,8 @@
 -- Which tokens spell which tree: one case for each production, with the span that the production takes (this profile).
 -- The span beside a tree counts parentheses around the whole of it, the span within the tree does not.
 use Rattle.std.specs.Prelude.{List, [], ◌∷◌, ◌++◌, Some, None}
-use Rattle.text_meaning.specs.Tokens.{Span, Name, Path, Token, sign, ident, SigWord, ViewWord, IncludeWord, StructWord, AssignSign, ColonSign, LeftParen, RightParen, LeftBracket, RightBracket, LeftBrace, RightBrace, DotSign, TypeWord, ArrowSign, BackSign, EqualSign, BlankSign, EndSign}
+use Rattle.text_meaning.specs.Tokens.{Span, Token, sign, ident, SigWord, ViewWord, IncludeWord, StructWord, AssignSign, ColonSign, LeftParen, RightParen, LeftBracket, RightBracket, LeftBrace, RightBrace, DotSign, TypeWord, ArrowSign, BackSign, EqualSign, BlankSign, EndSign}
+use Rattle.name_meaning.specs.Names.{Name, Path}
 use Rattle.text_meaning.specs.Trees.{Binder, Expr, TypeExpr, NameExpr, AppExpr, PiExpr, LamExpr, TypedLamExpr, ArrowExpr, BackExpr, Exprs, NoArgs, ThenArg, Written, Assign, IncludeAssign, StructAssign, ConstAssign, Decl, IncludeDecl, StructDecl, ConstDecl, Module, SigModule, ViewModule, Judgement}
 
 -- from the first byte of one span to the last of another

@@ -11,3 +11,7 @@ pub mod Parsing
 pub mod Splitting
 pub mod Dividing
 pub mod UpToSpans
+pub mod Dependencies
+pub mod TextAnswers
+pub mod Places
+pub mod Labels

@@ -1,6 +1,7 @@
 -- The reader of tokens xs a function: a machine with a stack, one token a step.
 use Rattle.std.specs.Prelude.{ℕ, ◌+◌, Bool, true, false, ◌==◌, List, [], ◌∷◌, ◌++◌, Some, None, if◌then◌else◌}
-use Rattle.text_meaning.specs.Tokens.{Span, Name, Sign, Kind, Mark, Ident, Token, SigWord, ViewWord, IncludeWord, StructWord, OtherWord, Stray, AssignSign, ColonSign, LeftParen, RightParen, LeftBracket, RightBracket, LeftBrace, RightBrace, DotSign, TypeWord, ArrowSign, BackSign, EqualSign, BlankSign, EndSign}
+use Rattle.text_meaning.specs.Tokens.{Span, Sign, Kind, Mark, Ident, Token, SigWord, ViewWord, IncludeWord, StructWord, OtherWord, Stray, AssignSign, ColonSign, LeftParen, RightParen, LeftBracket, RightBracket, LeftBrace, RightBrace, DotSign, TypeWord, ArrowSign, BackSign, EqualSign, BlankSign, EndSign}
+use Rattle.name_meaning.specs.Names.{Name}
 use Rattle.text_meaning.specs.Trees.{Binder, Expr, TypeExpr, NameExpr, AppExpr, PiExpr, LamExpr, TypedLamExpr, ArrowExpr, BackExpr, Exprs, NoArgs, ThenArg, Written, Assign, IncludeAssign, StructAssign, ConstAssign, Decl, IncludeDecl, StructDecl, ConstDecl, SigModule, ViewModule}
 use Rattle.text_meaning.specs.Grammar.{join, applied, simple, written}
 use Rattle.text_meaning.specs.Nesting.{Nesting}

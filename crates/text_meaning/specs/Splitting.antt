@@ -1,6 +1,7 @@
 -- How a file is cut into its modules (this profile). Their insides are not read here.
 use Rattle.std.specs.Prelude.{◌≡◌, ℕ, suc, Bool, true, false, ◌||◌, List, [], ◌∷◌, ◌++◌}
-use Rattle.text_meaning.specs.Tokens.{Span, Name, Kind, Mark, Ident, Token, sign, ident, SigWord, ViewWord, IncludeWord, StructWord, OtherWord, LeftBrace, RightBrace, DotSign, EndSign}
+use Rattle.text_meaning.specs.Tokens.{Span, Kind, Mark, Ident, Token, sign, ident, SigWord, ViewWord, IncludeWord, StructWord, OtherWord, LeftBrace, RightBrace, DotSign, EndSign}
+use Rattle.name_meaning.specs.Names.{Name}
 use Rattle.text_meaning.specs.Cut.{Lexed, Tokens, NotUtf8, OpenComment, IsLexed}
 use Rattle.text_meaning.specs.Trees.{Written}
 use Rattle.text_meaning.specs.Grammar.{simple, join}

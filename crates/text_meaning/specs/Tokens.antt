@@ -1,4 +1,5 @@
 -- Tokens: what each is, and the bytes that it takes (this profile, after Twelf's lexer).
+use Rattle.name_meaning.specs.Names.{Path, Name}
 use Rattle.std.specs.Prelude.{ℕ, List, [], ◌∷◌, ◌++◌, codes, bytes_eq, cond}
 use Rattle.std.specs.List.{list_any}
 use Rattle.name_meaning.specs.Identifiers.{is_reserved}
@@ -8,13 +9,6 @@ use Rattle.text_meaning.specs.Bytes.{dot}
 pub record Span : Type 0 where
   pub from : ℕ
   pub to : ℕ
-
--- the bytes of a name; a path is a list of names
-abbrev pub Name : Type 0
-Name = List ℕ
-
-abbrev pub Path : Type 0
-Path = List Name
 
 -- the tokens that say no more than which they are:
 -- the percent words %sig %view %include %struct and any other, a byte that begins no token or a row of several runs

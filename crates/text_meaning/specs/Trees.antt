@@ -1,6 +1,7 @@
 -- The trees that texts spell: expressions, and the modules around them (this profile, in Twelf's module syntax).
-use Rattle.std.specs.Prelude.{List, Option}
-use Rattle.text_meaning.specs.Tokens.{Span, Name, Path}
+use Rattle.std.specs.Prelude.{[], ◌∷◌, List, Option}
+use Rattle.name_meaning.specs.Names.{Name, Path}
+use Rattle.text_meaning.specs.Tokens.{Span}
 
 -- the variable of a binder: its name, or none where `_` is written
 abbrev pub Binder : Type 0
@@ -47,3 +48,8 @@ pub data Module : Type 0 where
 pub record Judgement : Type 0 where
   pub object : Expr
   pub family : Expr
+
+-- The first name of a path.
+abbrev pub first_name : Path → Name
+first_name [] = []
+first_name (name ∷ path) = name

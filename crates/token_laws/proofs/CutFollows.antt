@@ -8,16 +8,14 @@ use Rattle.text_meaning.specs.Bytes.{line_feed, percent, dot, colon, left_brace,
 use Rattle.text_meaning.specs.Tokens.{Sign, Mark, Token, token, percent_sign, row_kind, dotted, spelled, Stray, AssignSign, ColonSign, DotSign}
 use Rattle.text_meaning.specs.Cut.{Ending, Finished, Unclosed, is_comment_mark, Closes, all_closed, opens, closes, passes, NeverCloses, begins_line_comment, ends_line, begins_nothing, is_row, ends_row, sign_in, brackets, bracket_sign, Cut, at_end, at_mark, white_space, line_comment, nested_comment, unclosed_comment, percent_word, stray_percent, stray_quote, assign, lone_colon, bracket, lone_dot, row}
 use Rattle.text_meaning.specs.Cutting.{Place, Between, Second, InLine, InComment, InWord, InRow, Move, GoOn, Stop, Cutting, ahead, token_first, percent_move, between_move, closed_place, move, follow, cut_on}
+use Rattle.std.proofs.lemmas.Bool.{not-true}
+use Rattle.list_laws.proofs.Booleans.{and_second}
 
 -- ---- tests
 
 pub and_front : (a b : Bool) → (a && b) ≡ true → a ≡ true
 and_front true b h = refl
 and_front false b h = h
-
-pub and_back : (a b : Bool) → (a && b) ≡ true → b ≡ true
-and_back true b h = h
-and_back false b h = absurd (true≢false (sym h))
 
 pub or_front : (a b : Bool) → (a || b) ≡ false → a ≡ false
 or_front true b h = h
@@ -26,14 +24,6 @@ or_front false b h = refl
 pub or_back : (a b : Bool) → (a || b) ≡ false → b ≡ false
 or_back true b h = absurd (true≢false h)
 or_back false b h = h
-
-pub not_true : (a : Bool) → not a ≡ true → a ≡ false
-not_true true h = absurd (true≢false (sym h))
-not_true false h = refl
-
-pub not_false : (a : Bool) → not a ≡ false → a ≡ true
-not_false true h = refl
-not_false false h = absurd (true≢false h)
 
 -- a property of each of these bytes holds of each byte that is one of them
 abbrev pub Each : (ℕ → Type 0) → List ℕ → Type 0
@@ -98,9 +88,9 @@ pub line_goes : (at : ℕ) (comment rest : List ℕ) → list_all (λ b. not (b 
     → cut_on InLine at (comment ++ rest) ≡ cut_on Between (at + length comment) rest
 line_goes at [] rest h e = line_ends at rest e ∙ ap (λ n. cut_on Between n rest) (omega arith)
 line_goes at (b ∷ comment) rest h e =
-    let no : (b == line_feed) ≡ false = not_true (b == line_feed) (and_front (not (b == line_feed)) _ h) in
+    let no : (b == line_feed) ≡ false = not-true (b == line_feed) (and_front (not (b == line_feed)) _ h) in
     step_is InLine at b (comment ++ rest) (GoOn [] InLine) (rw no refl)
-    ∙ line_goes (at + 1) comment rest (and_back (not (b == line_feed)) _ h) e
+    ∙ line_goes (at + 1) comment rest (and_second (not (b == line_feed)) _ h) e
     ∙ ap (λ n. cut_on Between n rest) (omega arith)
 
 pub percent_line : (at : ℕ) (bs : List ℕ) → begins_line_comment bs ≡ true → percent_move at bs ≡ GoOn [] InLine
@@ -153,10 +143,10 @@ passes_over n b c cs h (open' g) =
 
 -- the mark that stands here, if one does
 pub mark_front : (b c : ℕ) (t : Bool) → (b == percent && c == left_brace) ≡ true → (b ≡ percent) × (c ≡ left_brace)
-mark_front b c t h = (eqb-true b percent (and_front _ _ h), eqb-true c left_brace (and_back (b == percent) _ h))
+mark_front b c t h = (eqb-true b percent (and_front _ _ h), eqb-true c left_brace (and_second (b == percent) _ h))
 
 pub mark_back : (b c : ℕ) → (b == right_brace && c == percent) ≡ true → (b ≡ right_brace) × (c ≡ percent)
-mark_back b c h = (eqb-true b right_brace (and_front _ _ h), eqb-true c percent (and_back (b == right_brace) _ h))
+mark_back b c h = (eqb-true b right_brace (and_front _ _ h), eqb-true c percent (and_second (b == right_brace) _ h))
 
 opens_over : (n : ℕ) (cs : List ℕ) → Closing (suc n) cs → Closing n (percent ∷ left_brace ∷ cs)
 unfolding cut_on
@@ -216,7 +206,7 @@ word_goes from at w (b ∷ word) rest h e =
     let m : at + 1 + length word ≡ at + length (b ∷ word) = omega arith in
     let l : (w ++ b ∷ []) ++ word ≡ w ++ b ∷ word = append_assoc w (b ∷ []) word in
     step_is (InWord from w) at b (word ++ rest) (GoOn [] (InWord from (w ++ (b ∷ [])))) (rw (and_front (is_identifier_byte b) _ h) refl)
-    ∙ word_goes from (at + 1) (w ++ (b ∷ [])) word rest (and_back (is_identifier_byte b) _ h) e
+    ∙ word_goes from (at + 1) (w ++ (b ∷ [])) word rest (and_second (is_identifier_byte b) _ h) e
     ∙ rw (m, l) refl
 
 -- the rest of a run, as far as it goes
@@ -228,7 +218,7 @@ run_goes from at ws w (b ∷ run) rest h =
     let m : at + 1 + length run ≡ at + length (b ∷ run) = omega arith in
     let l : (w ++ b ∷ []) ++ run ≡ w ++ b ∷ run = append_assoc w (b ∷ []) run in
     step_is (InRow from ws w) at b (run ++ rest) (GoOn [] (InRow from ws (w ++ (b ∷ [])))) (rw (and_front (is_identifier_byte b) _ h) refl)
-    ∙ run_goes from (at + 1) ws (w ++ (b ∷ [])) run rest (and_back (is_identifier_byte b) _ h)
+    ∙ run_goes from (at + 1) ws (w ++ (b ∷ [])) run rest (and_second (is_identifier_byte b) _ h)
     ∙ rw (m, l) refl
 
 row_ends : (from at : ℕ) (ws : List (List ℕ)) (w rest : List ℕ) → ends_row rest ≡ true
@@ -237,14 +227,14 @@ unfolding cut_on
 row_ends from at ws w [] e = refl
 row_ends from at ws w (b ∷ bs) e =
     let t = token from at (row_kind (ws ++ (w ∷ []))) in
-    let no : (is_identifier_byte b || (b == dot && begins is_identifier_byte bs)) ≡ false = not_true _ e in
+    let no : (is_identifier_byte b || (b == dot && begins is_identifier_byte bs)) ≡ false = not-true _ e in
     let no_byte : is_identifier_byte b ≡ false = or_front _ _ no in
     let no_dot : (b == dot && begins is_identifier_byte bs) ≡ false = or_back (is_identifier_byte b) _ no in
     step_is (InRow from ws w) at b bs (token_first t (between_move at b bs)) (rw (no_byte, no_dot) refl)
     ∙ token_follows t (between_move at b bs) (λ q. cut_on q (at + 1) bs)
 
 pub run_front : (w : List ℕ) → is_run w ≡ true → list_all is_identifier_byte w ≡ true
-run_front w h = and_back (not (length w == 0)) _ h
+run_front w h = and_second (not (length w == 0)) _ h
 
 pub run_begins : (w rest : List ℕ) → is_run w ≡ true → begins is_identifier_byte (w ++ rest) ≡ true
 run_begins [] rest h = absurd (true≢false (sym h))
@@ -266,7 +256,7 @@ row_goes from at ws w (v ∷ vs) rest h e =
     step_is (InRow from ws w) at dot ((v ++ dotted vs) ++ rest) (GoOn [] (InRow from (ws ++ (w ∷ [])) [])) (rw b refl)
     ∙ ap (λ x. cut_on (InRow from (ws ++ (w ∷ [])) []) (at + 1) x) a
     ∙ run_goes from (at + 1) (ws ++ (w ∷ [])) [] v (dotted vs ++ rest) (run_front v run)
-    ∙ row_goes from (at + 1 + length v) (ws ++ (w ∷ [])) v vs rest (and_back (is_run v) _ h) e
+    ∙ row_goes from (at + 1 + length v) (ws ++ (w ∷ [])) v vs rest (and_second (is_run v) _ h) e
     ∙ rw (m, l) refl
 
 -- ---- the machine follows the relation
@@ -274,7 +264,7 @@ row_goes from at ws w (v ∷ vs) rest h e =
 pub percent_nothing : (at : ℕ) (bs : List ℕ) → begins_nothing bs ≡ true → percent_move at bs ≡ GoOn (token at (at + 1) (Mark Stray) ∷ []) Between
 percent_nothing at [] h = absurd (true≢false (sym h))
 percent_nothing at (b ∷ bs) h =
-    let no : ((is_white_space b || b == percent) || ((b == left_brace || b == dot) || is_identifier_byte b)) ≡ false = not_true _ h in
+    let no : ((is_white_space b || b == percent) || ((b == left_brace || b == dot) || is_identifier_byte b)) ≡ false = not-true _ h in
     let no1 : (is_white_space b || b == percent) ≡ false = or_front _ _ no in
     let no2 : ((b == left_brace || b == dot) || is_identifier_byte b) ≡ false = or_back (is_white_space b || b == percent) _ no in
     let no3 : (b == left_brace || b == dot) ≡ false = or_front _ _ no2 in
@@ -285,10 +275,10 @@ percent_nothing at (b ∷ bs) h =
 
 -- a byte of identifiers is none of the others
 pub not_white : (b : ℕ) → is_identifier_byte b ≡ true → is_white_space b ≡ false
-not_white b h = or_front _ _ (not_true _ h)
+not_white b h = or_front _ _ (not-true _ h)
 
 pub not_special : (b : ℕ) → is_identifier_byte b ≡ true → is_special b ≡ false
-not_special b h = or_back (is_white_space b) _ (not_true _ h)
+not_special b h = or_back (is_white_space b) _ (not-true _ h)
 
 not_one_of : (cs : List ℕ) (b : ℕ) → is_one_of b cs ≡ false → Each (λ c. (b == c) ≡ false) cs
 not_one_of [] b h = tt
@@ -318,8 +308,8 @@ row_first at ((b ∷ w) ∷ ws) rest h e =
     let m : at + 1 + length w + length (dotted ws) ≡ at + length (spelled ((b ∷ w) ∷ ws)) = omega (arith, length-append w (dotted ws)) in
     step_is Between at b ((w ++ dotted ws) ++ rest) (GoOn [] (InRow at [] (b ∷ []))) (rw (and_front (is_identifier_byte b) _ run) refl)
     ∙ ap (cut_on (InRow at [] (b ∷ [])) (at + 1)) a
-    ∙ run_goes at (at + 1) [] (b ∷ []) w (dotted ws ++ rest) (and_back (is_identifier_byte b) _ run)
-    ∙ row_goes at (at + 1 + length w) [] (b ∷ w) ws rest (and_back (is_run (b ∷ w)) _ h) e
+    ∙ run_goes at (at + 1) [] (b ∷ []) w (dotted ws ++ rest) (and_second (is_identifier_byte b) _ run)
+    ∙ row_goes at (at + 1 + length w) [] (b ∷ w) ws rest (and_second (is_run (b ∷ w)) _ h) e
     ∙ rw m refl
 
 pub cut_follows : {at : ℕ} {bytes : List ℕ} {ts : List Token} {e : Ending} → Cut at bytes ts e → cut_on Between at bytes ≡ record { tokens = ts; ending = e }

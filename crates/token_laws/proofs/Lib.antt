@@ -6,3 +6,4 @@ pub mod CutExamples
 pub mod Spans
 pub mod Steps
 pub mod PrintedTokens
+pub mod Bytes

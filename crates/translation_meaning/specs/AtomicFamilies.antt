@@ -2,7 +2,7 @@
 use Rattle.std.specs.Prelude.{⊤}
 use Rattle.lf_meaning.specs.Terms.{Family, Pi, AtFamily}
 
--- Read: the family is no Π.
+-- The family is no Π.
 abbrev pub IsAtomicFamily : Family → Type 0
 IsAtomicFamily (Pi domain codomain) = ⊥
 IsAtomicFamily (AtFamily p) = ⊤

@@ -1,10 +1,7 @@
 pub mod Heads
-pub mod HeadMaps
 pub mod Translation
 pub mod Unmapped
 pub mod AtomicFamilies
 pub mod ProperValues
 pub mod Differ
 pub mod TypedMaps
-pub mod Examples
-pub mod TranslationLaws

@@ -3,16 +3,16 @@
 use Rattle.std.specs.Prelude.{◌≡◌, ℕ, ◌<◌, Some, ⊤}
 use Rattle.lf_meaning.specs.Terms.{Constant, Object, Lam, At, Var, Con, App, Family, Pi, AtFamily, FamilyCon, FamilyApp}
 use Rattle.lf_meaning.specs.Signatures.{Value, SameAs, TermValue, FamilyValue}
-use Rattle.translation_meaning.specs.HeadMaps.{Image, HeadMap, image_of}
+use Rattle.lf_meaning.specs.HeadMaps.{Image, HeadMap, image_of}
 
--- Read: the object is no constant without arguments; as a value such a one is the same as the constant.
+-- The object is no constant without arguments; as a value such a one is the same as the constant.
 abbrev pub IsNoConstant : Object → Type 0
 IsNoConstant (Lam body) = ⊤
 IsNoConstant (At (Var index)) = ⊤
 IsNoConstant (At (Con constant)) = ⊥
 IsNoConstant (At (App r argument)) = ⊤
 
--- Read: the body of a family value is atomic and, where there is no binder, no constant without arguments.
+-- The body of a family value is atomic and, where there is no binder, no constant without arguments.
 abbrev pub IsValueBody : ℕ → Family → Type 0
 IsValueBody binders (Pi domain body) = ⊥
 IsValueBody binders (AtFamily (FamilyCon constant)) = 0 < binders
@@ -23,6 +23,6 @@ IsProperValue (SameAs constant) = ⊤
 IsProperValue (TermValue object) = IsNoConstant object
 IsProperValue (FamilyValue binders body) = IsValueBody binders body
 
--- Read: the values of all images are such.
+-- The values of all images are such.
 abbrev pub ValuesAreProper : HeadMap → Type 0
 ValuesAreProper along = (constant : Constant) (image : Image) → image_of along constant ≡ Some image → IsProperValue image.value

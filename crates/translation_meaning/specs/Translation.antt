@@ -3,14 +3,13 @@
 use Rattle.std.specs.Prelude.{ℕ, zero, suc, Option, Some, None, map}
 use Rattle.lf_meaning.specs.Terms.{Constant, Object, Lam, At, Var, Con, App, Family, Pi, AtFamily, AtomicFamily, FamilyCon, FamilyApp, Kind, Ty, PiKind}
 use Rattle.lf_meaning.specs.Erasure.{erase}
-use Rattle.lf_meaning.specs.Replacement.{Headed, Kept, Replaced}
+use Rattle.lf_meaning.specs.Replacement.{Headed, Kept, Replaced, replace_constants}
 use Rattle.lf_meaning.specs.Substitution.{action}
 use Rattle.lf_meaning.specs.Signatures.{Class, FamilyClass, KindClass, Value, SameAs, TermValue, FamilyValue}
-use Rattle.lf_substitution_laws.specs.Uniform.{replace_constants}
 use Rattle.translation_meaning.specs.Heads.{Head, ObjectHead, FamilyHead, head_takes}
-use Rattle.translation_meaning.specs.HeadMaps.{Image, Mapping, HeadMap, image_of}
+use Rattle.lf_meaning.specs.HeadMaps.{Image, Mapping, HeadMap, image_of}
 
--- Read: what stands in place of an object constant with this image. The same constant d is d; a term is itself, at the
+-- What stands in place of an object constant with this image. The same constant d is d; a term is itself, at the
 -- erasure of the image's classifier. An image of another level leaves the constant: no checked map has one.
 abbrev pub object_image : Constant → Class → Value → Headed
 object_image constant class (SameAs d) = Kept (Con d)
@@ -18,21 +17,21 @@ object_image constant (FamilyClass family) (TermValue object) = Replaced object 
 object_image constant (KindClass kind) (TermValue object) = Kept (Con constant)
 object_image constant class (FamilyValue binders body) = Kept (Con constant)
 
--- Read: a constant without an image stays.
+-- A constant without an image stays.
 abbrev pub headed_image : Constant → Option Image → Headed
 headed_image constant None = Kept (Con constant)
 headed_image constant (Some image) = object_image constant image.class image.value
 
--- Read: the object with each constant replaced by its image. A variable stays; an argument is taken hereditarily.
+-- The object with each constant replaced by its image. A variable stays; an argument is taken hereditarily.
 unfoldable pub translate_object : HeadMap → Object → Object
 translate_object along object = replace_constants (λ (constant : Constant). headed_image constant (image_of along constant)) object
 
--- Read: the kind of an image that is a family; of another image `type`.
+-- The kind of an image that is a family; of another image `type`.
 abbrev pub image_kind : Class → Kind
 image_kind (FamilyClass family) = Ty
 image_kind (KindClass kind) = kind
 
--- Read: what stands in place of a family constant with this image, at the kind of the image.
+-- What stands in place of a family constant with this image, at the kind of the image.
 abbrev pub family_image : Constant → Class → Value → Head
 family_image constant class (SameAs d) = FamilyHead zero (AtFamily (FamilyCon d)) (image_kind class)
 family_image constant class (TermValue object) = FamilyHead zero (AtFamily (FamilyCon constant)) (image_kind class)
@@ -42,12 +41,12 @@ abbrev pub family_head_image : Constant → Option Image → Head
 family_head_image constant None = FamilyHead zero (AtFamily (FamilyCon constant)) Ty
 family_head_image constant (Some image) = family_image constant image.class image.value
 
--- Read: the head that stands for a translated atomic family.
+-- The head that stands for a translated atomic family.
 unfoldable pub translate_head : HeadMap → AtomicFamily → Head
 translate_head along (FamilyCon constant) = family_head_image constant (image_of along constant)
 translate_head along (FamilyApp p argument) = head_takes (translate_head along p) (translate_object along argument)
 
--- Read: the family of a head.
+-- The family of a head.
 abbrev pub family_of : Head → AtomicFamily → Family
 family_of (ObjectHead object classifier) p = AtFamily p
 family_of (FamilyHead binders family kind) p = family
@@ -64,7 +63,7 @@ abbrev pub translate_class : HeadMap → Class → Class
 translate_class along (FamilyClass family) = FamilyClass (translate_family along family)
 translate_class along (KindClass kind) = KindClass (translate_kind along kind)
 
--- Read: the value of an object, or of a family with so many binders. A bare constant is the same as that constant.
+-- The value of an object, or of a family with so many binders. A bare constant is the same as that constant.
 abbrev pub object_value : Object → Value
 object_value (Lam body) = TermValue (Lam body)
 object_value (At (Var index)) = TermValue (At (Var index))
@@ -77,12 +76,12 @@ family_value zero (AtFamily (FamilyCon constant)) = SameAs constant
 family_value zero (AtFamily (FamilyApp p argument)) = FamilyValue zero (AtFamily (FamilyApp p argument))
 family_value (suc binders) body = FamilyValue (suc binders) body
 
--- Read: the value of the image, or the same constant where it has none.
+-- The value of the image, or the same constant where it has none.
 abbrev pub same_image : Constant → Option Image → Value
 same_image constant None = SameAs constant
 same_image constant (Some image) = image.value
 
--- Read: the translated value. That of a constant is the value of its image.
+-- The translated value. That of a constant is the value of its image.
 unfoldable pub translate_value : HeadMap → Value → Value
 translate_value along (SameAs constant) = same_image constant (image_of along constant)
 translate_value along (TermValue object) = object_value (translate_object along object)
@@ -91,6 +90,6 @@ translate_value along (FamilyValue binders body) = family_value binders (transla
 abbrev pub translate_image : HeadMap → Image → Image
 translate_image along image = record { class = translate_class along image.class; value = translate_value along image.value }
 
--- Read: the composition of two maps: the constants of the first, each with its image translated along the second.
+-- The composition of two maps: the constants of the first, each with its image translated along the second.
 unfoldable pub compose : HeadMap → HeadMap → HeadMap
 compose first second = map (λ (mapping : Mapping). record { name = mapping.name; image = translate_image second mapping.image }) first

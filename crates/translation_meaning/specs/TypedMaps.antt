@@ -2,15 +2,15 @@
 use Rattle.std.specs.Prelude.{◌≡◌, ℕ, Option, Some, None, slice_get, ⊤}
 use Rattle.lf_meaning.specs.Signatures.{Value, Declaration, Signature}
 use Rattle.lf_meaning.specs.Judgements.{Fits}
-use Rattle.translation_meaning.specs.HeadMaps.{Image, HeadMap, image_of}
+use Rattle.lf_meaning.specs.HeadMaps.{Image, HeadMap, image_of}
 use Rattle.translation_meaning.specs.Translation.{translate_class, translate_value}
 
--- Read: the image has the translated value of a defined constant; of an undefined one nothing is said.
+-- The image has the translated value of a defined constant; of an undefined one nothing is said.
 abbrev pub KeepsValue : HeadMap → Option Value → Image → Type 0
 KeepsValue along None image = ⊤
 KeepsValue along (Some value) image = image.value ≡ translate_value along value
 
--- Read: the constant of this declaration has an image of its translated class, whose value fits that class over the target,
+-- The constant of this declaration has an image of its translated class, whose value fits that class over the target,
 -- and is the translated value where the constant is defined.
 pub record IsTypedAt (to : Signature) (along : HeadMap) (declaration : Declaration) : Type 0 where
   pub image : Image
@@ -19,6 +19,6 @@ pub record IsTypedAt (to : Signature) (along : HeadMap) (declaration : Declarati
   pub fits : Fits to image.value image.class
   pub value : KeepsValue along declaration.value image
 
--- Read: the map is typed from one signature to the other.
+-- The map is typed from one signature to the other.
 abbrev pub IsTypedMap : Signature → Signature → HeadMap → Type 0
 IsTypedMap from to along = (place : ℕ) (declaration : Declaration) → slice_get from place ≡ Some declaration → IsTypedAt to along declaration

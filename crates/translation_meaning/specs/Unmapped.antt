@@ -3,14 +3,14 @@
 use Rattle.std.specs.Prelude.{[], ◌∷◌, Option, Some, None}
 use Rattle.lf_meaning.specs.Terms.{Constant, Object, Lam, At, Atomic, Var, Con, App, Family, Pi, AtFamily, AtomicFamily, FamilyCon, FamilyApp, Kind, Ty, PiKind}
 use Rattle.lf_meaning.specs.Signatures.{Class, FamilyClass, KindClass, Value, SameAs, TermValue, FamilyValue}
-use Rattle.translation_meaning.specs.HeadMaps.{Image, HeadMap, image_of}
+use Rattle.lf_meaning.specs.HeadMaps.{Image, HeadMap, image_of}
 
--- Read: the first of the two, if there is one.
+-- The first of the two, if there is one.
 abbrev pub first_of : Option Constant → Option Constant → Option Constant
 first_of None second = second
 first_of (Some constant) second = Some constant
 
--- Read: the constant, where it has no image.
+-- The constant, where it has no image.
 abbrev pub without_image : Constant → Option Image → Option Constant
 without_image constant None = Some constant
 without_image constant (Some image) = None
@@ -46,7 +46,7 @@ unmapped_value along (SameAs constant) = without_image constant (image_of along 
 unmapped_value along (TermValue object) = unmapped_object along object
 unmapped_value along (FamilyValue binders body) = unmapped_family along body
 
--- Read: that of the first mapping of a map which has one, its class before its value.
+-- That of the first mapping of a map which has one, its class before its value.
 unfoldable pub unmapped_map : HeadMap → HeadMap → Option Constant
 unmapped_map along [] = None
 unmapped_map along (first ∷ mappings) =

@@ -2,18 +2,17 @@
 use Rattle.std.proofs.Common.{◌≡◌, ℕ, zero, suc, [], ◌∷◌, Some, refl, ap, ap₂}
 use Rattle.lf_meaning.specs.Terms.{Constant, Object, Lam, At, Atomic, Var, Con, App, Family, Pi, AtFamily, AtomicFamily, FamilyCon, FamilyApp, Kind, Ty, PiKind, Context, with_domains}
 use Rattle.lf_meaning.specs.Erasure.{erase, erase_context}
-use Rattle.lf_meaning.specs.Replacement.{object_of, takes, replace, replace_head}
+use Rattle.lf_meaning.specs.Replacement.{object_of, takes, replace, replace_head, of_constants}
 use Rattle.lf_meaning.specs.Signatures.{Class, FamilyClass, KindClass, Value, SameAs, TermValue, FamilyValue, Signature, class_of}
 use Rattle.lf_meaning.specs.Judgements.{Checks, IsFamily, IsKind, IsContext, IsClass, Fits}
-use Rattle.lf_substitution_laws.specs.Uniform.{of_constants}
-use Rattle.lf_metatheory.proofs.Typed.{checks_sort}
+use Rattle.lf_typing.proofs.Typed.{checks_sort}
 use Rattle.translation_meaning.specs.Heads.{head_takes}
-use Rattle.translation_meaning.specs.HeadMaps.{HeadMap, image_of}
+use Rattle.lf_meaning.specs.HeadMaps.{HeadMap, image_of}
 use Rattle.translation_meaning.specs.Translation.{headed_image, family_head_image, family_of, translate_object, translate_head, translate_family, translate_kind, translate_class, translate_value, object_value, family_value, same_image}
 use Rattle.translation_typing.specs.TypedTranslation.{translate_context}
-use Rattle.sorted_translation.proofs.Kinded.{family_kinded, kind_kinded}
-use Rattle.sorted_translation.proofs.Known.{ObjectKnown, AtomicKnown, HeadKnown, FamilyKnown, KindKnown, object_known, family_known, kind_known}
-use Rattle.sorted_translation.proofs.Images.{by_images}
+use Rattle.translation_sort_laws.proofs.Kinded.{family_kinded, kind_kinded}
+use Rattle.translation_sort_laws.proofs.Known.{ObjectKnown, AtomicKnown, HeadKnown, FamilyKnown, KindKnown, object_known, family_known, kind_known}
+use Rattle.translation_sort_laws.proofs.Images.{by_images}
 
 abbrev pub AgreeOn : Signature → HeadMap → HeadMap → Type 0
 AgreeOn sig first second = (c : Constant) (class : Class) → class_of sig c ≡ Some class → image_of first c ≡ image_of second c

@@ -3,26 +3,25 @@ use Rattle.std.proofs.Common.{◌≡◌, ℕ, zero, suc, [], ◌∷◌, Some, re
 use Rattle.std.specs.Prelude.{slice_get}
 use Rattle.lf_meaning.specs.Terms.{Constant, Object, Lam, At, Atomic, Var, Con, App, Family, Pi, AtFamily, AtomicFamily, FamilyCon, FamilyApp, Kind, Ty, PiKind, Context, Base, SimpleContext, with_domains, domain_count}
 use Rattle.lf_meaning.specs.Erasure.{erase, erase_context, head_constant}
-use Rattle.lf_meaning.specs.Replacement.{Headed, object_of, replace_head}
+use Rattle.lf_meaning.specs.Replacement.{Headed, object_of, replace_head, of_constants}
 use Rattle.lf_meaning.specs.Substitution.{substitute_family, substitute_kind}
 use Rattle.lf_meaning.specs.Signatures.{Class, FamilyClass, KindClass, Value, SameAs, TermValue, FamilyValue, Signature, class_of}
 use Rattle.lf_meaning.specs.Judgements.{VariableHas, Checks, Synthesises, SynthesisesKind, IsFamily, IsKind, IsContext, IsSignature, IsClass, Fits}
-use Rattle.lf_meaning.proofs.Lookups.{get_map}
-use Rattle.lf_substitution_laws.specs.Uniform.{of_constants}
+use Rattle.lf_term_laws.proofs.Lookups.{get_map}
 use Rattle.lf_substitution_laws.proofs.Constants.{any_depth}
-use Rattle.lf_metatheory.proofs.Typed.{checks_sort, more_checks, more_family, more_kind}
-use Rattle.lf_metatheory.proofs.HeadTyping.{synthesised_is_family, synthesised_is_kind, HeadedHas, headed_object, headed_takes}
-use Rattle.lf_metatheory.proofs.SubstitutionTyping.{substitute_is_family}
-use Rattle.lf_metatheory.proofs.Regular.{context_sorted}
+use Rattle.lf_typing.proofs.Typed.{checks_sort, more_checks, more_family, more_kind}
+use Rattle.lf_typing.proofs.HeadTyping.{synthesised_is_family, synthesised_is_kind, HeadedHas, headed_object, headed_takes}
+use Rattle.lf_typing.proofs.SubstitutionTyping.{substitute_is_family}
+use Rattle.lf_typing.proofs.Regular.{context_sorted}
 use Rattle.translation_meaning.specs.Heads.{Head, ObjectHead, FamilyHead, head_takes}
-use Rattle.translation_meaning.specs.HeadMaps.{HeadMap, image_of}
+use Rattle.lf_meaning.specs.HeadMaps.{HeadMap, image_of}
 use Rattle.translation_meaning.specs.Translation.{object_image, headed_image, family_image, family_head_image, family_of, translate_object, translate_head, translate_family, translate_kind, translate_class, translate_value, object_value, family_value, same_image}
 use Rattle.translation_typing.specs.TypedTranslation.{translate_context}
-use Rattle.sorted_translation.proofs.KindDomains.{domains_append}
-use Rattle.sorted_translation.proofs.Kinded.{IsKinded, family_kinded, kind_kinded}
-use Rattle.sorted_translation.proofs.Bases.{bases, erase_translated}
-use Rattle.sorted_translation.proofs.Images.{IsMap, by_images}
-use Rattle.sorted_translation.proofs.Commuting.{raise_family_translated, substitute_family_translated, substitute_kind_translated}
+use Rattle.translation_sort_laws.proofs.KindDomains.{domains_append}
+use Rattle.translation_sort_laws.proofs.Kinded.{IsKinded, family_kinded, kind_kinded}
+use Rattle.translation_sort_laws.proofs.Bases.{bases, erase_translated}
+use Rattle.translation_sort_laws.proofs.Images.{IsMap, by_images}
+use Rattle.translation_sort_laws.proofs.Commuting.{raise_family_translated, substitute_family_translated, substitute_kind_translated}
 use Rattle.translation_typing.specs.FamilyHeads.{FamilyTyped, OnSpine, UnderBinders}
 use Rattle.translation_typing.proofs.TypedHeads.{HeadIs, domains_context, kind_of_body, spine_taken, binder_taken, family_whole}
 

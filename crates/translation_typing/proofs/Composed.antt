@@ -3,21 +3,19 @@ use Rattle.std.proofs.Common.{◌≡◌, ℕ, slice_get, Option, Some, None, opt
 use Rattle.lf_meaning.specs.Terms.{Constant, Pi, AtFamily}
 use Rattle.lf_meaning.specs.Signatures.{Class, Value, SameAs, TermValue, FamilyValue, Declaration, Signature}
 use Rattle.lf_meaning.specs.Judgements.{IsClass, Fits}
-use Rattle.translation_meaning.specs.HeadMaps.{Image, HeadMap, image_of}
+use Rattle.lf_meaning.specs.HeadMaps.{Image, HeadMap, image_of}
 use Rattle.translation_meaning.specs.Translation.{translate_object, translate_family, translate_class, translate_value, translate_image, same_image, compose}
 use Rattle.translation_meaning.specs.ProperValues.{IsProperValue, ValuesAreProper}
 use Rattle.translation_meaning.specs.TypedMaps.{KeepsValue, IsTypedAt}
-use Rattle.translation_meaning.proofs.Spines.{composed}
-use Rattle.sorted_translation.specs.AtomicBodies.{HasAtomicBody, BodiesAreAtomic}
+use Rattle.translation_laws.proofs.Spines.{composed}
+use Rattle.translation_sort_laws.specs.AtomicBodies.{HasAtomicBody, BodiesAreAtomic}
 use Rattle.translation_typing.specs.Composition.{AreComposable, ObjectsAreComposed, FamiliesAreComposed, KindsAreComposed, ClassesAreComposed, ValuesAreComposed, CompositionIsTyped, CompositionIsProper}
-use Rattle.sorted_translation.proofs.Bases.{atomic_translated}
+use Rattle.translation_sort_laws.proofs.Bases.{atomic_translated}
 use Rattle.translation_typing.proofs.Proper.{proper_atomic, object_value_proper, family_value_proper}
 use Rattle.translation_typing.proofs.DeclaredTyped.{declared_typed}
 use Rattle.translation_typing.proofs.Laws.{class_carried, value_carried}
 use Rattle.translation_typing.proofs.Composing.{object_composed, family_composed, kind_composed, class_composed, value_composed}
-
-some_is : {A : Type 0} {x y : A} → Some x ≡ Some y → x ≡ y
-some_is e = cc
+use Rattle.std.proofs.lemmas.Option.{same_Some}
 
 same_image_proper : (along : HeadMap) → ValuesAreProper along → (c : Constant) (o : Option Image) → image_of along c ≡ o → IsProperValue (same_image c o)
 same_image_proper along h c None e = tt
@@ -34,7 +32,7 @@ value_proper along atomic proper (FamilyValue n (AtFamily p)) h = family_value_p
 
 image_in : (second : HeadMap) (o : Option Image) (image : Image) → option_map (translate_image second) o ≡ Some image → (i : Image) × (o ≡ Some i) × (image ≡ translate_image second i)
 image_in second None image h = absurd (cc)
-image_in second (Some i) image h = (i, refl, some_is (sym h))
+image_in second (Some i) image h = (i, refl, same_Some _ _ (sym h))
 
 module _ (from middle to : Signature) (first second : HeadMap) (is : AreComposable from middle to first second) where
   composed_image : (c : Constant) (image : Image) → image_of (compose first second) c ≡ Some image → (i : Image) × (image_of first c ≡ Some i) × (image ≡ translate_image second i)

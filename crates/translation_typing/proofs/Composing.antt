@@ -2,29 +2,28 @@
 use Rattle.std.proofs.Common.{◌≡◌, ℕ, zero, suc, [], ◌∷◌, ◌++◌, length, Some, option_map, refl, sym, ap, ap₂, ◌∙◌, subst, subst₂, arith}
 use Rattle.lf_meaning.specs.Terms.{Constant, Object, Lam, At, Atomic, Var, Con, App, Family, Pi, AtFamily, AtomicFamily, FamilyCon, FamilyApp, Kind, Ty, PiKind, Context, Base, with_domains, domain_count}
 use Rattle.lf_meaning.specs.Erasure.{erase, head_constant}
-use Rattle.lf_meaning.specs.Replacement.{Headed, Kept, Replaced, object_of, takes, value_takes, replace, replace_head, replace_headed}
+use Rattle.lf_meaning.specs.Replacement.{Headed, Kept, Replaced, object_of, takes, value_takes, replace, replace_head, replace_headed, of_constants}
 use Rattle.lf_meaning.specs.Substitution.{action, substitution, substitute, substitute_family, substitute_atomic_family}
 use Rattle.lf_meaning.specs.Signatures.{Class, FamilyClass, KindClass, Value, SameAs, TermValue, FamilyValue, Signature, class_of}
 use Rattle.lf_meaning.specs.Judgements.{Checks, Synthesises, SynthesisesKind, IsFamily, IsKind, IsContext, IsClass, Fits}
-use Rattle.lf_substitution_laws.specs.Uniform.{of_constants}
 use Rattle.lf_substitution_laws.proofs.Constants.{any_depth}
 use Rattle.lf_substitution_laws.proofs.Commuting.{replace_object_of}
 use Rattle.lf_substitution_laws.proofs.Domains.{rename_retypes, retyped_action}
-use Rattle.lf_metatheory.proofs.Closed.{class_is_family, class_is_kind}
-use Rattle.lf_metatheory.proofs.HeadTyping.{synthesised_is_family, synthesised_is_kind, HeadedHas}
+use Rattle.lf_typing.proofs.Closed.{class_is_family, class_is_kind}
+use Rattle.lf_typing.proofs.HeadTyping.{synthesised_is_family, synthesised_is_kind, HeadedHas}
 use Rattle.translation_meaning.specs.Heads.{Head, ObjectHead, FamilyHead, head_takes}
 use Rattle.translation_meaning.specs.ProperValues.{IsProperValue}
-use Rattle.translation_meaning.specs.HeadMaps.{Image, HeadMap, image_of}
+use Rattle.lf_meaning.specs.HeadMaps.{Image, HeadMap, image_of}
 use Rattle.translation_meaning.specs.Translation.{object_image, headed_image, family_image, family_head_image, family_of, translate_object, translate_head, translate_family, translate_kind, translate_class, translate_value, translate_image, object_value, family_value, same_image, compose}
-use Rattle.translation_meaning.proofs.Spines.{composed}
+use Rattle.translation_laws.proofs.Spines.{composed}
 use Rattle.translation_typing.specs.TypedTranslation.{translate_context, IsTypedTranslation}
-use Rattle.sorted_translation.specs.AtomicBodies.{HasAtomicBody}
+use Rattle.translation_sort_laws.specs.AtomicBodies.{HasAtomicBody}
 use Rattle.translation_typing.specs.Composition.{AreComposable}
-use Rattle.sorted_translation.proofs.KindDomains.{domains_append, domains_length}
+use Rattle.translation_sort_laws.proofs.KindDomains.{domains_append, domains_length}
 use Rattle.translation_typing.specs.FamilyHeads.{FamilyTyped, OnSpine, UnderBinders}
 use Rattle.translation_typing.proofs.TypedHeads.{domains_context, HeadIs, binder_taken, family_whole}
-use Rattle.sorted_translation.proofs.Bases.{bases, renamed, erase_translated, HasBase, head_base}
-use Rattle.sorted_translation.proofs.Images.{by_images}
+use Rattle.translation_sort_laws.proofs.Bases.{bases, renamed, erase_translated, HasBase, head_base}
+use Rattle.translation_sort_laws.proofs.Images.{by_images}
 use Rattle.translation_typing.proofs.Proper.{proper_object, proper_body}
 use Rattle.translation_typing.proofs.Carrying.{domains_translated, count_translated}
 use Rattle.translation_typing.proofs.Laws.{Images, typed_images, context_carried, family_carried, kind_carried, object_carried, atomic_carried, head_carried, substituted_object, substituted_family, substituted_kind}

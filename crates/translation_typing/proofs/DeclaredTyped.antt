@@ -3,15 +3,13 @@ use Rattle.std.proofs.Common.{◌≡◌, ℕ, zero, suc, [], ◌∷◌, ◌++◌
 use Rattle.lf_meaning.specs.Terms.{Constant}
 use Rattle.lf_meaning.specs.Signatures.{Class, Value, Declaration, Signature, class_of}
 use Rattle.lf_meaning.specs.Judgements.{IsClass, Fits, ValueFits, IsDeclaration, IsSignature}
-use Rattle.lf_metatheory.proofs.Declared.{class_more as class_later}
+use Rattle.lf_typing.proofs.Declared.{class_more as class_later}
 use Rattle.translation_typing.proofs.Grown.{class_more, fits_more}
-
-some_is : {A : Type 0} {x y : A} → Some x ≡ Some y → x ≡ y
-some_is e = cc
+use Rattle.std.proofs.lemmas.Option.{same_Some}
 
 pub split_at : (sig : Signature) (place : ℕ) (d : Declaration) → slice_get sig place ≡ Some d → sig ≡ take place sig ++ (d ∷ drop (suc place) sig)
 split_at [] place d e = absurd (cc)
-split_at (x ∷ sig) zero d e = ap (λ z. z ∷ sig) (some_is e)
+split_at (x ∷ sig) zero d e = ap (λ z. z ∷ sig) (same_Some _ _ e)
 split_at (x ∷ sig) (suc place) d e = ap (λ z. x ∷ z) (split_at sig place d e)
 
 pub record DeclaredTyped (sig : Signature) (d : Declaration) : Type 0 where

@@ -3,7 +3,7 @@ use Rattle.std.proofs.Common.{◌≡◌, [], Option, Some, None, subst, append-n
 use Rattle.lf_meaning.specs.Terms.{Constant, with_domains}
 use Rattle.lf_meaning.specs.Signatures.{Class, FamilyClass, KindClass, Value, SameAs, TermValue, FamilyValue, Declaration, Signature, class_of}
 use Rattle.lf_meaning.specs.Judgements.{IsFamily, IsClass, Fits, ValueFits, IsDeclaration}
-use Rattle.lf_metatheory.proofs.Typed.{more_checks, more_family, more_kind}
+use Rattle.lf_typing.proofs.Typed.{more_checks, more_family, more_kind}
 
 module _ (before sig : Signature) (grown : (c : Constant) (class : Class) → class_of before c ≡ Some class → class_of sig c ≡ Some class) where
   pub class_more : (class : Class) → IsClass before class → IsClass sig class

@@ -9,33 +9,31 @@ use Rattle.lf_meaning.specs.Substitution.{substitute, substitute_family, substit
 use Rattle.lf_meaning.specs.Sorts.{HasSort, sorts_of}
 use Rattle.lf_meaning.specs.Signatures.{Class, Value, Declaration, Signature, same_constant, declaration_of, undefined_class, class_of}
 use Rattle.lf_meaning.specs.Judgements.{Checks, Synthesises, SynthesisesKind, IsFamily, IsKind, IsContext, IsSignature, IsClass, IsDeclaration, Fits}
-use Rattle.lf_meaning.proofs.Equality.{same_constant_sound}
-use Rattle.lf_metatheory.proofs.Declared.{declared_as, found_in, class_more}
-use Rattle.lf_metatheory.proofs.Closed.{class_is_class}
-use Rattle.lf_metatheory.proofs.Growing.{signature_shrinks}
-use Rattle.lf_metatheory.proofs.Typed.{checks_sort, synthesises_sort}
-use Rattle.lf_metatheory.proofs.HeadTyping.{synthesised_is_family, synthesised_is_kind, HeadedHas}
-use Rattle.lf_meaning.specs.Replacement.{replace_head}
-use Rattle.lf_substitution_laws.specs.Uniform.{of_constants}
-use Rattle.lf_metatheory.proofs.Regular.{erase_split, length_erased}
-use Rattle.translation_meaning.specs.HeadMaps.{HeadMap, image_of}
+use Rattle.lf_term_laws.proofs.Equality.{same_constant_sound}
+use Rattle.lf_typing.proofs.Declared.{declared_as, found_in, class_more}
+use Rattle.lf_typing.proofs.Closed.{class_is_class}
+use Rattle.lf_typing.proofs.Growing.{signature_shrinks}
+use Rattle.lf_typing.proofs.Typed.{checks_sort, synthesises_sort}
+use Rattle.lf_typing.proofs.HeadTyping.{synthesised_is_family, synthesised_is_kind, HeadedHas}
+use Rattle.lf_meaning.specs.Replacement.{replace_head, of_constants}
+use Rattle.lf_typing.proofs.Regular.{erase_split, length_erased}
+use Rattle.lf_meaning.specs.HeadMaps.{HeadMap, image_of}
 use Rattle.translation_meaning.specs.Translation.{translate_object, translate_head, translate_family, translate_kind, translate_class, translate_value}
 use Rattle.translation_meaning.specs.TypedMaps.{IsTypedMap}
-use Rattle.sorted_translation.specs.AtomicBodies.{BodiesAreAtomic}
+use Rattle.translation_sort_laws.specs.AtomicBodies.{BodiesAreAtomic}
 use Rattle.translation_typing.specs.TypedTranslation.{translate_context, IsTypedTranslation, TypingIsCarried, ContextsAreCarried, FamiliesAreCarried, KindsAreCarried, ClassesAreCarried, ValuesAreCarried, RaisedObjectsAreTranslated, RaisedFamiliesAreTranslated, RaisedKindsAreTranslated, SubstitutedObjectsAreTranslated, SubstitutedFamiliesAreTranslated, SubstitutedKindsAreTranslated}
-use Rattle.sorted_translation.proofs.Kinded.{kind_has_domains, IsKinded, IsKindedKind, family_kinded, kind_kinded}
-use Rattle.sorted_translation.proofs.Known.{AtomicKnown, HeadKnown, atomic_known, head_known, object_known, family_known, kind_known, raised_object_known, raised_family_known, raised_kind_known, substituted_object_known, substituted_family_known, substituted_kind_known}
-use Rattle.sorted_translation.proofs.Bases.{renamed, erase_translated}
-use Rattle.sorted_translation.proofs.Commuting.{raise_translated, raise_family_translated, raise_kind_translated, substitute_translated, substitute_family_translated, substitute_kind_translated}
-use Rattle.sorted_translation.proofs.Images.{TypedImage, IsMap, by_images}
+use Rattle.translation_sort_laws.proofs.Kinded.{kind_has_domains, IsKinded, IsKindedKind, family_kinded, kind_kinded}
+use Rattle.translation_sort_laws.proofs.Known.{AtomicKnown, HeadKnown, atomic_known, head_known, object_known, family_known, kind_known, raised_object_known, raised_family_known, raised_kind_known, substituted_object_known, substituted_family_known, substituted_kind_known}
+use Rattle.translation_sort_laws.proofs.Bases.{renamed, erase_translated}
+use Rattle.translation_sort_laws.proofs.Commuting.{raise_translated, raise_family_translated, raise_kind_translated, substitute_translated, substitute_family_translated, substitute_kind_translated}
+use Rattle.translation_sort_laws.proofs.Images.{TypedImage, IsMap, by_images}
 use Rattle.translation_typing.proofs.TypedHeads.{HeadIs}
-use Rattle.sorted_translation.proofs.KindDomains.{domains_of}
+use Rattle.translation_sort_laws.proofs.KindDomains.{domains_of}
 use Rattle.translation_typing.proofs.Restricted.{restrict, restricted_there, restricted_declared}
 use Rattle.translation_typing.proofs.Agreeing.{AgreeOn, replace_head_agrees, head_agrees, class_agrees, context_agrees, object_agrees, family_agrees, kind_agrees, checked_agrees, typed_family_agrees, typed_kind_agrees, value_agrees}
 use Rattle.translation_typing.proofs.Carrying.{synthesises_translated, head_translated, class_translated, context_translated, family_translated, kind_translated, checks_translated, value_translated}
-
-some_is : {A : Type 0} {x y : A} → Some x ≡ Some y → x ≡ y
-some_is e = cc
+use Rattle.std.proofs.lemmas.Option.{same_Some}
+use Rattle.lf_term_laws.proofs.Declarations.{undefined_is}
 
 -- ---- images of a typed map
 
@@ -45,16 +43,12 @@ record Placed (sig : Signature) (c : Constant) (d : Declaration) : Type 0 where
   name : d.name ≡ c
 
 placed_by : (b : Bool) (e d : Declaration) (sig : Signature) (c : Constant) → same_constant e.name c ≡ b → (declaration_of sig c ≡ Some d → Placed sig c d) → cond b (Some e) (declaration_of sig c) ≡ Some d → Placed (e ∷ sig) c d
-placed_by true e d sig c f rest h = let same : e ≡ d = some_is h in record { place = zero; found = h; name = ap (λ (z : Declaration). z.name) (sym same) ∙ same_constant_sound e.name c f }
+placed_by true e d sig c f rest h = let same : e ≡ d = same_Some _ _ h in record { place = zero; found = h; name = ap (λ (z : Declaration). z.name) (sym same) ∙ same_constant_sound e.name c f }
 placed_by false e d sig c f rest h = let p = rest h in record { place = suc p.place; found = p.found; name = p.name }
 
 placed : (sig : Signature) (c : Constant) (d : Declaration) → declaration_of sig c ≡ Some d → Placed sig c d
 placed [] c d h = absurd (cc)
 placed (e ∷ sig) c d h = placed_by (same_constant e.name c) e d sig c refl (placed sig c d) h
-
-classified : (o : Option Value) (class found : Class) → undefined_class o class ≡ Some found → class ≡ found
-classified None class found h = some_is h
-classified (Some v) class found h = absurd (cc)
 
 abbrev pub Images : Signature → Signature → HeadMap → Type 0
 Images from to along = (c : Constant) (class : Class) → class_of from c ≡ Some class → TypedImage to along c class
@@ -64,7 +58,7 @@ typed_images from to along typed c class h =
     let d = declared_as from c class h in
     let p = placed from c d.declaration d.found in
     let t = typed p.place d.declaration p.found in
-    let same : d.declaration.class ≡ class = classified d.declaration.value d.declaration.class class d.classified in
+    let same : d.declaration.class ≡ class = undefined_is d.declaration.value d.declaration.class class d.classified in
     record { image = t.image; mapped = ap (image_of along) (sym p.name) ∙ t.mapped; class_is = t.class ∙ ap (translate_class along) same; fits = t.fits }
 
 -- ---- the restricted map
@@ -96,7 +90,7 @@ module _ (to : Signature) (along : HeadMap) (target : IsSignature to) (atomic : 
       let d = declared_as from c class h in
       let f = found_in from c d.declaration d.found in
       let is : IsDeclaration f.before d.declaration = source f.before d.declaration f.after f.split in
-      let class_is : IsClass f.before class = subst (IsClass f.before) (classified d.declaration.value d.declaration.class class d.classified) is.class_is in
+      let class_is : IsClass f.before class = subst (IsClass f.before) (undefined_is d.declaration.value d.declaration.class class d.classified) is.class_is in
       let before_is : IsSignature f.before = signature_shrinks f.before (d.declaration ∷ f.after) (subst IsSignature f.split source) in
       let known : Images f.before to along = (λ x k e. images x k (subst (λ z. class_of z x ≡ Some k) (sym f.split) (class_more f.before (d.declaration ∷ f.after) x k e))) in
       let count : length from ≡ length f.before + suc (length f.after) = ap length f.split ∙ length-append f.before (d.declaration ∷ f.after) in

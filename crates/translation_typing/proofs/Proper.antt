@@ -3,10 +3,9 @@ use Rattle.std.proofs.Common.{◌≡◌, ℕ, zero, suc, refl, arith}
 use Rattle.lf_meaning.specs.Terms.{Object, Lam, At, Var, Con, App, Family, Pi, AtFamily, FamilyCon, FamilyApp}
 use Rattle.lf_meaning.specs.Signatures.{Value, SameAs, TermValue, FamilyValue}
 use Rattle.translation_meaning.specs.Translation.{object_value, family_value}
-use Rattle.translation_meaning.specs.ProperValues.{IsProperValue}
-use Rattle.translation_meaning.specs.ProperValues.{IsNoConstant, IsValueBody}
+use Rattle.translation_meaning.specs.ProperValues.{IsProperValue, IsNoConstant, IsValueBody}
 use Rattle.translation_meaning.specs.AtomicFamilies.{IsAtomicFamily}
-use Rattle.sorted_translation.specs.AtomicBodies.{HasAtomicBody}
+use Rattle.translation_sort_laws.specs.AtomicBodies.{HasAtomicBody}
 
 pub proper_object : (o : Object) → IsNoConstant o → object_value o ≡ TermValue o
 proper_object (Lam m) h = refl

@@ -3,8 +3,8 @@ use Rattle.std.proofs.Common.{◌≡◌, [], ◌∷◌, Bool, true, false, cond,
 use Rattle.std.specs.Prelude.{is_some}
 use Rattle.lf_meaning.specs.Terms.{Constant}
 use Rattle.lf_meaning.specs.Signatures.{Class, Signature, same_constant, class_of}
-use Rattle.lf_meaning.proofs.Equality.{same_constant_sound}
-use Rattle.translation_meaning.specs.HeadMaps.{Image, Mapping, HeadMap, image_of}
+use Rattle.lf_term_laws.proofs.Equality.{same_constant_sound}
+use Rattle.lf_meaning.specs.HeadMaps.{Image, Mapping, HeadMap, image_of}
 
 abbrev pub is_declared : Signature → Constant → Bool
 is_declared sig c = is_some (class_of sig c)

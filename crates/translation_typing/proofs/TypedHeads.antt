@@ -5,11 +5,12 @@ use Rattle.lf_meaning.specs.Erasure.{erase}
 use Rattle.lf_meaning.specs.Substitution.{substitute, substitute_family, substitute_kind, substitute_context}
 use Rattle.lf_meaning.specs.Signatures.{Signature}
 use Rattle.lf_meaning.specs.Judgements.{Checks, IsFamily, IsKind, IsContext, IsSignature}
-use Rattle.lf_metatheory.proofs.Regular.{context_sorted}
-use Rattle.lf_metatheory.proofs.SubstitutionTyping.{substitute_is_family, substitute_is_kind}
+use Rattle.lf_typing.proofs.Regular.{context_sorted}
+use Rattle.lf_typing.proofs.SubstitutionTyping.{substitute_is_family, substitute_is_kind}
 use Rattle.translation_meaning.specs.Heads.{Head, ObjectHead, FamilyHead, family_takes}
 use Rattle.translation_typing.specs.FamilyHeads.{FamilyTyped, OnSpine, UnderBinders}
-use Rattle.sorted_translation.proofs.KindDomains.{domains_append, domains_length, domains_map, domains_count}
+use Rattle.translation_sort_laws.proofs.KindDomains.{domains_append, domains_length, domains_map}
+use Rattle.lf_term_laws.proofs.Spines.{domains_map}
 
 -- a head of this kind
 abbrev pub HeadIs : Signature → Context → Kind → Head → Type 0
@@ -48,4 +49,4 @@ module _ (sig : Signature) (typed : IsSignature sig) (context : Context) (contex
       → FamilyTyped sig context binders (substitute_family n (erase a) binders family) (substitute_kind n (erase a) 0 k)
   binder_taken binders family a k n (OnSpine p b f h) i g = absurd (omega (arith, b))
   binder_taken binders family a k n (UnderBinders e h) i g =
-      UnderBinders (let c = domains_count (substitute n (erase a)) 0 k in omega (arith, e, c)) (body_taken a k binders family n (omega (arith, e)) i h g)
+      UnderBinders (let c = domains_map (substitute n (erase a)) 0 k in omega (arith, e, c)) (body_taken a k binders family n (omega (arith, e)) i h g)

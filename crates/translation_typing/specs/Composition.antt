@@ -4,12 +4,12 @@ use Rattle.std.specs.Prelude.{◌≡◌}
 use Rattle.lf_meaning.specs.Terms.{Object, Family, Kind, Context}
 use Rattle.lf_meaning.specs.Signatures.{Class, Value, Signature}
 use Rattle.lf_meaning.specs.Judgements.{Checks, IsFamily, IsKind, IsContext, IsClass, Fits}
-use Rattle.translation_meaning.specs.HeadMaps.{HeadMap}
+use Rattle.lf_meaning.specs.HeadMaps.{HeadMap}
 use Rattle.translation_meaning.specs.Translation.{translate_object, translate_family, translate_kind, translate_class, translate_value, compose}
 use Rattle.translation_meaning.specs.ProperValues.{ValuesAreProper}
 use Rattle.translation_typing.specs.TypedTranslation.{IsTypedTranslation}
 
--- Read: one map into a signature, and one out of it, of proper values.
+-- One map into a signature, and one out of it, of proper values.
 pub record AreComposable (from middle to : Signature) (first second : HeadMap) : Type 0 where
   pub first_is : IsTypedTranslation from middle first
   pub second_is : IsTypedTranslation middle to second
@@ -46,7 +46,7 @@ ValuesAreComposed =
     → IsClass from class → Fits from value class
     → translate_value (compose first second) value ≡ translate_value second (translate_value first value)
 
--- Read: the composition is typed, and its values are proper.
+-- The composition is typed, and its values are proper.
 abbrev pub CompositionIsTyped : Type 0
 CompositionIsTyped =
     (from middle to : Signature) (first second : HeadMap) → AreComposable from middle to first second

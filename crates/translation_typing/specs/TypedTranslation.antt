@@ -7,30 +7,30 @@ use Rattle.lf_meaning.specs.Erasure.{erase}
 use Rattle.lf_meaning.specs.Substitution.{substitute, substitute_family, substitute_kind}
 use Rattle.lf_meaning.specs.Signatures.{Class, Value, Signature}
 use Rattle.lf_meaning.specs.Judgements.{Checks, IsFamily, IsKind, IsContext, IsTyping, IsClass, Fits, IsSignature}
-use Rattle.translation_meaning.specs.HeadMaps.{HeadMap}
+use Rattle.lf_meaning.specs.HeadMaps.{HeadMap}
 use Rattle.translation_meaning.specs.Translation.{translate_object, translate_family, translate_kind, translate_class, translate_value}
 use Rattle.translation_meaning.specs.TypedMaps.{IsTypedMap}
-use Rattle.sorted_translation.specs.AtomicBodies.{BodiesAreAtomic}
+use Rattle.translation_sort_laws.specs.AtomicBodies.{BodiesAreAtomic}
 
--- Read: the families of the context, translated.
+-- The families of the context, translated.
 abbrev pub translate_context : HeadMap → Context → Context
 translate_context along context = map (translate_family along) context
 
--- Read: the map is typed from one well-typed signature to another.
+-- The map is typed from one well-typed signature to another.
 pub record IsTypedTranslation (from to : Signature) (along : HeadMap) : Type 0 where
   pub source : IsSignature from
   pub target : IsSignature to
   pub typed : IsTypedMap from to along
   pub atomic : BodiesAreAtomic along
 
--- Read: it carries each typing judgement of the source to one of the target.
+-- It carries each typing judgement of the source to one of the target.
 abbrev pub TypingIsCarried : Type 0
 TypingIsCarried =
     (from to : Signature) (along : HeadMap) (context : Context) (object : Object) (family : Family) → IsTypedTranslation from to along
     → IsTyping from context object family
     → IsTyping to (translate_context along context) (translate_object along object) (translate_family along family)
 
--- Read: so it does with well-formed contexts, families, kinds and classes.
+-- So it does with well-formed contexts, families, kinds and classes.
 abbrev pub ContextsAreCarried : Type 0
 ContextsAreCarried =
     (from to : Signature) (along : HeadMap) (context : Context) → IsTypedTranslation from to along
@@ -53,14 +53,14 @@ ClassesAreCarried =
     (from to : Signature) (along : HeadMap) (class : Class) → IsTypedTranslation from to along
     → IsClass from class → IsClass to (translate_class along class)
 
--- Read: a value that fits a class is carried to one that fits the translated class.
+-- A value that fits a class is carried to one that fits the translated class.
 abbrev pub ValuesAreCarried : Type 0
 ValuesAreCarried =
     (from to : Signature) (along : HeadMap) (class : Class) (value : Value) → IsTypedTranslation from to along
     → IsClass from class → Fits from value class
     → Fits to (translate_value along value) (translate_class along class)
 
--- Read: translation commutes with raising.
+-- Translation commutes with raising.
 abbrev pub RaisedObjectsAreTranslated : Type 0
 RaisedObjectsAreTranslated =
     (from to : Signature) (along : HeadMap) (context : Context) (object : Object) (family : Family) (by at : ℕ) → IsTypedTranslation from to along
@@ -79,7 +79,7 @@ RaisedKindsAreTranslated =
     → IsKind from context kind
     → translate_kind along (raise_kind by at kind) ≡ raise_kind by at (translate_kind along kind)
 
--- Read: translation commutes with substitution, which is then at the erasure of the translated family.
+-- Translation commutes with substitution, which is then at the erasure of the translated family.
 abbrev pub SubstitutedObjectsAreTranslated : Type 0
 SubstitutedObjectsAreTranslated =
     (from to : Signature) (along : HeadMap) (after before : Context) (value object : Object) (of family : Family) → IsTypedTranslation from to along

@@ -1,11 +1,11 @@
 -- A comment, pair by pair.
 use Rattle.std.proofs.Common.{◌≡◌, ℕ, zero, suc, ◌+◌, ◌≤◌, ◌<◌, true, false, ◌&&◌, ◌==◌, List, [], ◌∷◌, length, drop, get_or, refl, sym, ap, ◌∙◌, arith, length-drop, ◌-◌, ◌≢◌, eqb-true}
-use Rattle.token_laws.proofs.CutFollows.{and_back}
 use Rattle.text_meaning.specs.Cut.{Unclosed}
 use Rattle.text_meaning.specs.Cutting.{InComment, closed_place, cut_on}
 use Rattle.token_laws.proofs.Steps.{pair_opens, pair_closes, pair_passes, comment_ends, one_left}
 use Rattle.twelf_lexer.specs.Scans.{Closes, StaysOpen}
 use Rattle.twelf_lexer.proofs.Fronts.{here_and_on}
+use Rattle.list_laws.proofs.Booleans.{and_second}
 
 -- so far the comment goes on as from its beginning
 pub record InnerTo (text : List ℕ) (at to inner : ℕ) : Type 0 where
@@ -44,7 +44,7 @@ closes_last text at to inner i h k z =
     record {
       forward = omega (arith, i.forward);
       within = omega (arith, h);
-      ends = ap (λ j. get_or text j 0) n ∙ eqb-true (get_or text (to + 1) 0) 37 (and_back (get_or text to 0 == 125) _ k);
+      ends = ap (λ j. get_or text j 0) n ∙ eqb-true (get_or text (to + 1) 0) 37 (and_second (get_or text to 0 == 125) _ k);
       closes = λ from. sym (ap (λ m. cut_on (closed_place from m) (to + 2) (drop (to + 2) text)) (sym z) ∙ closes_to text at to inner i h k from);
     }
 

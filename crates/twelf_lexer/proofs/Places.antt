@@ -1,15 +1,16 @@
 -- What stands at a place of a text, and where it may be cut.
 use Rattle.std.proofs.Common.{◌≡◌, ℕ, ◌+◌, ◌-◌, ◌≤◌, ◌<◌, Bool, true, false, ◌||◌, List, [], ◌∷◌, ◌++◌, length, drop, get_or, codes, refl, sym, ap, subst, ◌∙◌, arith, inl, inr, IsUtf8, IsCharBoundary, true≢false, length-take-le, length-drop}
 use Rattle.std.specs.List.{slice_range}
-use Rattle.std.proofs.lemmas.Bool.{cases_lt}
+use Rattle.std.proofs.lemmas.Bool.{cases_lt, not-true, not-false}
 use Rattle.std.proofs.lemmas.Bool.Decides.{nat_tests}
 use Rattle.std.proofs.lemmas.List.Folds.{drop_split}
 use Rattle.std.proofs.lemmas.Str.{IsCharBoundary-end, IsCharBoundary-before_ascii, IsCharBoundary-after_ascii}
 use Rattle.name_meaning.specs.Characters.{is_white_space, is_identifier_byte, is_special}
 use Rattle.text_meaning.specs.Bytes.{begins}
 use Rattle.text_meaning.specs.Cut.{ends_row}
-use Rattle.token_laws.proofs.CutFollows.{one_of, or_front, not_true, not_false}
+use Rattle.token_laws.proofs.CutFollows.{one_of, or_front}
 use Rattle.twelf_lexer.proofs.Fronts.{here_and_on, none_left}
+use Rattle.token_laws.proofs.Bytes.{low_byte}
 
 pub begins_in : (test : ℕ → Bool) (text : List ℕ) (at : ℕ) → at < length text → begins test (drop at text) ≡ test (get_or text at 0)
 begins_in test text at h = ap (begins test) (here_and_on text at h)
@@ -29,21 +30,6 @@ begins_at test text at h =
       | inr le ↦ absurd (true≢false (sym h ∙ begins_out test text at le))
     ]
 
--- a byte that belongs to no identifier is ASCII
-low_space : (b : ℕ) → is_white_space b ≡ true → b < 128
-low_space b h = grind (arith, nat_tests)
-
-low_special : (b : ℕ) → is_special b ≡ true → b < 128
-low_special b h = one_of (λ c. c < 128) (codes ":.()[]{}%\"") b (omega arith, (omega arith, (omega arith, (omega arith, (omega arith, (omega arith, (omega arith, (omega arith, (omega arith, (omega arith, tt)))))))))) h
-
-pub low_byte : (b : ℕ) → is_identifier_byte b ≡ false → b < 128
-low_byte b h = go (is_white_space b) (is_special b) refl refl (not_false _ h)
-  where
-    go : (t u : Bool) → is_white_space b ≡ t → is_special b ≡ u → (is_white_space b || is_special b) ≡ true → b < 128
-    go true u e f g = low_space b e
-    go false true e f g = low_special b f
-    go false false e f g = absurd (true≢false (sym g ∙ rw (e, f) refl))
-
 -- where no identifier byte stands, a text may be cut
 pub boundary_before : (text : List ℕ) (at : ℕ) → at ≤ length text → begins is_identifier_byte (drop at text) ≡ false → IsCharBoundary text at
 boundary_before text at le h =
@@ -61,8 +47,3 @@ front_length text at to h k = length-take-le (to - at) (drop at text) (omega (ar
 
 pub front_parts : (text : List ℕ) (at to : ℕ) → at ≤ to → drop at text ≡ slice_range text at to ++ drop to text
 front_parts text at to h = drop_split text at to h
-
--- a row that goes no further is followed by no identifier byte
-pub ends_row_begins : (bs : List ℕ) → ends_row bs ≡ true → begins is_identifier_byte bs ≡ false
-ends_row_begins [] h = refl
-ends_row_begins (b ∷ bs) h = or_front _ _ (not_true _ h)

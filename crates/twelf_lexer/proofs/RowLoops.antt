@@ -7,12 +7,14 @@ use Rattle.name_meaning.specs.Identifiers.{is_run, is_reserved, is_identifier}
 use Rattle.text_meaning.specs.Bytes.{dot, begins}
 use Rattle.text_meaning.specs.Tokens.{dotted}
 use Rattle.text_meaning.specs.Cut.{is_row, ends_row}
-use Rattle.token_laws.proofs.CutFollows.{and_front, and_back, or_front, or_back}
+use Rattle.token_laws.proofs.CutFollows.{and_front, or_front, or_back}
 use Rattle.twelf_lexer.specs.Scans.{IsFront}
 use Rattle.twelf_lexer.specs.Rows.{IsRow, IsLongestRow, row_goes_on}
 use Rattle.twelf_lexer.proofs.Fronts.{here_and_on}
-use Rattle.twelf_lexer.proofs.Places.{Stands, begins_at, begins_in, front_length, front_parts, ends_row_begins}
+use Rattle.twelf_lexer.proofs.Places.{Stands, begins_at, begins_in, front_length, front_parts}
 use Rattle.twelf_lexer.proofs.RowSteps.{row_is_over, one_run, row_begins, row_grows}
+use Rattle.list_laws.proofs.Booleans.{and_second}
+use Rattle.token_laws.proofs.Bytes.{ends_row_begins}
 
 -- ---- to the end of the row
 
@@ -56,7 +58,7 @@ goes_on_is text to h =
     first (b ∷ bs) h = and_front (b == dot) _ h
 
     second : (bs : List ℕ) (b : ℕ) (cs : List ℕ) → bs ≡ b ∷ cs → row_goes_on bs ≡ true → begins is_identifier_byte cs ≡ true
-    second bs b cs e h = and_back (b == dot) _ (sym (ap row_goes_on e) ∙ h)
+    second bs b cs e h = and_second (b == dot) _ (sym (ap row_goes_on e) ∙ h)
 
 any-snoc : (ws : List (List ℕ)) (w : List ℕ) → list_any is_reserved (ws ++ (w ∷ [])) ≡ (list_any is_reserved ws || is_reserved w)
 any-snoc [] w = or_none (is_reserved w)
@@ -123,7 +125,7 @@ path_begins text at to end [] r h e f = absurd (true≢false (sym r.runs))
 path_begins text at to end (w ∷ ws) r h e f =
     let over = ends_row_begins (drop to text) e in
     let run : is_run w ≡ true = and_front (is_run w) (list_all is_run ws) r.runs in
-    let ids : list_all is_identifier_byte w ≡ true = and_back (not (length w == 0)) (list_all is_identifier_byte w) run in
+    let ids : list_all is_identifier_byte w ≡ true = and_second (not (length w == 0)) (list_all is_identifier_byte w) run in
     let here : drop at text ≡ w ++ (dotted ws ++ drop to text) = r.parts ∙ append_assoc w (dotted ws) (drop to text) in
     let found = first_run text at end w (dotted ws ++ drop to text) f here ids (dotted_begins ws (drop to text) over) in
     let free_w : is_reserved w ≡ false = or_front (is_reserved w) (list_any is_reserved ws) h in
@@ -138,7 +140,7 @@ path_begins text at to end (w ∷ ws) r h e f =
         left = found.1;
         length_is = omega (arith, r.length_is, len, length-append w (dotted ws), front_length text at end f.forward f.within, f.forward);
         within = r.within;
-        runs = and_back (is_run w) (list_all is_run ws) r.runs;
+        runs = and_second (is_run w) (list_all is_run ws) r.runs;
         rest_free = or_back (is_reserved w) (list_any is_reserved ws) h;
         over = over;
       };
@@ -166,7 +168,7 @@ path_goes text at to end next path p h f = go p.rest p.left p.length_is p.runs p
         let tail : drop (end + 1) text ≡ (w ++ dotted ws) ++ drop to text = cc in
         let here : drop (end + 1) text ≡ w ++ (dotted ws ++ drop to text) = tail ∙ append_assoc w (dotted ws) (drop to text) in
         let run : is_run w ≡ true = and_front (is_run w) (list_all is_run ws) r in
-        let ids : list_all is_identifier_byte w ≡ true = and_back (not (length w == 0)) (list_all is_identifier_byte w) run in
+        let ids : list_all is_identifier_byte w ≡ true = and_second (not (length w == 0)) (list_all is_identifier_byte w) run in
         let found = first_run text (end + 1) next w (dotted ws ++ drop to text) f here ids (dotted_begins ws (drop to text) p.over) in
         let free_w : is_reserved w ≡ false = or_front (is_reserved w) (list_any is_reserved ws) g in
         let stands : Stands (λ b. b == 46) text end = record { within = in_text; passes = eq-eqb (get_or text end 0) 46 is_dot } in
@@ -182,7 +184,7 @@ path_goes text at to end next path p h f = go p.rest p.left p.length_is p.runs p
             left = found.1;
             length_is = omega (arith, n, len, length-append w (dotted ws), front_length text (end + 1) next f.forward f.within, f.forward);
             within = p.within;
-            runs = and_back (is_run w) (list_all is_run ws) r;
+            runs = and_second (is_run w) (list_all is_run ws) r;
             rest_free = or_back (is_reserved w) (list_any is_reserved ws) g;
             over = p.over;
           };

@@ -10,12 +10,14 @@ use Rattle.text_meaning.specs.Bytes.{dot, begins}
 use Rattle.text_meaning.specs.Tokens.{Kind, Mark, Ident, token, Stray, run_kind, row_kind, dotted, spelled}
 use Rattle.text_meaning.specs.Cut.{is_row, ends_row}
 use Rattle.text_meaning.specs.Cutting.{Between, ahead, cut_on}
-use Rattle.token_laws.proofs.CutFollows.{and_front, and_back, or_front, or_back, row_first}
+use Rattle.token_laws.proofs.CutFollows.{and_front, or_front, or_back, row_first}
 use Rattle.twelf_lexer.specs.Scans.{IsFront}
 use Rattle.twelf_lexer.specs.Rows.{IsRow, row_goes_on}
 use Rattle.twelf_lexer.specs.Steps.{Advances}
 use Rattle.twelf_lexer.proofs.Fronts.{here_and_on}
-use Rattle.twelf_lexer.proofs.Places.{Stands, begins_at, front_length, front_parts, boundary_before, ends_row_begins}
+use Rattle.twelf_lexer.proofs.Places.{Stands, begins_at, front_length, front_parts, boundary_before}
+use Rattle.list_laws.proofs.Booleans.{and_second}
+use Rattle.token_laws.proofs.Bytes.{ends_row_begins}
 
 -- ---- whether a row goes on
 
@@ -42,7 +44,7 @@ front_runs text at to f h = go (slice_range text at to) (front_parts text at to 
     go (b ∷ w) e p = rw (ne_eqb (suc (length w)) 0 (λ e. absurd cc)) p
 
 run_ids : (w : List ℕ) → is_run w ≡ true → list_all is_identifier_byte w ≡ true
-run_ids w h = and_back (not (length w == 0)) _ h
+run_ids w h = and_second (not (length w == 0)) _ h
 
 run_first : (w rest : List ℕ) → is_run w ≡ true → begins is_identifier_byte (w ++ rest) ≡ true
 run_first [] rest h = absurd (true≢false (sym h))
@@ -57,8 +59,8 @@ one_run (b ∷ v) [] r s e p q g h = absurd (true≢false (sym (and_front (is_id
 one_run (b ∷ v) (c ∷ w) r s e p q g h =
     let f : b ≡ c = cc in
     let t : v ++ r ≡ w ++ s = cc in
-    let p' : list_all is_identifier_byte v ≡ true = and_back (is_identifier_byte b) (list_all is_identifier_byte v) p in
-    let q' : list_all is_identifier_byte w ≡ true = and_back (is_identifier_byte c) (list_all is_identifier_byte w) q in
+    let p' : list_all is_identifier_byte v ≡ true = and_second (is_identifier_byte b) (list_all is_identifier_byte v) p in
+    let q' : list_all is_identifier_byte w ≡ true = and_second (is_identifier_byte c) (list_all is_identifier_byte w) q in
     let i = one_run v w r s t p' q' g h in
     (rw (f, i.0) refl, i.1)
 

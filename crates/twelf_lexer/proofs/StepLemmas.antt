@@ -11,8 +11,9 @@ use Rattle.token_laws.proofs.Steps.{comment_goes_in, line_comment_goes, mark_end
 use Rattle.twelf_lexer.specs.Scans.{IsFront, Closes, StaysOpen}
 use Rattle.twelf_lexer.specs.Steps.{Advances}
 use Rattle.twelf_lexer.proofs.Fronts.{here_and_on}
-use Rattle.twelf_lexer.proofs.Places.{begins_at, front_length, front_parts, boundary_before, boundary_after, low_byte}
+use Rattle.twelf_lexer.proofs.Places.{begins_at, front_length, front_parts, boundary_before, boundary_after}
 use Rattle.twelf_lexer.proofs.RowSteps.{front_runs}
+use Rattle.token_laws.proofs.Bytes.{low_byte}
 
 -- the byte at a place, and what follows
 here_is : (text : List ℕ) (at b : ℕ) → at < length text → get_or text at 0 ≡ b → drop at text ≡ b ∷ drop (at + 1) text

@@ -4,7 +4,7 @@ ghost use Rattle.name_meaning.specs.Characters as characters;
 ghost use Rattle.text_meaning.specs.Bytes.{line_feed, begins};
 ghost use Rattle.twelf_lexer.specs.Scans.{IsFront};
 
-use name_meaning::is_identifier_byte;
+use identifiers::is_identifier_byte;
 
 /// Whether this byte stands at an index.
 pub(crate) fn starts_with(text: &[u8], at: usize, byte: u8) -> bool

@@ -11,7 +11,7 @@ use crate::comment::comment_end;
 use crate::row::row_kind;
 use crate::scan::{line_end, run_end, starts_run, starts_with};
 use lf_terms::Memory;
-use name_meaning::{is_identifier_byte, is_white_space};
+use identifiers::{is_identifier_byte, is_white_space};
 use std::alloc::Global;
 
 /// What stands at a place between tokens.

@@ -6,12 +6,13 @@ use Rattle.text_meaning.specs.Trees as trees
 use Rattle.mmt_syntax.specs.Readings.{read_words, read_written, read_assigns}
 use Rattle.mmt_syntax.specs.declared.written.Written.{Written}
 use Rattle.mmt_syntax.specs.declared.assign.Assign.{Assign}
-use Rattle.print_laws.specs.PrintedItems.{Gap, tight, space, new_line, Item, dot_item, right_brace, equal_item, text_of}
-use Rattle.print_laws.specs.PrintedExpressions.{whole_items}
-use Rattle.print_laws.specs.PrintedModules.{morph_items, assign_items, value_items, value_gap, decl_items, module_items, module_text}
+use Rattle.print_meaning.specs.PrintedItems.{Gap, tight, space, new_line, Item, dot_item, right_brace, equal_item, text_of}
+use Rattle.print_meaning.specs.PrintedExpressions.{whole_items}
+use Rattle.print_meaning.specs.PrintedModules.{morph_items, assign_items, value_items, value_gap, decl_items, module_items, module_text}
 use Rattle.print_laws.proofs.LaidOut.{text_append}
 use Rattle.twelf_print.specs.Fronts.{spaced, more_words, words_text, assign_front, constant_text, structure_text, decl_front, module_front}
 use Rattle.twelf_print.proofs.Texts.{written_then, next_taken}
+use Rattle.list_laws.proofs.Lists.{map_last}
 
 -- ---- words
 
@@ -32,10 +33,6 @@ more_last [] w = append-nil (space ++ (spelled w.path ++ tight))
 more_last (v ∷ ws) w =
     ap (λ t. (space ++ (spelled v.path ++ tight)) ++ t) (more_last ws w)
     ∙ sym (append_assoc (space ++ (spelled v.path ++ tight)) (more_words ws) (space ++ (spelled w.path ++ tight)))
-
-map_last : {A B : Type 0} (f : A → B) (xs : List A) (x : A) → map f (xs ++ (x ∷ [])) ≡ map f xs ++ (f x ∷ [])
-map_last f [] x = refl
-map_last f (y ∷ ys) x = ap (λ zs. f y ∷ zs) (map_last f ys x)
 
 -- the words so far, with one more
 pub next_word : (o : List ℕ) {p q r : List ℕ} (ws : List Written) (i : ℕ) (w : Written) → w ≡ slice_index_or ws i w → i < length ws

@@ -12,8 +12,8 @@ use Rattle.mmt_syntax.specs.declared.expr.Exprs.{Exprs}
 use Rattle.mmt_syntax.specs.declared.expr.Node.{Node}
 use Rattle.mmt_syntax.specs.declared.expr.Node.TheVariants as nodes
 use Rattle.mmt_syntax.proofs.ReadingEquations.{read_expr_is, read_node_app, read_node_pi, read_node_lam, read_node_typed_lam, read_node_arrow, read_node_back}
-use Rattle.print_laws.specs.PrintedItems.{Gap, text_of}
-use Rattle.print_laws.specs.PrintedExpressions.{expr_items}
+use Rattle.print_meaning.specs.PrintedItems.{Gap, text_of}
+use Rattle.print_meaning.specs.PrintedExpressions.{expr_items}
 use Rattle.twelf_print.proofs.Texts.{next_taken}
 
 -- ---- readings

@@ -1,7 +1,7 @@
 -- What the laws of printed texts say of a text that is such a one.
 use Rattle.std.proofs.Common.{◌≡◌, ℕ, List, sym, subst}
 use Rattle.text_meaning.specs.Trees.{Expr, Module}
-use Rattle.print_laws.specs.PrintedModules.{module_text, expr_text}
+use Rattle.print_meaning.specs.PrintedModules.{module_text, expr_text}
 use Rattle.print_laws.specs.PrintLaws.{IsSpelledModule, IsSpelledExpr, SpellsBack, SpellsBackExpr, SpellsBackWithin}
 use Rattle.print_laws.proofs.Printed.{printed_modules, printed_expressions}
 use Rattle.print_laws.proofs.PrintedJudged.{printed_within}

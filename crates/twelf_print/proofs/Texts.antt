@@ -2,7 +2,8 @@
 use Rattle.std.proofs.Common.{◌≡◌, ℕ, ◌+◌, ◌<◌, Bool, true, false, ◌&&◌, ◌||◌, List, [], ◌∷◌, ◌++◌, take, length, slice_index_or, codes, refl, sym, ap, ◌∙◌, append_assoc, append-nil, map, fold, arith}
 use Rattle.std.specs.Prelude.{if◌then◌else◌}
 use Rattle.std.proofs.lemmas.List.{take_more}
-use Rattle.text_meaning.specs.Tokens.{Path, spelled, dotted}
+use Rattle.name_meaning.specs.Names.{Path}
+use Rattle.text_meaning.specs.Tokens.{spelled, dotted}
 use Rattle.text_meaning.specs.Trees as trees
 use Rattle.text_meaning.specs.UpToSpans.{no_span}
 use Rattle.lf_terms.specs.declared.path.Path as code
@@ -10,8 +11,8 @@ use Rattle.mmt_syntax.specs.Readings.{read_span, read_node, read_expr, read_argu
 use Rattle.mmt_syntax.specs.declared.expr.Expr.{Expr}
 use Rattle.mmt_syntax.specs.declared.expr.Node.TheVariants as nodes
 use Rattle.mmt_syntax.proofs.ReadingEquations.{read_expr_is, read_node_ty, read_node_name}
-use Rattle.print_laws.specs.PrintedItems.{Gap, tight, space, Item, path_item, type_item, arrow_item, back_item, right_brace, right_bracket, left_paren, right_paren, text_of}
-use Rattle.print_laws.specs.PrintedExpressions.{is_word, is_binding, is_operand, is_last_operand, is_back, binder_bytes, placed, expr_items, args_items}
+use Rattle.print_meaning.specs.PrintedItems.{Gap, tight, space, Item, path_item, type_item, arrow_item, back_item, right_brace, right_bracket, left_paren, right_paren, text_of}
+use Rattle.print_meaning.specs.PrintedExpressions.{is_word, is_binding, is_operand, is_last_operand, is_back, binder_bytes, placed, expr_items, args_items}
 use Rattle.print_laws.proofs.LaidOut.{text_append}
 use Rattle.twelf_print.specs.Places.{opening, closing, inner_gap, inner_free}
 

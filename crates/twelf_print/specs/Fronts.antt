@@ -2,9 +2,9 @@
 use Rattle.std.specs.Prelude.{ℕ, List, [], ◌∷◌, ◌++◌, codes, flat_map, Option, Some, None}
 use Rattle.text_meaning.specs.Tokens.{spelled}
 use Rattle.text_meaning.specs.Trees.{Expr, Written, Assign, IncludeAssign, StructAssign, ConstAssign, Decl, IncludeDecl, StructDecl, ConstDecl, Module, SigModule, ViewModule}
-use Rattle.print_laws.specs.PrintedItems.{tight, space, new_line, text_of}
-use Rattle.print_laws.specs.PrintedExpressions.{whole_items}
-use Rattle.print_laws.specs.PrintedModules.{assign_items, decl_items}
+use Rattle.print_meaning.specs.PrintedItems.{tight, space, new_line, text_of}
+use Rattle.print_meaning.specs.PrintedExpressions.{whole_items}
+use Rattle.print_meaning.specs.PrintedModules.{assign_items, decl_items}
 
 -- a path and a space
 abbrev pub spaced : Written → List ℕ

@@ -1,6 +1,6 @@
 -- An expression in its place: what is written in front of it and behind it, and how it is printed between.
 use Rattle.std.specs.Prelude.{ℕ, Bool, true, false, List, [], ◌++◌, codes}
-use Rattle.print_laws.specs.PrintedItems.{Gap}
+use Rattle.print_meaning.specs.PrintedItems.{Gap}
 
 -- nothing, or the parenthesis that opens
 abbrev pub opening : Bool → List ℕ

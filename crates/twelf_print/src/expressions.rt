@@ -3,9 +3,9 @@ ghost use Rattle.std.specs.Prelude.{◌≡◌, ◌++◌, IfOk, OnOk, true};
 ghost use Rattle.text_meaning.specs.Trees.{AppExpr, PiExpr, LamExpr, TypedLamExpr, ArrowExpr, BackExpr};
 ghost use Rattle.text_meaning.specs.UpToSpans.{no_span};
 ghost use Rattle.mmt_syntax.specs.Readings.{read_binder, read_expr, read_arguments, expressions_of};
-ghost use Rattle.print_laws.specs.PrintedItems.{text_of};
-ghost use Rattle.print_laws.specs.PrintedExpressions.{binder_bytes, expr_items, args_items};
-ghost use Rattle.print_laws.specs.PrintedModules.{expr_text};
+ghost use Rattle.print_meaning.specs.PrintedItems.{text_of};
+ghost use Rattle.print_meaning.specs.PrintedExpressions.{binder_bytes, expr_items, args_items};
+ghost use Rattle.print_meaning.specs.PrintedModules.{expr_text};
 ghost use Rattle.print_laws.specs.PrintLaws.{IsSpelledExpr, SpellsBackExpr, SpellsBackWithin};
 ghost use Rattle.parentheses_laws.specs.FewestParentheses.{HasFewestOfExpr};
 

@@ -2,8 +2,8 @@
 ghost use Rattle.std.specs.Prelude.{◌≡◌, ◌++◌, IfOk, OnOk, flat_map};
 ghost use Rattle.std.specs.Option.{option_map};
 ghost use Rattle.mmt_syntax.specs.Readings.{read_morph, read_assign, read_assigns, read_decl, read_decls, read_expr, read_module, read_written};
-ghost use Rattle.print_laws.specs.PrintedItems.{text_of};
-ghost use Rattle.print_laws.specs.PrintedModules.{assign_items, decl_items, module_text};
+ghost use Rattle.print_meaning.specs.PrintedItems.{text_of};
+ghost use Rattle.print_meaning.specs.PrintedModules.{assign_items, decl_items, module_text};
 ghost use Rattle.twelf_print.specs.Fronts.{module_front, view_front, decls_text, words_text, assign_front, decl_front, constant_text, structure_text};
 ghost use Rattle.print_laws.specs.PrintLaws.{IsSpelledModule, SpellsBack};
 ghost use Rattle.parentheses_laws.specs.FewestParentheses.{HasFewestOfModule};

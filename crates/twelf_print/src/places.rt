@@ -1,7 +1,7 @@
 //! Where an expression stands as it is, and where it needs parentheses.
 ghost use Rattle.std.specs.Prelude.{◌≡◌, ◌++◌, OnOk, ◌||◌, ◌&&◌, true, false, if◌then◌else◌};
 ghost use Rattle.mmt_syntax.specs.Readings.{read_expr};
-ghost use Rattle.print_laws.specs.PrintedExpressions as printed;
+ghost use Rattle.print_meaning.specs.PrintedExpressions as printed;
 ghost use Rattle.twelf_print.specs.Places.{opening, closing, inner_gap};
 ghost use Rattle.twelf_print.specs.Places as places;
 

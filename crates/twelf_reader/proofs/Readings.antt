@@ -5,7 +5,7 @@ use Rattle.text_meaning.specs.Tokens.{Token}
 use Rattle.text_meaning.specs.Cut.{Tokens, NotUtf8, OpenComment, IsLexed}
 use Rattle.text_meaning.specs.Reading.{Target, Answer, Syntax, Reads, with_end}
 use Rattle.text_meaning.specs.Parsing.{answer_on, start, parse}
-use Rattle.text_laws.specs.ReadingLaws.{read}
+use Rattle.text_meaning.specs.TextAnswers.{read}
 use Rattle.reading_laws.proofs.OneAnswer.{one_answer, one_reading}
 use Rattle.twelf_reader.specs.Going.{Fails, Goes}
 use Rattle.twelf_reader.specs.Answers.{IsFaultOf}

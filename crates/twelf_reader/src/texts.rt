@@ -2,7 +2,7 @@
 ghost use Rattle.std.specs.Prelude.{◌≤◌, ◌^◌, length, IfErr, IfOk};
 ghost use Rattle.text_meaning.specs.Reading.{Answer, Target, JudgementText, JudgementTree, ModuleText, ModuleTree, Read, Reads};
 ghost use Rattle.mmt_syntax.specs.Readings as syntax;
-ghost use Rattle.text_laws.specs.ReadingLaws.{read};
+ghost use Rattle.text_meaning.specs.TextAnswers.{read};
 ghost use Rattle.twelf_lexer.specs.Answers.{IsCutOf};
 ghost use Rattle.twelf_reader.specs.Going.{Fails, Goes};
 ghost use Rattle.twelf_reader.specs.Answers.{IsFaultOf};

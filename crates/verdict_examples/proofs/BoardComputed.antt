@@ -1,21 +1,22 @@
 -- The worked case of the board over modules computes.
 use Rattle.std.proofs.Common.{refl}
-use Rattle.log_meaning.specs.Names.{is_ascending}
+use Rattle.name_meaning.specs.Names.{is_ascending}
 use Rattle.log_meaning.specs.Log.{library_of, stamp_from}
 use Rattle.log_meaning.specs.Append.{append_answer}
-use Rattle.walk_meaning.specs.Walks.{is_ungrounded}
+use Rattle.walk_meaning.specs.Walks.{is_ungrounded, ungrounded_names}
 use Rattle.board_meaning.specs.Events.{log_of}
 use Rattle.board_meaning.specs.Claims.{claims_from, is_open, inputs_after, inputs_of, first_changed, has_current_claim}
 use Rattle.board_meaning.specs.Standing.{installed_claims, is_edited, is_unedited, stands}
 use Rattle.board_meaning.specs.Ready.{is_closed, dependencies_stand, is_ready, least_ready}
-use Rattle.board_meaning.specs.Machine.{answers_of, job_after, job_of, install_reply, report_reply, answers_reply, event_of, may_call, after_call}
+use Rattle.walk_meaning.specs.Subject.{answers_of}
+use Rattle.board_meaning.specs.Machine.{job_after, job_of, install_reply, report_reply, answers_reply, event_of, may_call, after_call}
 use Rattle.board_meaning.specs.Legal.{after_calls, may_make_all}
 use Rattle.verdict_examples.specs.BoardExamples.{NatCallsMayBeMade, NatEditsAreMade, NatIsClaimed, MisspelledNatIsStale, NatPutBackIsStale, NatIsPending, NatIsClaimedAgain, NatIsInstalled, NothingButNat, NatIsTold, HistoryOfNat}
 use Rattle.verdict_examples.proofs.Computed.{judging}
 
 -- What the machine computes with; the verdicts are computed as in the other cases.
 abbrev machine : Unit {0}
-unfolding is_ascending library_of stamp_from append_answer is_ungrounded log_of claims_from is_open inputs_after inputs_of first_changed has_current_claim installed_claims is_edited is_unedited stands is_closed dependencies_stand is_ready least_ready answers_of job_after job_of install_reply report_reply answers_reply event_of may_call after_call after_calls may_make_all
+unfolding is_ascending library_of stamp_from append_answer is_ungrounded ungrounded_names log_of claims_from is_open inputs_after inputs_of first_changed has_current_claim installed_claims is_edited is_unedited stands is_closed dependencies_stand is_ready least_ready answers_of job_after job_of install_reply report_reply answers_reply event_of may_call after_call after_calls may_make_all
 machine = tt
 
 pub nat_calls_may_be_made : NatCallsMayBeMade

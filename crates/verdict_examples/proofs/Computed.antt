@@ -3,11 +3,11 @@ use Rattle.std.specs.Char.{encode_utf8}
 use Rattle.std.specs.Str.{is_utf8, chars}
 use Rattle.std.specs.Str.Lossy.{utf8_valid_len}
 use Rattle.std.proofs.Common.{refl}
-use Rattle.log_meaning.specs.Names.{is_among, with_name, with_names}
+use Rattle.name_meaning.specs.Names.{is_among, with_name, with_names}
 use Rattle.log_meaning.specs.Log.{with_module, without_module, text_of}
-use Rattle.walk_meaning.specs.Walks.{direct, walking}
+use Rattle.walk_meaning.specs.Walks.{direct, walking, ungrounded_names}
 use Rattle.walk_meaning.specs.Reach.{reach_within, reach}
-use Rattle.translation_meaning.specs.HeadMaps.{image_of}
+use Rattle.lf_meaning.specs.HeadMaps.{image_of}
 use Rattle.translation_meaning.specs.Translation.{translate_object, translate_head, translate_family, translate_kind, translate_value, compose}
 use Rattle.translation_meaning.specs.Differ.{differ_from}
 use Rattle.library_meaning.specs.Faces.{structure_of}
@@ -16,17 +16,17 @@ use Rattle.library_meaning.specs.Resolution.{variable_from, resolve}
 use Rattle.library_meaning.specs.Words.{structures_link, row_from, row_meaning}
 use Rattle.text_meaning.specs.Cutting.{cut_on, lex}
 use Rattle.text_meaning.specs.Parsing.{resume, answer_on, parse}
-use Rattle.text_laws.specs.ReadingLaws.{read}
+use Rattle.text_meaning.specs.TextAnswers.{read}
 use Rattle.expansion_meaning.specs.NameHeads.{name_head}
 use Rattle.expansion_meaning.specs.Expansion.{expand_object, expand_head, expand_arguments, expand_family, expand_kind}
 use Rattle.expansion_meaning.specs.Values.{ends_in_type, expand_class, expand_family_value, expand_value}
 use Rattle.link_meaning.specs.Assignments.{is_beginning, read_assigns}
 use Rattle.link_meaning.specs.Coverings.{covered_tests}
 use Rattle.link_meaning.specs.Passes.{rest_behind, reached_by, map_all, assigned_map, link_map}
-use Rattle.verdict_meaning.specs.Dependencies.{dependencies}
+use Rattle.text_meaning.specs.Dependencies.{dependencies}
 use Rattle.verdict_meaning.specs.Modules.{declare_all}
 use Rattle.verdict_meaning.specs.Verdicts.{judge}
-use Rattle.verdict_meaning.specs.Rounds.{verdict_under, others_reached, ungrounded_names, rounds, verdicts, verdict_of}
+use Rattle.verdict_meaning.specs.Rounds.{verdict_under, others_reached, rounds, verdicts, verdict_of}
 use Rattle.verdict_examples.specs.RuleExamples.{ViewIsNoTheory, NameUsedTwice, ObjectIsNoFamily, AtomIsNoFunction, OtherDomain, TargetIsUnknown, TargetIsAssignedTwice, EndsDoNotMeet, ProductIsNoValue, FamilyOfAnotherKind, FamilyUnderLambda, FamilyApplied, SharedStructureDisagrees}
 use Rattle.verdict_examples.specs.Examples.{NaturalNumbers, MisspelledName, EtaShortArgument, EtaLongArgument, MonoidOverLogic, MonoidIsChecked, MixedCopies, TwoCopies, AssignedStructure, Ring, BareStructure, AssignedConstantsAreDefined, RingHasOneSet, SharedInclusion, AmbiguousName, QualifiedName, ViewOfDefinition, ClashWithDefinition, MissingAssignment, IllTypedAssignment, FirstCovering, DisagreeingInclusions, NineAreAccepted, EmptyText, PercentWord, OpenComment, WrongName, CycleOfA, CycleOfB, CycleOfC, AWithoutB, BWithoutB, CWithoutB}
 

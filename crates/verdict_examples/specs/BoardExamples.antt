@@ -1,14 +1,15 @@
 -- Worked case of the board over modules: a text is put again, and put back, between a claim and its install.
 use Rattle.std.specs.Prelude.{◌≡◌, true, List, [], ◌∷◌, Some, None, codes}
-use Rattle.lf_meaning.specs.Terms.{Name, Pi, Ty}
+use Rattle.name_meaning.specs.Names.{Name}
+use Rattle.lf_meaning.specs.Terms.{Pi, Ty}
 use Rattle.lf_meaning.specs.Signatures.{FamilyClass, KindClass}
 use Rattle.log_meaning.specs.Log.{Edit, Put}
 use Rattle.log_meaning.specs.Append.{Made}
 use Rattle.board_meaning.specs.Events.{EditMade, Claim, Install, Stale, History}
 use Rattle.board_meaning.specs.Machine.{edit_reply, claim_reply, IsInstalled, IsStale, install_reply, IsVerdict, IsPending, report_reply, EditCall, ClaimCall, InstallCall}
 use Rattle.board_meaning.specs.Legal.{PassCall, after_calls, may_make_all}
-use Rattle.board_meaning.specs.Examples.{by_front, input}
-use Rattle.verdict_meaning.specs.Dependencies.{dependencies}
+use Rattle.board_machine_laws.specs.Examples.{by_front, input}
+use Rattle.text_meaning.specs.Dependencies.{dependencies}
 use Rattle.verdict_meaning.specs.Verdicts.{Verdict, Accepted, Theory}
 use Rattle.verdict_meaning.specs.Rounds.{modules}
 use Rattle.verdict_examples.specs.ExampleTexts.{text_Nat, text_Nat_misspelled}
@@ -17,41 +18,41 @@ use Rattle.verdict_examples.specs.Examples.{atomic_of, nat_of}
 abbrev pub Nat : Name
 Nat = codes "Nat"
 
--- Read: the natural numbers are put, and the same with a misspelled name.
+-- The natural numbers are put, and the same with a misspelled name.
 abbrev pub nat_put : Edit
 nat_put = Put Nat text_Nat
 
 abbrev pub misspelled_put : Edit
 misspelled_put = Put Nat text_Nat_misspelled
 
--- Read: the history of a board over modules after these calls, from the beginning.
+-- The history of a board over modules after these calls, from the beginning.
 abbrev pub over_modules : List PassCall → History
 over_modules calls = after_calls dependencies [] calls
 
--- Read: the natural numbers are put and claimed.
+-- The natural numbers are put and claimed.
 abbrev pub nat_claimed : List PassCall
 nat_claimed = by_front (EditCall nat_put) ∷ by_front ClaimCall ∷ []
 
--- Read: then the misspelled text is put.
+-- Then the misspelled text is put.
 abbrev pub nat_misspelled : List PassCall
 nat_misspelled = by_front (EditCall nat_put) ∷ by_front ClaimCall ∷ by_front (EditCall misspelled_put) ∷ []
 
--- Read: then the first text is put back.
+-- Then the first text is put back.
 abbrev pub nat_put_back : List PassCall
 nat_put_back =
     by_front (EditCall nat_put) ∷ by_front ClaimCall ∷ by_front (EditCall misspelled_put) ∷ by_front (EditCall nat_put) ∷ []
 
--- Read: then the first claim is to be installed, and is stale.
+-- Then the first claim is to be installed, and is stale.
 abbrev pub nat_stale : List PassCall
 nat_stale =
     by_front (EditCall nat_put) ∷ by_front ClaimCall ∷ by_front (EditCall misspelled_put) ∷ by_front (EditCall nat_put) ∷ by_front (InstallCall 1) ∷ []
 
--- Read: then it is claimed again.
+-- Then it is claimed again.
 abbrev pub nat_claimed_again : List PassCall
 nat_claimed_again =
     by_front (EditCall nat_put) ∷ by_front ClaimCall ∷ by_front (EditCall misspelled_put) ∷ by_front (EditCall nat_put) ∷ by_front (InstallCall 1) ∷ by_front ClaimCall ∷ []
 
--- Read: then the second claim is installed.
+-- Then the second claim is installed.
 abbrev pub nat_installed : List PassCall
 nat_installed =
     by_front (EditCall nat_put) ∷ by_front ClaimCall ∷ by_front (EditCall misspelled_put) ∷ by_front (EditCall nat_put) ∷ by_front (InstallCall 1) ∷ by_front ClaimCall ∷ by_front (InstallCall 5) ∷ []
@@ -98,7 +99,7 @@ NatIsInstalled = install_reply dependencies (over_modules nat_claimed_again) 5 �
 abbrev pub NothingButNat : Type 0
 NothingButNat = claim_reply modules (over_modules nat_installed) ≡ None
 
--- Read: the verdict on the natural numbers: an accepted theory of three declarations.
+-- The verdict on the natural numbers: an accepted theory of three declarations.
 abbrev pub nat_verdict : Verdict
 nat_verdict =
     Accepted (Theory (record {

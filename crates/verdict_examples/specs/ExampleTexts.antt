@@ -1,6 +1,6 @@
 -- The texts of the worked cases.
 use Rattle.std.specs.Prelude.{[], codes}
-use Rattle.log_meaning.specs.Names.{Text}
+use Rattle.name_meaning.specs.Names.{Text}
 
 abbrev pub text_Nat : Text
 text_Nat = codes "%sig Nat = {\nnat : type.\nz : nat.\ns : nat -> nat.\n}.\n"

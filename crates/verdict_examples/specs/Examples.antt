@@ -1,6 +1,7 @@
 -- Worked cases: what is told of a text that is put behind others.
 use Rattle.std.specs.Prelude.{◌≡◌, List, [], ◌∷◌, ◌++◌, drop, Some, None, codes}
-use Rattle.lf_meaning.specs.Terms.{Name, Path, Constant, Family, Pi, AtFamily, FamilyCon, Ty}
+use Rattle.name_meaning.specs.Names.{Name, Path}
+use Rattle.lf_meaning.specs.Terms.{Constant, Family, Pi, AtFamily, FamilyCon, Ty}
 use Rattle.lf_meaning.specs.Signatures.{Class, FamilyClass, KindClass, SameAs}
 use Rattle.log_meaning.specs.Log.{Module}
 use Rattle.expansion_meaning.specs.Rules.{Rule}
@@ -89,7 +90,7 @@ IllTypedAssignment = told_of (under (codes "Def") text_Def ∷ under (codes "T")
 abbrev pub FirstCovering : Type 0
 FirstCovering = told_of (under (codes "R") text_R ∷ under (codes "P") text_P ∷ under (codes "Q") text_Q ∷ under (codes "S") text_S ∷ under (codes "T") text_T_four ∷ under (codes "VR1") text_VR1 ∷ under (codes "VR2") text_VR2 ∷ []) (codes "VP") text_VP ≡ ViewOf 2
 
--- Read: nine modules, among them two theories that include R, a theory that includes both, and views of the two that
+-- Nine modules, among them two theories that include R, a theory that includes both, and views of the two that
 -- cover R by different views.
 abbrev pub two_coverings : List Module
 two_coverings = under (codes "R") text_R ∷ under (codes "P") text_P ∷ under (codes "Q") text_Q ∷ under (codes "S") text_S ∷ under (codes "T") text_T_four ∷ under (codes "VR1") text_VR1 ∷ under (codes "VR2") text_VR2 ∷ under (codes "VP") text_VP ∷ under (codes "VQ") text_VQ ∷ []
@@ -132,15 +133,15 @@ WrongName = told_of [] (codes "Z") text_Nat ≡ RefusedAt 1 6 Rule.WrongName (co
 
 -- A and B include each other, and C includes A.
 
--- Read: the verdict on A.
+-- The verdict on A.
 abbrev pub CycleOfA : Type 0
 CycleOfA = told_of (under (codes "A") text_A_ring ∷ under (codes "B") text_B_ring ∷ under (codes "C") text_C_ring ∷ []) (codes "A") text_A_ring ≡ RefusedAt 2 10 Rule.Cycle (codes "B" ∷ [])
 
--- Read: the verdict on B.
+-- The verdict on B.
 abbrev pub CycleOfB : Type 0
 CycleOfB = told_of (under (codes "A") text_A_ring ∷ under (codes "B") text_B_ring ∷ under (codes "C") text_C_ring ∷ []) (codes "B") text_B_ring ≡ RefusedAt 2 10 Rule.Cycle (codes "A" ∷ [])
 
--- Read: the verdict on C.
+-- The verdict on C.
 abbrev pub CycleOfC : Type 0
 CycleOfC = told_of (under (codes "A") text_A_ring ∷ under (codes "B") text_B_ring ∷ under (codes "C") text_C_ring ∷ []) (codes "C") text_C_ring ≡ RefusedAt 2 10 Rule.Cycle (codes "A" ∷ [])
 
@@ -148,31 +149,31 @@ CycleOfC = told_of (under (codes "A") text_A_ring ∷ under (codes "B") text_B_r
 abbrev pub AWithoutB : Type 0
 AWithoutB = told_after_drop (under (codes "A") text_A_ring ∷ under (codes "B") text_B_ring ∷ under (codes "C") text_C_ring ∷ []) (codes "B") (codes "A") text_A_ring ≡ RefusedAt 2 10 Rule.UnknownModule (codes "B" ∷ [])
 
--- Read: B is absent.
+-- B is absent.
 abbrev pub BWithoutB : Type 0
 BWithoutB = told_after_drop (under (codes "A") text_A_ring ∷ under (codes "B") text_B_ring ∷ under (codes "C") text_C_ring ∷ []) (codes "B") (codes "B") text_B_ring ≡ Absent
 
--- Read: C rests on a refused module.
+-- C rests on a refused module.
 abbrev pub CWithoutB : Type 0
 CWithoutB = told_after_drop (under (codes "A") text_A_ring ∷ under (codes "B") text_B_ring ∷ under (codes "C") text_C_ring ∷ []) (codes "B") (codes "C") text_C_ring ≡ RefusedAt 2 10 Rule.DependencyRefused (codes "A" ∷ [])
 
--- Read: a constant by its theory and path.
+-- A constant by its theory and path.
 abbrev pub constant_of : Name → Path → Constant
 constant_of theory path = record { theory = theory; path = path }
 
--- Read: a family constant as a family.
+-- A family constant as a family.
 abbrev pub atomic_of : Constant → Family
 atomic_of constant = AtFamily (FamilyCon constant)
 
--- Read: a constant of Nat.
+-- A constant of Nat.
 abbrev pub nat_of : Path → Constant
 nat_of path = constant_of (codes "Nat") path
 
--- Read: a constant of Ring.
+-- A constant of Ring.
 abbrev pub ring_of : Path → Constant
 ring_of path = constant_of (codes "Ring") path
 
--- Read: what a binary operation on the family is classified by.
+-- What a binary operation on the family is classified by.
 abbrev pub binary_on : Family → Class
 binary_on family = FamilyClass (Pi family (Pi family family))
 

@@ -1,13 +1,14 @@
 -- How worked cases are stated: texts are put into a library, and the verdict on one of them is told.
 use Rattle.std.specs.Prelude.{ℕ, suc, ◌+◌, ◌==◌, List, [], ◌∷◌, ◌++◌, Option, Some, None, map, length, filter, fold, take, if◌then◌else◌}
 use Rattle.lf_meaning.specs.Signatures.{Signature}
-use Rattle.log_meaning.specs.Names.{Name, Text}
+use Rattle.name_meaning.specs.Names.{Name, Text}
 use Rattle.log_meaning.specs.Log.{Module, Library, with_module, without_module}
 use Rattle.expansion_meaning.specs.Rules.{Rule}
 use Rattle.verdict_meaning.specs.Verdicts.{Verdict, Accepted, Refused, Theory, View}
 use Rattle.verdict_meaning.specs.Rounds.{verdict_of}
+use Rattle.text_meaning.specs.Places.{line_at, column_at}
 
--- Read: what is told of a verdict: a number of declarations; a number of constants; or a line and a column, counted from 1, a
+-- What is told of a verdict: a number of declarations; a number of constants; or a line and a column, counted from 1, a
 -- rule and a label.
 pub data Told : Type 0 where
   TheoryOf : ℕ → Told
@@ -15,47 +16,34 @@ pub data Told : Type 0 where
   RefusedAt : (line column : ℕ) → Rule → List Name → Told
   Absent : Told
 
--- Read: the line of a place.
-abbrev pub line_at : Text → ℕ → ℕ
-line_at text at = suc (length (filter (λ byte. byte == 10) (take at text)))
-
--- Read: how many bytes stand behind the last line feed.
-abbrev pub behind_feed : ℕ → Text → ℕ
-behind_feed count [] = count
-behind_feed count (byte ∷ text) = behind_feed (if byte == 10 then 0 else (count + 1)) text
-
--- Read: the column of a place, counted from 1.
-abbrev pub column_at : Text → ℕ → ℕ
-column_at text at = suc (behind_feed 0 (take at text))
-
--- Read: what is told of a verdict on this text.
+-- What is told of a verdict on this text.
 abbrev pub told : Text → Option Verdict → Told
 told text None = Absent
 told text (Some (Accepted (Theory face size))) = TheoryOf size
 told text (Some (Accepted (View face))) = ViewOf (length face.map)
 told text (Some (Refused refusal)) = RefusedAt (line_at text refusal.span.from) (column_at text refusal.span.from) refusal.rule refusal.label
 
--- Read: a module with its name and its text.
+-- A module with its name and its text.
 abbrev pub under : Name → Text → Module
 under name text = record { name = name; text = text }
 
--- Read: the library of these texts, each put in its turn.
+-- The library of these texts, each put in its turn.
 abbrev pub library_with : List Module → Library
 library_with texts = fold (λ (library : Library) (own : Module). with_module own.name own.text library) [] texts
 
--- Read: what is told of a text that is put behind these.
+-- What is told of a text that is put behind these.
 abbrev pub told_of : List Module → Name → Text → Told
 told_of texts name text = told text (verdict_of (library_with (texts ++ under name text ∷ [])) name)
 
--- Read: what a check tells of a library: its names in byte order, each with what is told of its verdict.
+-- What a check tells of a library: its names in byte order, each with what is told of its verdict.
 abbrev pub told_by_check : Library → List (Name × Told)
 told_by_check library = map (λ (own : Module). (own.name, told own.text (verdict_of library own.name))) library
 
--- Read: what is told of a name, with this text, after the texts were put and another name was dropped.
+-- What is told of a name, with this text, after the texts were put and another name was dropped.
 abbrev pub told_after_drop : List Module → Name → Name → Text → Told
 told_after_drop texts dropped name text = told text (verdict_of (without_module dropped (library_with texts)) name)
 
--- Read: the own constants of an accepted theory; of another module none.
+-- The own constants of an accepted theory; of another module none.
 abbrev pub own_of_verdict : Option Verdict → Signature
 own_of_verdict None = []
 own_of_verdict (Some (Accepted (Theory face size))) = face.own

@@ -1,6 +1,4 @@
-pub mod Dependencies
 pub mod Inclusions
 pub mod Modules
 pub mod Verdicts
 pub mod Rounds
-pub mod VerdictLaws

@@ -1,58 +1,57 @@
 -- The tests of a theory's declarations and of a view, and what they make (Rabe and Kohlhase 2013, section 3: theories and
 -- views; the order of tests is this profile).
 use Rattle.std.specs.Prelude.{Bool, List, [], ◌∷◌, ◌++◌, ◌||◌, not, is_some, Option, Some, None, Ok, ⊤}
-use Rattle.lf_meaning.specs.Terms.{Name, Path}
+use Rattle.name_meaning.specs.Names.{Name, Path}
 use Rattle.lf_meaning.specs.Signatures.{Class, Value}
 use Rattle.library_meaning.specs.Faces.{TheoryFace, ViewFace, Known, IsAbsent, IsRefused, IsTheory, IsView, Environment, structure_of}
 use Rattle.library_meaning.specs.Closure.{with_inclusion}
 use Rattle.library_meaning.specs.Resolution.{Scope, own_at}
 use Rattle.text_meaning.specs.Tokens.{Span}
-use Rattle.text_meaning.specs.Trees.{Expr, Written, Assign, Decl, IncludeDecl, StructDecl, ConstDecl}
+use Rattle.text_meaning.specs.Trees.{Expr, Written, Assign, Decl, IncludeDecl, StructDecl, ConstDecl, first_name}
 use Rattle.expansion_meaning.specs.Rules.{Rule}
-use Rattle.expansion_meaning.specs.Answers.{◌>>=◌}
+use Rattle.answer_meaning.specs.Answers.{◌>>=◌}
 use Rattle.expansion_meaning.specs.Values.{expand_class, expand_value}
 use Rattle.link_meaning.specs.Refusals.{Outcome, refused, labelled, demand}
 use Rattle.link_meaning.specs.Assignments.{Setting}
 use Rattle.link_meaning.specs.Passes.{link_map}
 use Rattle.link_meaning.specs.Induced.{with_structure}
-use Rattle.verdict_meaning.specs.Dependencies.{first_name}
 
--- Read: the module is an accepted theory: else it is absent, refused, or a view.
+-- The module is an accepted theory: else it is absent, refused, or a view.
 abbrev pub known_theory : Span → Path → Known → Outcome TheoryFace
 known_theory span label IsAbsent = refused span Rule.UnknownModule label
 known_theory span label IsRefused = refused span Rule.DependencyRefused label
 known_theory span label (IsTheory face) = Ok face
 known_theory span label (IsView face) = refused span Rule.WrongModuleKind label
 
--- Read: the test of a module that is named here.
+-- The test of a module that is named here.
 abbrev pub module_test : Environment → Path → Written → Outcome TheoryFace
 module_test environment label written = known_theory written.span label (environment (first_name written.path))
 
--- Read: the constants of a theory so far, and what it includes.
+-- The constants of a theory so far, and what it includes.
 abbrev pub scope_in : Environment → TheoryFace → Scope
 scope_in environment face = record { own = face.own; includes = face.includes; environment = environment }
 
--- Read: a constant or a structure declared above has the name.
+-- A constant or a structure declared above has the name.
 abbrev pub is_used : TheoryFace → Name → Bool
 is_used here name = is_some (own_at here.own (name ∷ [])) || is_some (structure_of here.structures name)
 
--- Read: no constant or structure declared above has the declared name, which is one name.
+-- No constant or structure declared above has the declared name, which is one name.
 abbrev pub unused_test : TheoryFace → Written → Outcome ⊤
 unused_test here name = demand (not (is_used here (first_name name.path))) name.span Rule.DuplicateName name.path
 
--- Read: the value of a declaration that has one.
+-- The value of a declaration that has one.
 abbrev pub declared_value : Scope → Path → Class → Option Expr → Outcome (Option Value)
 declared_value scope label class None = Ok None
 declared_value scope label class (Some expression) = do
   value ← labelled label (expand_value scope expression class)
   Ok (Some value)
 
--- Read: the theory with one more constant.
+-- The theory with one more constant.
 abbrev pub with_constant : TheoryFace → Name → Class → Option Value → TheoryFace
 with_constant here name class value =
     record here { own = here.own ++ record { name = record { theory = here.name; path = name ∷ [] }; class = class; value = value } ∷ [] }
 
--- Read: a structure of the theory that is being built, over what stands before it.
+-- A structure of the theory that is being built, over what stands before it.
 abbrev pub structure_setting : Environment → TheoryFace → Written → Name → Setting
 structure_setting environment here name domain =
     record {
@@ -66,7 +65,7 @@ structure_setting environment here name domain =
       label = name.path;
     }
 
--- Read: the theory with one more declaration.
+-- The theory with one more declaration.
 abbrev pub declare : Environment → TheoryFace → Decl → Outcome TheoryFace
 declare environment here (IncludeDecl included) = do
   _ ← module_test environment included.path included
@@ -82,18 +81,18 @@ declare environment here (StructDecl name domain assigns) = do
   along ← link_map (structure_setting environment here name (first_name domain.path)) assigns
   Ok (with_structure here (structure_setting environment here name (first_name domain.path)) (first_name name.path) along)
 
--- Read: the theory with these declarations, in the order of the text.
+-- The theory with these declarations, in the order of the text.
 unfoldable pub declare_all : Environment → TheoryFace → List Decl → Outcome TheoryFace
 declare_all environment here [] = Ok here
 declare_all environment here (decl ∷ decls) = do
   next ← declare environment here decl
   declare_all environment next decls
 
--- Read: the theory before its first declaration.
+-- The theory before its first declaration.
 abbrev pub empty_theory : Name → TheoryFace
 empty_theory name = record { name = name; own = []; includes = []; structures = [] }
 
--- Read: a view, the values of which stand in the whole codomain.
+-- A view, the values of which stand in the whole codomain.
 abbrev pub view_setting : Environment → Written → Name → TheoryFace → Name → Setting
 view_setting environment name domain target codomain =
     record {
@@ -107,7 +106,7 @@ view_setting environment name domain target codomain =
       label = name.path;
     }
 
--- Read: the view with these assignments.
+-- The view with these assignments.
 abbrev pub checked_view : Environment → Written → Written → Written → List Assign → Outcome ViewFace
 checked_view environment name domain codomain assigns = do
   _ ← module_test environment name.path domain

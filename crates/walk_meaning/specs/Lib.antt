@@ -1,4 +1,3 @@
 pub mod Walks
 pub mod Reach
 pub mod Subject
-pub mod WalkLaws

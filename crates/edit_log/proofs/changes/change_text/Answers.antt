@@ -1,5 +1,5 @@
 use Rattle.std.proofs.Common.{ap, ◌∙◌}
-use Rattle.log_meaning.specs.Rows.{with_row}
+use Rattle.name_meaning.specs.Rows.{with_row}
 use Rattle.edit_log.specs.Readings.{read_library}
 use Rattle.edit_log.proofs.Tables.{read_with, read_without}
 use Rattle.edit_log.proofs.changes.change_text.Goals as goal

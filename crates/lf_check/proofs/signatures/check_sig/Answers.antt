@@ -2,7 +2,7 @@ use Rattle.std.proofs.Common.{◌≡◌, ◌+◌, take, drop, Some, refl, sym, a
 use Rattle.std.specs.Prelude.{slice_get}
 use Rattle.lf_meaning.specs.Judgements.{IsSignature}
 use Rattle.lf_meaning.specs.Faults.{declaration_fault, signature_fault, signature_fault_after}
-use Rattle.lf_metatheory.proofs.Faultless.{signature_sound, signature_complete}
+use Rattle.lf_typing.proofs.Faultless.{signature_sound, signature_complete}
 use Rattle.lf_terms.specs.Readings.{read_declaration, read_signature}
 use Rattle.lf_check.proofs.Answered.{is_bad_of, refuses_signature}
 use Rattle.lf_check.proofs.Prefixes.{goes_on, stops_here, all_passed}

@@ -2,7 +2,7 @@
 use Rattle.std.proofs.Common.{ap, ◌∙◌, sym}
 use Rattle.lf_meaning.specs.Terms.{FamilyCon, Base}
 use Rattle.lf_meaning.specs.Erasure as meaning
-use Rattle.lf_meaning.proofs.Spines.{head_constant_applied}
+use Rattle.lf_term_laws.proofs.Spines.{head_constant_applied}
 use Rattle.lf_terms.specs.Readings.{read_arguments, read_constant, read_family}
 use Rattle.lf_terms.proofs.ReadingEquations.{read_family_at, read_simple_base}
 use Rattle.lf_terms.proofs.erasure.+erase.Goals as goal

@@ -1,6 +1,6 @@
 use Rattle.std.proofs.Common.{◌≡◌, ℕ, List, [], refl, subst, arith}
 use Rattle.std.specs.Prelude.{Option, Some, None, IfSome}
-use Rattle.output_meaning.specs.Script as meant
+use Rattle.first_path_meaning.specs.Script as meant
 use Rattle.script_reader.specs.Reading.{to_come}
 use Rattle.mmt_top.specs.declared.status.Status.{Status}
 use Rattle.mmt_top.specs.Session.{put_in, EndsAs, TurnTells}

@@ -1,7 +1,7 @@
 use Rattle.std.proofs.Common.{◌≡◌, false, subst, rules}
 use Rattle.std.specs.Prelude.{IfSome}
 use Rattle.output_meaning.specs.Lines.{lines_of}
-use Rattle.output_meaning.specs.Commands as commands
+use Rattle.first_path_meaning.specs.Commands as commands
 use Rattle.script_reader.specs.Reading.{to_come}
 use Rattle.script_reader.specs.Answers.{IsNext}
 use Rattle.script_reader.specs.declared.command.Command.{Command}

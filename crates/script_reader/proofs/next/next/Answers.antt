@@ -1,7 +1,7 @@
 use Rattle.std.proofs.Common.{◌≡◌, ℕ, List, subst, sym, ap, ◌∙◌}
 use Rattle.mmt_outside.specs.Bytes.{preceded}
 use Rattle.output_meaning.specs.Lines.{content_of}
-use Rattle.output_meaning.specs.Commands as meant
+use Rattle.first_path_meaning.specs.Commands as meant
 use Rattle.script_reader.specs.Said.{meaning_of}
 use Rattle.script_reader.specs.declared.said.Said.{Said}
 use Rattle.script_reader.specs.Answers.{IsFirstLine}

@@ -1,8 +1,8 @@
 use Rattle.std.proofs.Common.{◌∙◌, ap, ◌++◌, true}
 use Rattle.mmt_syntax.specs.Readings.{read_expr}
-use Rattle.print_laws.specs.PrintedItems.{tight, text_of}
-use Rattle.print_laws.specs.PrintedExpressions.{expr_items}
-use Rattle.print_laws.specs.PrintedModules.{expr_text}
+use Rattle.print_meaning.specs.PrintedItems.{tight, text_of}
+use Rattle.print_meaning.specs.PrintedExpressions.{expr_items}
+use Rattle.print_meaning.specs.PrintedModules.{expr_text}
 use Rattle.twelf_print.proofs.PublicClauses.{expr_spells, expr_within, expr_fewest}
 use Rattle.twelf_print.proofs.expressions.print_expr.Goals as goal
 

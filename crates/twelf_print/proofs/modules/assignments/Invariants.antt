@@ -1,8 +1,8 @@
 use Rattle.std.proofs.Common.{◌≡◌, ◌++◌, take}
 use Rattle.std.specs.Prelude.{flat_map}
 use Rattle.mmt_syntax.specs.Readings.{read_assigns}
-use Rattle.print_laws.specs.PrintedItems.{text_of}
-use Rattle.print_laws.specs.PrintedModules.{assign_items}
+use Rattle.print_meaning.specs.PrintedItems.{text_of}
+use Rattle.print_meaning.specs.PrintedModules.{assign_items}
 use Rattle.twelf_print.proofs.modules.assignments.Given as goal
 
 -- the assignments so far

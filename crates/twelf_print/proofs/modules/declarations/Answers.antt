@@ -1,7 +1,7 @@
 use Rattle.std.proofs.Common.{sym, append-nil}
 use Rattle.mmt_syntax.specs.Readings.{read_decl}
-use Rattle.print_laws.specs.PrintedItems.{text_of}
-use Rattle.print_laws.specs.PrintedModules.{decl_items}
+use Rattle.print_meaning.specs.PrintedItems.{text_of}
+use Rattle.print_meaning.specs.PrintedModules.{decl_items}
 use Rattle.twelf_print.proofs.FrontTexts.{next_part}
 use Rattle.twelf_print.proofs.modules.declarations.Goals as goal
 

@@ -1,8 +1,8 @@
 use Rattle.std.proofs.Common.{Some, refl, sym, ap, ◌∙◌, subst, length, ◌<◌}
 use Rattle.log_meaning.specs.Log as logs
 use Rattle.log_meaning.specs.Log.{library_of}
-use Rattle.log_meaning.specs.Append.{module_limit}
-use Rattle.log_meaning.proofs.Order.{same_sound, same_turned}
+use Rattle.name_meaning.specs.Limits.{module_limit}
+use Rattle.name_laws.proofs.Order.{same_sound, same_turned}
 use Rattle.edit_log.specs.Readings.{IsAnswer}
 use Rattle.edit_log.proofs.Tables.{length_read}
 use Rattle.edit_log.proofs.Answering.{put_long, put_same, put_too_many, put_new, put_other}

@@ -1,10 +1,10 @@
 use Rattle.std.proofs.Common.{◌≡◌, ◌+◌, ◌++◌, ◌∷◌, [], suc, cond, Some, map, length, sym, ap, ◌∙◌, arith, rules}
 use Rattle.std.proofs.lemmas.List.{map-append, length-map}
 use Rattle.std.specs.Map.{lookup}
-use Rattle.log_meaning.specs.Names.{same_name}
+use Rattle.name_meaning.specs.Names.{same_name}
 use Rattle.log_meaning.specs.Log.{Log, Edit, edited, version_of}
 use Rattle.log_meaning.specs.Append.{Made, total_size, append_answer}
-use Rattle.log_meaning.proofs.Libraries.{library_last}
+use Rattle.log_laws.proofs.Libraries.{library_last}
 use Rattle.edit_log.specs.Readings.{read_edit}
 use Rattle.edit_log.proofs.Answering.{made_fits, made_within, size_after}
 use Rattle.edit_log.proofs.Items.{at_ok}

@@ -1,5 +1,5 @@
 use Rattle.std.proofs.Common.{refl}
-use Rattle.log_meaning.specs.Names.{is_ascending}
+use Rattle.name_meaning.specs.Names.{is_ascending}
 use Rattle.name_table.proofs.table.NameTable.new.Goals as goal
 
 pub invariant_of-result : goal.invariant_of-result

@@ -1,0 +1,2 @@
+//! Answers that are a value or the first fault: definitions, in `specs/`.
+#![tactic(auto)]

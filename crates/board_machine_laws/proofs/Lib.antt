@@ -1,0 +1,4 @@
+pub mod Claiming
+pub mod Computed
+pub mod Earlier
+pub mod Histories

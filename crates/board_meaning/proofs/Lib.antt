@@ -1,4 +1,0 @@
-pub mod Histories
-pub mod Claiming
-pub mod Earlier
-pub mod Computed

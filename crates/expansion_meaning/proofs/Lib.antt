@@ -1,6 +1,0 @@
-pub mod Binding
-pub mod NamesStand
-pub mod Sound
-pub mod Complete
-pub mod ValuesStand
-pub mod Standing

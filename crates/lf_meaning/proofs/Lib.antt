@@ -1,5 +1,0 @@
-pub mod Spines
-pub mod Equality
-pub mod SpineSynthesis
-pub mod Substituted
-pub mod Lookups

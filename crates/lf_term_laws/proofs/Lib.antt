@@ -1,0 +1,6 @@
+pub mod Equality
+pub mod Lookups
+pub mod SpineSynthesis
+pub mod Spines
+pub mod Substituted
+pub mod Declarations

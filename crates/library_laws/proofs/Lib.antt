@@ -1,0 +1,5 @@
+pub mod ClosureKept
+pub mod ClosureMembers
+pub mod Computed
+pub mod ComputedWords
+pub mod Resolving

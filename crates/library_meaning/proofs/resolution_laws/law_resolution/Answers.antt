@@ -1,5 +1,0 @@
-use Rattle.library_meaning.proofs.Resolving.{resolution_stands}
-use Rattle.library_meaning.proofs.resolution_laws.law_resolution.Goals as goal
-
-pub returns : goal.returns
-returns c = resolution_stands

@@ -1,0 +1,7 @@
+pub mod Agreeing
+pub mod Covered
+pub mod Following
+pub mod Linked
+pub mod Listing
+pub mod Reading
+pub mod Valued

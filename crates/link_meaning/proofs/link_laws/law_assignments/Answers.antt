@@ -1,5 +1,0 @@
-use Rattle.link_meaning.proofs.Reading.{assignments_are_read}
-use Rattle.link_meaning.proofs.link_laws.law_assignments.Goals as goal
-
-pub returns : goal.returns
-returns c = assignments_are_read

@@ -1,0 +1,21 @@
+-- Answers taken apart, and put together.
+use Rattle.std.proofs.Common.{◌≡◌, Result, Ok, Err, refl, ap, ◌∙◌}
+use Rattle.answer_meaning.specs.Answers.{◌>>=◌}
+
+pub record Came {E A B : Type 0} (first : Result A E) (next : A → Result B E) (value : B) : Type 0 where
+  pub item : A
+  pub came : first ≡ Ok item
+  pub goes : next item ≡ Ok value
+
+pub came_by : {E A B : Type 0} (first : Result A E) (next : A → Result B E) (value : B) → first >>= next ≡ Ok value → Came first next value
+came_by (Err fault) next value h = absurd (cc)
+came_by (Ok item) next value h = record { item = item; came = refl; goes = h }
+
+pub goes_by : {E A B : Type 0} (first : Result A E) (next : A → Result B E) (item : A) (value : B) → first ≡ Ok item → next item ≡ Ok value → first >>= next ≡ Ok value
+goes_by first next item value h g = ap (λ r. r >>= next) h ∙ g
+
+abbrev Same : (A : Type 0) → A → A → Type 0
+Same A x y = x ≡ y
+
+pub ok_same : {E A : Type 0} {x y : A} → Same (Result A E) (Ok x) (Ok y) → x ≡ y
+ok_same h = cc

@@ -1,0 +1,14 @@
+-- Options that hold something or nothing.
+use Rattle.std.proofs.Common.{◌≡◌, Bool, true, false, cond, Option, Some, None, is_some, refl}
+use Rattle.std.specs.Prelude.{option_map}
+
+pub none_of : {A : Type 0} (o : Option A) → is_some o ≡ false → o ≡ None
+none_of None h = refl
+none_of (Some x) h = absurd (cc)
+
+pub clash : {A : Type 0} {x : A} (o : Option A) → o ≡ None → o ≡ Some x → ⊥
+clash o h g = absurd (cc)
+
+pub mapped_by : {A B : Type 0} (f : A → B) (b : Bool) (x : A) (o : Option A) (q : Option B) → q ≡ option_map f o → cond b (Some (f x)) q ≡ option_map f (cond b (Some x) o)
+mapped_by f true x o q e = refl
+mapped_by f false x o q e = e

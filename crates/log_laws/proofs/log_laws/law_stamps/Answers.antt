@@ -1,0 +1,8 @@
+use Rattle.log_laws.proofs.Libraries.{stamp_after_last, stamp_past}
+use Rattle.log_laws.proofs.log_laws.law_stamps.Goals as goal
+
+pub returns-clause-stamp : goal.returns-clause-stamp
+returns-clause-stamp c = stamp_after_last
+
+pub returns-clause-past : goal.returns-clause-past
+returns-clause-past c = stamp_past

@@ -1,0 +1,38 @@
+-- Laws of the log and of the library that it leaves (this profile).
+use Rattle.std.specs.Prelude.{◌≡◌, suc, ◌≤◌, [], ◌∷◌, ◌++◌, Option, Some, None, if◌then◌else◌}
+use Rattle.name_meaning.specs.Names.{Name, Text, same_name, is_among}
+use Rattle.log_meaning.specs.Log.{Edit, Put, Drop, edited_name, Log, Library, names_of, library_of, text_of, is_present, version_of, stamp_of, IsLibrary}
+use Rattle.log_meaning.specs.Append.{appended, IsWithinLimits}
+
+-- What an edit leaves of its name.
+abbrev pub left_by : Edit → Option Text
+left_by (Put name text) = Some text
+left_by (Drop name) = None
+
+-- The library of a log has its names in byte order, each once.
+abbrev pub LogLeavesLibrary : Type 0
+LogLeavesLibrary = (log : Log) → IsLibrary (library_of log)
+
+-- The names of a library are those that it has a text for.
+abbrev pub NamesArePresent : Type 0
+NamesArePresent = (library : Library) (name : Name) → is_present library name ≡ is_among (names_of library) name
+
+-- An edit decides the text of its own name, and leaves those of the others.
+abbrev pub EditDecidesText : Type 0
+EditDecidesText =
+    (log : Log) (edit : Edit) (name : Name)
+    → text_of (library_of (log ++ edit ∷ [])) name ≡ (if same_name name (edited_name edit) then left_by edit else text_of (library_of log) name)
+
+-- An edit's version becomes the stamp of its name, and the stamps of the others stay.
+abbrev pub EditDecidesStamp : Type 0
+EditDecidesStamp =
+    (log : Log) (edit : Edit) (name : Name)
+    → stamp_of (log ++ edit ∷ []) name ≡ (if same_name name (edited_name edit) then suc (version_of log) else stamp_of log name)
+
+-- No stamp is greater than the version.
+abbrev pub StampsArePast : Type 0
+StampsArePast = (log : Log) (name : Name) → stamp_of log name ≤ version_of log
+
+-- A log that keeps to the limits keeps to them after any edit.
+abbrev pub LimitsAreKept : Type 0
+LimitsAreKept = (log : Log) (edit : Edit) → IsWithinLimits log → IsWithinLimits (appended log edit)

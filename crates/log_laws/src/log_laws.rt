@@ -1,0 +1,21 @@
+//! The log and the library that it leaves.
+
+ghost use Rattle.log_laws.specs.LogLaws.{LogLeavesLibrary, NamesArePresent, EditDecidesText, EditDecidesStamp, StampsArePast, LimitsAreKept};
+
+/// A log leaves a library, whose names are the present ones. An edit decides the text of its name alone.
+pub fn law_library()
+    ensures library { LogLeavesLibrary }
+    ensures names { NamesArePresent }
+    ensures text { EditDecidesText }
+{}
+
+/// An edit gives its version to its name alone, and no stamp is greater than the version.
+pub fn law_stamps()
+    ensures stamp { EditDecidesStamp }
+    ensures past { StampsArePast }
+{}
+
+/// A log that keeps to the limits keeps to them after any edit.
+pub fn law_limits()
+    ensures { LimitsAreKept }
+{}

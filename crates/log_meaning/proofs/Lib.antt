@@ -1,6 +1,0 @@
-pub mod Members
-pub mod Order
-pub mod Libraries
-pub mod Limits
-pub mod Places
-pub mod RowLaws

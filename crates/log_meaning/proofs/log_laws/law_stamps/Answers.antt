@@ -1,8 +1,0 @@
-use Rattle.log_meaning.proofs.Libraries.{stamp_after_last, stamp_past}
-use Rattle.log_meaning.proofs.log_laws.law_stamps.Goals as goal
-
-pub returns-clause-stamp : goal.returns-clause-stamp
-returns-clause-stamp c = stamp_after_last
-
-pub returns-clause-past : goal.returns-clause-past
-returns-clause-past c = stamp_past

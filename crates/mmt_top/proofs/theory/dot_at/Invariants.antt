@@ -1,7 +1,0 @@
-use Rattle.std.proofs.Common.{take}
-use Rattle.output_meaning.specs.FirstForm.{NoDot}
-use Rattle.mmt_top.specs.Pieces.{pieces_in}
-use Rattle.mmt_top.proofs.theory.dot_at.Given as goal
-
-abbrev pub invariant-loop-i : goal.invariant-loop-i
-invariant-loop-i l = NoDot (pieces_in (take l.i l.pieces))

@@ -1,0 +1,2 @@
+//! Lemmas on names and their byte order.
+#![tactic(auto)]

@@ -1,0 +1,4 @@
+pub mod PrintedExpressions
+pub mod PrintedItems
+pub mod PrintedJudgements
+pub mod PrintedModules

@@ -1,0 +1,2 @@
+//! What a printed module or expression is: definitions, in `specs/`.
+#![tactic(auto)]

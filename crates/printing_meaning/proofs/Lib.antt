@@ -1,3 +1,0 @@
-pub mod Decimals
-pub mod FreePrefixes
-pub mod Computed

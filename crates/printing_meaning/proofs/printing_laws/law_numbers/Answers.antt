@@ -1,5 +1,0 @@
-use Rattle.printing_meaning.proofs.Decimals.{numbers_are_decimal}
-use Rattle.printing_meaning.proofs.printing_laws.law_numbers.Goals as goal
-
-pub returns : goal.returns
-returns c = numbers_are_decimal

@@ -1,0 +1,5 @@
+pub mod Items
+pub mod Kept
+pub mod Lines
+pub mod Logs
+pub mod Outputs

@@ -1,5 +1,0 @@
-pub mod Lines
-pub mod Items
-pub mod Logs
-pub mod Kept
-pub mod Outputs

@@ -1,0 +1,55 @@
+-- Laws of translation (Rabe and Kohlhase 2013, section 4).
+use Rattle.std.specs.Prelude.{◌≡◌, ℕ, ◌<◌, true, false, List, map, slice_get, Option, Some, None, option_map, Decides}
+use Rattle.lf_meaning.specs.Signatures.{Value, Declaration, Signature}
+use Rattle.lf_meaning.specs.Terms.{Constant, Object, AtomicFamily, apply_all, family_apply_all, At, Con}
+use Rattle.lf_meaning.specs.Replacement.{takes_all, object_of}
+use Rattle.translation_meaning.specs.Heads.{head_takes_all}
+use Rattle.lf_meaning.specs.HeadMaps.{HeadMap, image_of}
+use Rattle.translation_meaning.specs.Differ.{value_in, agree_on, differ}
+use Rattle.translation_meaning.specs.Translation.{headed_image, translate_object, translate_head, translate_image, compose}
+
+-- A constant with its arguments is translated by its image taking the translated arguments, from left to right.
+abbrev pub SpineIsTaken : Type 0
+SpineIsTaken =
+    (along : HeadMap) (constant : Constant) (arguments : List Object)
+    → translate_object along (At (apply_all (Con constant) arguments))
+    ≡ object_of (takes_all (headed_image constant (image_of along constant)) (map (translate_object along) arguments))
+
+-- So is an atomic family with further arguments.
+abbrev pub FamilySpineIsTaken : Type 0
+FamilySpineIsTaken =
+    (along : HeadMap) (p : AtomicFamily) (arguments : List Object)
+    → translate_head along (family_apply_all p arguments) ≡ head_takes_all (translate_head along p) (map (translate_object along) arguments)
+
+-- A composition has the images of the first map, translated along the second, and no others.
+abbrev pub CompositionTranslatesImages : Type 0
+CompositionTranslatesImages =
+    (first second : HeadMap) (constant : Constant)
+    → image_of (compose first second) constant ≡ option_map (translate_image second) (image_of first constant)
+
+-- The place where two maps differ is the first declaration on which they do not agree; there is none where they agree on
+-- all.
+pub record IsFirstDifference (first second : HeadMap) (names : Signature) (place : ℕ) : Type 0 where
+  pub declaration : Declaration
+  pub found : slice_get names place ≡ Some declaration
+  pub differs : agree_on first second declaration ≡ false
+  pub before : (i : ℕ) (earlier : Declaration) → i < place → slice_get names i ≡ Some earlier → agree_on first second earlier ≡ true
+
+-- The maps agree on all declarations.
+abbrev pub AgreeOnAll : HeadMap → HeadMap → Signature → Type 0
+AgreeOnAll first second names = (i : ℕ) (declaration : Declaration) → slice_get names i ≡ Some declaration → agree_on first second declaration ≡ true
+
+-- A place is that of the first difference; none is that there is no difference.
+abbrev pub IsDifference : HeadMap → HeadMap → Signature → Option ℕ → Type 0
+IsDifference first second names None = AgreeOnAll first second names
+IsDifference first second names (Some place) = IsFirstDifference first second names place
+
+-- What the function answers is so.
+abbrev pub DifferenceIsFirst : Type 0
+DifferenceIsFirst = (first second : HeadMap) (names : Signature) → IsDifference first second names (differ first second names)
+
+-- Two maps agree on a constant where both give it an image, with one value.
+abbrev pub AgreeIsOneValue : Type 0
+AgreeIsOneValue =
+    (first second : HeadMap) (declaration : Declaration)
+    → Decides (agree_on first second declaration) ((value : Value) × (value_in first declaration.name ≡ Some value) × (value_in second declaration.name ≡ Some value))

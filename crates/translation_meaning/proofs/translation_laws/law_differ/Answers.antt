@@ -1,8 +1,0 @@
-use Rattle.translation_meaning.proofs.Differing.{difference_is_first, agree_is_one_value}
-use Rattle.translation_meaning.proofs.translation_laws.law_differ.Goals as goal
-
-pub returns-clause-first : goal.returns-clause-first
-returns-clause-first c = difference_is_first
-
-pub returns-clause-agree : goal.returns-clause-agree
-returns-clause-agree c = agree_is_one_value

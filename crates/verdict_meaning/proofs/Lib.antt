@@ -1,3 +1,0 @@
-pub mod Shortness
-pub mod Rounds
-pub mod Verdicts

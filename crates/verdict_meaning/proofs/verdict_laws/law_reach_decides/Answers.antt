@@ -1,8 +1,0 @@
-use Rattle.verdict_meaning.proofs.Verdicts.{verdict_keeps_to_reach, verdict_rests_on_verdicts}
-use Rattle.verdict_meaning.proofs.verdict_laws.law_reach_decides.Goals as goal
-
-pub returns-clause-texts : goal.returns-clause-texts
-returns-clause-texts c = verdict_keeps_to_reach
-
-pub returns-clause-verdicts : goal.returns-clause-verdicts
-returns-clause-verdicts c = verdict_rests_on_verdicts

@@ -1,0 +1,4 @@
+pub mod Tasks
+pub mod WordsAnswered
+pub mod WordsAsked
+pub mod Workers

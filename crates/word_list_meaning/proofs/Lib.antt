@@ -1,4 +1,0 @@
-pub mod Workers
-pub mod WordsAsked
-pub mod WordsAnswered
-pub mod Tasks
