@@ -3,8 +3,7 @@ use Rattle.std.proofs.Common.{◌≡◌, ℕ, zero, suc, Bool, true, false, List
 use Rattle.std.proofs.lemmas.Bool.{and_parts}
 use Rattle.name_meaning.specs.Names.{Name}
 use Rattle.log_meaning.specs.Log.{Edit, names_of}
-use Rattle.log_meaning.specs.Append.{Edited, Made, Same, Absent, Full, TooLong, TooMany, append_answer}
-use Rattle.log_laws.specs.LogLaws.{IsWithinLimits}
+use Rattle.log_meaning.specs.Append.{Edited, Made, Same, Absent, Full, TooLong, TooMany, append_answer, IsWithinLimits}
 use Rattle.walk_meaning.specs.Walks.{Dependencies}
 use Rattle.list_laws.proofs.Members.{find_found}
 use Rattle.log_laws.proofs.Limits.{made_not_full, made_within, empty_within}

@@ -1,33 +1,15 @@
 -- The library and the stamps after one more edit.
-use Rattle.std.proofs.Common.{◌≡◌, ℕ, suc, ◌+◌, ◌<◌, ◌≤◌, max, Bool, true, false, not, cond, List, [], ◌∷◌, ◌++◌, length, filter, fold, Option, Some, None, is_some, ◌||◌, refl, sym, ap, ◌∙◌, subst, true≢false, arith}
+use Rattle.std.proofs.Common.{◌≡◌, ℕ, suc, ◌+◌, ◌<◌, ◌≤◌, max, Bool, true, false, not, cond, List, [], ◌∷◌, ◌++◌, length, filter, fold, Option, Some, None, is_some, ◌||◌, refl, sym, ap, ◌∙◌, subst, arith}
 use Rattle.std.specs.List.{list_all}
 use Rattle.std.proofs.lemmas.Bool.{and_parts, and_from}
 use Rattle.name_meaning.specs.Names.{Name, Text, same_name, comes_before, is_among, is_ascending, with_name}
 use Rattle.log_meaning.specs.Log.{Edit, Put, Drop, edited_name, Log, Module, Library, names_of, with_module, without_module, edited, library_of, text_of, is_present, version_of, stamp_from, stamp_of}
 use Rattle.log_laws.specs.LogLaws.{left_by}
 use Rattle.list_laws.proofs.Members.{Member, in_map, map_in, in_filter, all_at, all_of}
-use Rattle.name_laws.proofs.Order.{same_sound, same_of, with_ascending}
+use Rattle.name_laws.proofs.Order.{same_sound, with_ascending}
+use Rattle.name_laws.proofs.Rows.{same_branch, other_branch, not_both, same_as, same_either}
 
 -- ---- texts
-
-module _ {X : Type 0} where
-  same_branch : (a b : Bool) (x y z : X) → a ≡ b → cond a x y ≡ cond a x (cond b z y)
-  same_branch true b x y z e = refl
-  same_branch false true x y z e = absurd (true≢false (sym e))
-  same_branch false false x y z e = refl
-
-  other_branch : (a b : Bool) (x y z rest : X) → (a ≡ true → b ≡ true → ⊥) → rest ≡ cond a x y → cond b z rest ≡ cond a x (cond b z y)
-  other_branch true true x y z rest f e = absurd (f refl refl)
-  other_branch true false x y z rest f e = e
-  other_branch false true x y z rest f e = refl
-  other_branch false false x y z rest f e = e
-
--- two names that a third name equals are one
-not_both : (n m k : Name) → same_name n k ≡ false → same_name m n ≡ true → same_name m k ≡ true → ⊥
-not_both n m k h f g = true≢false (sym (same_of n k (sym (same_sound m n f) ∙ same_sound m k g)) ∙ h)
-
-same_as : (n m k : Name) → same_name n k ≡ true → same_name m n ≡ same_name m k
-same_as n m k h = ap (same_name m) (same_sound n k h)
 
 module_of : Name → Text → Module
 module_of n t = record { name = n; text = t }
@@ -55,10 +37,6 @@ unfolding text_of
 drop_by n o library rest m true s h = h ∙ same_branch (same_name m n) (same_name m o.name) None (text_of library m) (Some o.text) (same_as n m o.name s)
 drop_by n o library rest m false s h =
     other_branch (same_name m n) (same_name m o.name) None (text_of library m) (Some o.text) (text_of rest m) (not_both n m o.name s) h
-
-same_either : {X : Type 0} (b : Bool) (x : X) → x ≡ cond b x x
-same_either true x = refl
-same_either false x = refl
 
 pub text_without : (n : Name) (library : Library) (m : Name) → text_of (without_module n library) m ≡ cond (same_name m n) None (text_of library m)
 unfolding text_of without_module

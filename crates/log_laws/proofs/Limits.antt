@@ -7,8 +7,7 @@ use Rattle.std.proofs.lemmas.Bool.{and_cases, and_from, or_parts}
 use Rattle.name_meaning.specs.Names.{Name, Text, same_name, comes_before, is_ascending}
 use Rattle.log_meaning.specs.Log.{Edit, Put, Drop, Log, Module, Library, names_of, with_module, without_module, edited, library_of, text_of, is_present, version_of}
 use Rattle.name_meaning.specs.Limits.{text_limit, module_limit, edit_limit, total_limit}
-use Rattle.log_meaning.specs.Append.{Edited, Made, Same, Absent, Full, TooLong, TooMany, size_of, is_short, total_size, is_full, is_text, append_answer, log_after, appended}
-use Rattle.log_laws.specs.LogLaws.{IsWithinLimits}
+use Rattle.log_meaning.specs.Append.{Edited, Made, Same, Absent, Full, TooLong, TooMany, size_of, is_short, total_size, is_full, is_text, append_answer, log_after, appended, IsWithinLimits}
 use Rattle.log_laws.proofs.Libraries.{fold_last, library_last, library_ascending, names_with, present_among}
 use Rattle.name_laws.proofs.Order.{among_member, with_present}
 

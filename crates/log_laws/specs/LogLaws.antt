@@ -1,10 +1,8 @@
 -- Laws of the log and of the library that it leaves (this profile).
-use Rattle.std.specs.Prelude.{◌≡◌, true, suc, ◌≤◌, [], ◌∷◌, ◌++◌, length, Option, Some, None, if◌then◌else◌}
-use Rattle.std.specs.List.{list_all}
+use Rattle.std.specs.Prelude.{◌≡◌, suc, ◌≤◌, [], ◌∷◌, ◌++◌, Option, Some, None, if◌then◌else◌}
 use Rattle.name_meaning.specs.Names.{Name, Text, same_name, is_among}
 use Rattle.log_meaning.specs.Log.{Edit, Put, Drop, edited_name, Log, Library, names_of, library_of, text_of, is_present, version_of, stamp_of, IsLibrary}
-use Rattle.name_meaning.specs.Limits.{module_limit, edit_limit, total_limit}
-use Rattle.log_meaning.specs.Append.{is_short, total_size, appended}
+use Rattle.log_meaning.specs.Append.{appended, IsWithinLimits}
 
 -- What an edit leaves of its name.
 abbrev pub left_by : Edit → Option Text
@@ -34,14 +32,6 @@ EditDecidesStamp =
 -- No stamp is greater than the version.
 abbrev pub StampsArePast : Type 0
 StampsArePast = (log : Log) (name : Name) → stamp_of log name ≤ version_of log
-
--- The log keeps to all limits: of each text that was put, of the edits, of the modules that are left, and of all texts
--- together.
-pub record IsWithinLimits (log : Log) : Type 0 where
-  pub texts : list_all is_short log ≡ true
-  pub edits : version_of log ≤ edit_limit
-  pub modules : length (library_of log) ≤ module_limit
-  pub total : total_size log ≤ total_limit
 
 -- A log that keeps to the limits keeps to them after any edit.
 abbrev pub LimitsAreKept : Type 0

@@ -1,6 +1,7 @@
 -- Which edits a log takes, and what it answers (this profile).
 use Rattle.name_meaning.specs.Limits.{total_limit, edit_limit, module_limit, text_limit}
-use Rattle.std.specs.Prelude.{ℕ, suc, Bool, false, List, [], ◌∷◌, ◌++◌, ◌+◌, ◌^◌, ◌&&◌, ◌||◌, not, length, sum_by, fold, nat_lt, nat_le, Option, Some, None, if◌then◌else◌}
+use Rattle.std.specs.Prelude.{◌≡◌, true, ◌≤◌, ℕ, suc, Bool, false, List, [], ◌∷◌, ◌++◌, ◌+◌, ◌&&◌, ◌||◌, not, length, sum_by, fold, nat_lt, nat_le, Option, Some, None, if◌then◌else◌}
+use Rattle.std.specs.List.{list_all}
 use Rattle.std.specs.Str.{bytes_eq}
 use Rattle.name_meaning.specs.Names.{Text}
 use Rattle.log_meaning.specs.Log.{Edit, Put, Drop, Log, library_of, text_of, is_present, version_of}
@@ -67,3 +68,11 @@ appended log edit = log_after log edit (append_answer log edit)
 -- The log after these edits, one after another.
 unfoldable pub appended_all : Log → List Edit → Log
 appended_all log edits = fold appended log edits
+
+-- The log keeps to all limits: of each text that was put, of the edits, of the modules that are left, and of all texts
+-- together.
+pub record IsWithinLimits (log : Log) : Type 0 where
+  pub texts : list_all is_short log ≡ true
+  pub edits : version_of log ≤ edit_limit
+  pub modules : length (library_of log) ≤ module_limit
+  pub total : total_size log ≤ total_limit

@@ -1,0 +1,5 @@
+mod Tables
+mod Answering
+mod Texts
+mod Keeping
+mod Items
