@@ -1,3 +1,4 @@
 pub mod Computed
 pub mod Differing
 pub mod Spines
+pub mod FirstUnmapped

@@ -1,6 +1,6 @@
 //! Translation of spines, and composed maps.
 
-ghost use Rattle.translation_laws.specs.TranslationLaws.{SpineIsTaken, FamilySpineIsTaken, CompositionTranslatesImages, DifferenceIsFirst, AgreeIsOneValue};
+ghost use Rattle.translation_laws.specs.TranslationLaws.{SpineIsTaken, FamilySpineIsTaken, CompositionTranslatesImages, DifferenceIsFirst, AgreeIsOneValue, FirstIsFound};
 
 /// A head with its arguments is translated by its image taking the translated arguments.
 pub fn law_spines()
@@ -17,4 +17,9 @@ pub fn law_composition()
 pub fn law_differ()
     ensures first { DifferenceIsFirst }
     ensures agree { AgreeIsOneValue }
+{}
+
+/// The constant that is found is the first one without an image; none is found where each has one.
+pub fn law_unmapped()
+    ensures { FirstIsFound }
 {}
