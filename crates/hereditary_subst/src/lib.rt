@@ -6,6 +6,3 @@ mod substitution;
 
 pub use reduction::reduce;
 pub use substitution::{subst_fam, subst_kind, subst_obj};
-
-#[cfg(test)]
-mod tests;

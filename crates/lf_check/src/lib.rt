@@ -13,10 +13,3 @@ mod stops;
 pub use faults::{LfFault, SigFault};
 pub use judgements::{check_fam, check_kind, check_obj, synth};
 pub use signatures::check_sig;
-
-#[cfg(test)]
-mod judgement_tests;
-#[cfg(test)]
-mod signature_tests;
-#[cfg(test)]
-mod test_texts;

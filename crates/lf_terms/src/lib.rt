@@ -44,12 +44,3 @@ pub use shift::{shift_fam, shift_kind, shift_obj};
 pub use simple::Simple;
 pub use span::Span;
 pub use steps::Steps;
-
-#[cfg(test)]
-mod table_tests;
-#[cfg(test)]
-mod term_tests;
-#[cfg(test)]
-mod tests;
-#[cfg(test)]
-mod thread_tests;

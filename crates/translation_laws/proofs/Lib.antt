@@ -2,3 +2,4 @@ pub mod Computed
 pub mod Differing
 pub mod Spines
 pub mod Typed
+pub mod FirstUnmapped

@@ -1,7 +1,7 @@
 -- Laws of translation (Rabe and Kohlhase 2013, section 4).
 use Rattle.std.specs.Prelude.{◌≡◌, ℕ, ◌<◌, true, false, List, map, slice_get, Option, Some, None, option_map, Decides}
-use Rattle.lf_meaning.specs.Signatures.{Value, Declaration, Signature}
-use Rattle.lf_meaning.specs.Terms.{Constant, Object, AtomicFamily, apply_all, family_apply_all, At, Con}
+use Rattle.lf_meaning.specs.Signatures.{Class, Value, Declaration, Signature}
+use Rattle.lf_meaning.specs.Terms.{Constant, Object, Family, Kind, AtomicFamily, apply_all, family_apply_all, At, Con}
 use Rattle.lf_meaning.specs.Replacement.{takes_all, object_of}
 use Rattle.translation_meaning.specs.Heads.{head_takes_all}
 use Rattle.lf_meaning.specs.HeadMaps.{Image, HeadMap, image_of}
@@ -9,6 +9,8 @@ use Rattle.lf_meaning.specs.Judgements.{Fits}
 use Rattle.translation_meaning.specs.TypedMaps.{IsTypedMap}
 use Rattle.translation_meaning.specs.Differ.{value_in, agree_on, differ}
 use Rattle.translation_meaning.specs.Translation.{headed_image, translate_object, translate_head, translate_image, compose, translate_class, translate_value}
+use Rattle.translation_meaning.specs.FirstUnmapped.{constants_of_object, constants_of_family, constants_of_kind, constants_of_class, constants_of_value, constants_of_map, IsUnmapped}
+use Rattle.translation_meaning.specs.Unmapped.{unmapped_object, unmapped_family, unmapped_kind, unmapped_class, unmapped_value, unmapped_map}
 
 -- A constant with its arguments is translated by its image taking the translated arguments, from left to right.
 abbrev pub SpineIsTaken : Type 0
@@ -69,3 +71,12 @@ ConstantsHaveImages =
     (from to : Signature) (along : HeadMap) (place : ℕ) (declaration : Declaration) → IsTypedMap from to along
     → slice_get from place ≡ Some declaration
     → (image : Image) × (image_of along declaration.name ≡ Some image) × (image.class ≡ translate_class along declaration.class) × Fits to image.value image.class
+
+-- The functions find the first constant without an image: of all sorts of terms, of values, and of the images of a map.
+pub record FirstIsFound : Type 0 where
+  pub object : (along : HeadMap) (object : Object) → IsUnmapped along (constants_of_object object) (unmapped_object along object)
+  pub family : (along : HeadMap) (family : Family) → IsUnmapped along (constants_of_family family) (unmapped_family along family)
+  pub kind : (along : HeadMap) (kind : Kind) → IsUnmapped along (constants_of_kind kind) (unmapped_kind along kind)
+  pub class : (along : HeadMap) (class : Class) → IsUnmapped along (constants_of_class class) (unmapped_class along class)
+  pub value : (along : HeadMap) (value : Value) → IsUnmapped along (constants_of_value value) (unmapped_value along value)
+  pub map : (along mappings : HeadMap) → IsUnmapped along (constants_of_map mappings) (unmapped_map along mappings)

@@ -1,6 +1,6 @@
 //! Translation of spines, and composed maps.
 
-ghost use Rattle.translation_laws.specs.TranslationLaws.{SpineIsTaken, FamilySpineIsTaken, CompositionTranslatesImages, DifferenceIsFirst, AgreeIsOneValue, DefinedConstantsKeepValues, ConstantsHaveImages};
+ghost use Rattle.translation_laws.specs.TranslationLaws.{SpineIsTaken, FamilySpineIsTaken, CompositionTranslatesImages, DifferenceIsFirst, AgreeIsOneValue, DefinedConstantsKeepValues, ConstantsHaveImages, FirstIsFound};
 
 /// A head with its arguments is translated by its image taking the translated arguments.
 pub fn law_spines()
@@ -24,4 +24,9 @@ pub fn law_differ()
 pub fn law_typed_maps()
     ensures values { DefinedConstantsKeepValues }
     ensures images { ConstantsHaveImages }
+{}
+
+/// The constant that is found is the first one without an image; none is found where each has one.
+pub fn law_unmapped()
+    ensures { FirstIsFound }
 {}

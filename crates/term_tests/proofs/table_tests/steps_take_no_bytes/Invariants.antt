@@ -1,4 +1,4 @@
-use Rattle.lf_terms.proofs.table_tests.steps_take_no_bytes.Given as goal
+use Rattle.term_tests.proofs.table_tests.steps_take_no_bytes.Given as goal
 
 -- The ledger of the blank.
 abbrev pub ghosts-counted : goal.ghosts-counted

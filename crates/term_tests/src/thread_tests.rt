@@ -1,6 +1,6 @@
 //! Which types may cross threads: these functions are proved, and nothing is run.
 
-use crate::{Arc, Class, Ctx, Fam, FlatSig, HeadMap, Kind, Obj, Spine, Value};
+use lf_terms::{Arc, Class, Ctx, Fam, FlatSig, HeadMap, Kind, Obj, Spine, Value};
 
 fn crosses<T: Send + Sync>(_value: &T) {}
 

@@ -1,0 +1,159 @@
+//! Judgements about single terms, over vectors and a context of a natural and a vector of so many elements.
+
+use crate::signature_tests::VECTORS;
+use lf_check::{LfFault, check_fam, check_kind, check_obj, synth};
+use lf_terms::{Ctx, FlatSig, Head, same_fam};
+use std::alloc::Global;
+use std::test::Fail;
+use test_texts::{constant, context, family, kind, object, signature, spine};
+
+const CONTEXT: &str = "n : nat\nv : vec n";
+
+const NAMES: &str = "n v";
+
+/// What a fault is called, and its place.
+fn named(fault: &LfFault) -> (&str, &[u32]) {
+    match fault {
+        LfFault::UnknownConstant { at } => ("unknown-constant", at.as_slice()),
+        LfFault::NotAFunction { at } => ("not-a-function", at.as_slice()),
+        LfFault::NotCanonical { at } => ("not-canonical", at.as_slice()),
+        LfFault::Mismatch { at } => ("mismatch", at.as_slice()),
+        LfFault::Level { at } => ("level", at.as_slice()),
+        LfFault::Memory => ("memory", &[]),
+    }
+}
+
+/// Whether a fault is the wanted one, which is written as its name and its place, `mismatch 1 2`.
+pub(crate) fn is_fault(fault: &LfFault, wanted: &str) -> Result<bool, Fail> {
+    let (name, at) = named(fault);
+    let mut words = wanted.split_whitespace();
+    let mut holds = words.next() == Some(name);
+    for number in at {
+        let wanted = words.next().ok_or("a longer place")?;
+        holds = holds && wanted.parse::<u32>()? == *number;
+    }
+    Ok(holds && words.next().is_none())
+}
+
+/// Whether an answer is the wanted one, which is written as `ok` or as a fault.
+fn is_answer(checked: &Result<(), LfFault>, wanted: &str) -> Result<bool, Fail> {
+    match checked {
+        Ok(()) => Ok(wanted == "ok"),
+        Err(fault) => is_fault(fault, wanted),
+    }
+}
+
+fn object_answered(
+    alloc: Global,
+    sig: &FlatSig,
+    ctx: &Ctx,
+    judgement: &str,
+    wanted: &str,
+) -> Result<bool, Fail> {
+    let (text, class) = judgement.split_once(" : ").ok_or("no family")?;
+    let object = object(alloc, NAMES, text)?;
+    let family = family(alloc, NAMES, class)?;
+    let checked = check_obj(alloc, sig, ctx, &object, &family);
+    is_answer(&checked, wanted)
+}
+
+#[test]
+fn objects_in_a_context(rt: HostRuntime) -> Result<(), Fail> {
+    let alloc = rt.alloc();
+    let sig = signature(alloc, VECTORS)?;
+    let ctx = context(alloc, CONTEXT)?;
+    for (judgement, wanted) in [
+        ("cons n z v : vec (s n)", "ok"),
+        ("v : vec n", "ok"),
+        ("v : vec v", "mismatch"),
+        ("#2 : vec n", "unknown-constant"),
+        ("[x] v : {x:nat} vec x", "mismatch 0"),
+        ("[x] s (x n) : nat -> nat", "not-a-function 0 2 2"),
+    ] {
+        assert!(rt;
+            object_answered(alloc, &sig, &ctx, judgement, wanted)?,
+            "{judgement}"
+        );
+    }
+    Ok(())
+}
+
+/// Whether a constant with arguments synthesises the wanted family, or has the wanted fault.
+fn synthesises(
+    alloc: Global,
+    sig: &FlatSig,
+    ctx: &Ctx,
+    (head, arguments): (&str, &str),
+    wanted: &str,
+) -> Result<bool, Fail> {
+    let head = Head::Con(constant(alloc, head)?);
+    let arguments = spine(alloc, NAMES, arguments)?;
+    match synth(alloc, sig, ctx, &head, arguments.as_slice()) {
+        Ok(found) => {
+            let found = Box::new(alloc, found)?;
+            let wanted = family(alloc, NAMES, wanted)?;
+            Ok(same_fam(&found, &wanted))
+        }
+        Err(fault) => is_fault(&fault, wanted),
+    }
+}
+
+#[test]
+fn a_head_synthesises_its_family(rt: HostRuntime) -> Result<(), Fail> {
+    let alloc = rt.alloc();
+    let sig = signature(alloc, VECTORS)?;
+    let ctx = context(alloc, CONTEXT)?;
+    for (applied, wanted) in [
+        (("cons", "n z"), "vec n -> vec (s n)"),
+        (("z", ""), "nat"),
+        (("vec", ""), "level"),
+        (("s", "(nil z)"), "not-a-function 2 2"),
+    ] {
+        assert!(rt;
+            synthesises(alloc, &sig, &ctx, applied, wanted)?,
+            "{wanted}"
+        );
+    }
+    Ok(())
+}
+
+fn family_answered(
+    alloc: Global,
+    sig: &FlatSig,
+    ctx: &Ctx,
+    text: &str,
+    wanted: &str,
+) -> Result<bool, Fail> {
+    let family = family(alloc, NAMES, text)?;
+    let checked = check_fam(alloc, sig, ctx, &family);
+    is_answer(&checked, wanted)
+}
+
+fn kind_answered(
+    alloc: Global,
+    sig: &FlatSig,
+    ctx: &Ctx,
+    text: &str,
+    wanted: &str,
+) -> Result<bool, Fail> {
+    let kind = kind(alloc, NAMES, text)?;
+    let checked = check_kind(alloc, sig, ctx, &kind);
+    is_answer(&checked, wanted)
+}
+
+#[test]
+fn families_and_kinds_in_a_context(rt: HostRuntime) -> Result<(), Fail> {
+    let alloc = rt.alloc();
+    let sig = signature(alloc, VECTORS)?;
+    let ctx = context(alloc, CONTEXT)?;
+    for (text, wanted) in [("{x:nat} vec x", "ok"), ("nat -> vec v", "mismatch 1 2")] {
+        assert!(rt; family_answered(alloc, &sig, &ctx, text, wanted)?, "{text}");
+    }
+    for (text, wanted) in [
+        ("{x:nat} vec x -> type", "ok"),
+        ("nat -> vec -> type", "not-canonical 1 0"),
+    ] {
+        assert!(rt; kind_answered(alloc, &sig, &ctx, text, wanted)?, "{text}");
+    }
+    Ok(())
+}

@@ -1,0 +1,21 @@
+//! Tests of terms, of substitution and of the checker. What a clause says is not tested again: a test shows that a call
+//! which allocates succeeds with ample memory, on small, wide and deep terms, and that the definitions give what is
+//! wanted in worked cases.
+#![tactic(auto)]
+
+#[cfg(test)]
+mod judgement_tests;
+#[cfg(test)]
+mod name_tests;
+#[cfg(test)]
+mod signature_tests;
+#[cfg(test)]
+mod size_tests;
+#[cfg(test)]
+mod substitution_tests;
+#[cfg(test)]
+mod table_tests;
+#[cfg(test)]
+mod term_tests;
+#[cfg(test)]
+mod thread_tests;

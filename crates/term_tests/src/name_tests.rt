@@ -1,0 +1,120 @@
+//! Names by the rules of the formats, paths, and lists.
+
+use lf_terms::{Bytes, Name, NameFault, Path, Texts};
+use std::alloc::Global;
+use std::cmp::Ordering;
+use std::collections::{BTreeSet, HashSet};
+use std::test::Fail;
+
+#[test]
+fn identifiers_are_names(rt: HostRuntime) -> Result<(), Fail> {
+    let alloc = rt.alloc();
+    for text in [
+        "nat",
+        "a->b",
+        "type'",
+        "=>",
+        "__",
+        "x'1",
+        "\u{e9}\u{3bb}",
+        "#",
+        "\u{8}",
+    ] {
+        let name = Name::new(alloc, text)?;
+        assert_eq!(rt; name.copy(alloc)?.as_str(), text);
+    }
+    Ok(())
+}
+
+#[test]
+fn other_texts_are_no_names(rt: HostRuntime) {
+    let alloc = rt.alloc();
+    for text in [
+        "", "type", "->", "<-", "=", "_", "a.b", "a b", "a\t", "\r", "\u{b}", "\u{c}", "a:", "a(",
+        ")", "[", "]", "{", "}", "%a", "\"", "a\n",
+    ] {
+        assert_eq!(rt;
+            Name::new(alloc, text).err(),
+            Some(NameFault::NotAName),
+            "{text:?}"
+        );
+    }
+}
+
+fn ordered(alloc: Global) -> Result<String, Fail> {
+    let mut names = BTreeSet::new(alloc);
+    for text in ["b", "a", "Z", "ab", "a"] {
+        names.insert(Name::new(alloc, text)?)?;
+    }
+    let mut order = String::new(alloc);
+    for name in names.iter() {
+        order.push_str(name.as_str())?;
+        order.push_str(" ")?;
+    }
+    Ok(order)
+}
+
+#[test]
+fn names_stand_in_byte_order(rt: HostRuntime) -> Result<(), Fail> {
+    let alloc = rt.alloc();
+    assert_eq!(rt; ordered(alloc)?.as_str(), "Z a ab b ");
+    let a = Name::new(alloc, "a")?;
+    let ab = Name::new(alloc, "ab")?;
+    assert_eq!(rt; a.partial_cmp(&ab), Some(Ordering::Less));
+    Ok(())
+}
+
+/// The path `m.a.b.c`.
+fn long_path(alloc: Global) -> Result<Path, Fail> {
+    let mut path = Path::new(alloc, Name::new(alloc, "m")?)?;
+    for text in ["a", "b", "c"] {
+        path.push(Name::new(alloc, text)?)?;
+    }
+    Ok(path)
+}
+
+/// How many different paths there are in a path, its copy and its first name.
+fn different_paths(alloc: Global, path: &Path) -> Result<usize, Fail> {
+    let mut paths = HashSet::new(alloc);
+    paths.insert(path.copy(alloc)?)?;
+    paths.insert(path.copy(alloc)?)?;
+    paths.insert(Path::new(alloc, Name::new(alloc, "m")?)?)?;
+    Ok(paths.len())
+}
+
+#[test]
+fn paths_grow_and_are_copied(rt: HostRuntime) -> Result<(), Fail> {
+    let alloc = rt.alloc();
+    let path = long_path(alloc)?;
+    assert_eq!(rt; path.len(), 4);
+    assert_eq!(rt; different_paths(alloc, &path)?, 2);
+    Ok(())
+}
+
+fn bytes(alloc: Global) -> Result<Bytes, Fail> {
+    let mut bytes = Bytes::new(alloc);
+    bytes.push(7)?;
+    bytes.extend(&[8, 9])?;
+    let mut again = Bytes::from_vec(bytes.into_vec());
+    again.add(10)?;
+    Ok(again)
+}
+
+fn texts(alloc: Global) -> Result<Texts, Fail> {
+    let mut texts = Texts::new(alloc);
+    texts.push(String::from_str(alloc, "one")?)?;
+    texts.push(String::from_str(alloc, "")?)?;
+    Ok(texts)
+}
+
+#[test]
+fn lists_grow_at_their_end(rt: HostRuntime) -> Result<(), Fail> {
+    let alloc = rt.alloc();
+    let bytes = bytes(alloc)?;
+    assert_eq!(rt; bytes.as_slice(), [7, 8, 9, 10].as_slice());
+    assert_eq!(rt; bytes.get(4), None);
+    let texts = texts(alloc)?;
+    assert_eq!(rt; texts.len(), 2);
+    assert!(rt; texts.get(0).is_some_and(|text| text.as_str() == "one"));
+    Ok(())
+}

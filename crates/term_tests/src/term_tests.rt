@@ -1,0 +1,154 @@
+//! Terms are raised, erased and copied.
+
+use lf_terms::{
+    Obj, Simple, Spine, same_class, same_fam, same_kind, same_obj, same_value, shift_fam,
+    shift_kind, shift_obj,
+};
+use std::alloc::Global;
+use std::test::Fail;
+use test_texts::{class, constant, family, kind, object, simple, value};
+
+/// Whether the object with its variables raised is the wanted one.
+fn raises(alloc: Global, text: &str, by: u32, from: u32, wanted: &str) -> Result<bool, Fail> {
+    let term = object(alloc, "", text)?;
+    let wanted = object(alloc, "", wanted)?;
+    let raised = Box::new(alloc, shift_obj(alloc, &term, by, from)?)?;
+    Ok(same_obj(&raised, &wanted))
+}
+
+fn raises_family(
+    alloc: Global,
+    text: &str,
+    by: u32,
+    from: u32,
+    wanted: &str,
+) -> Result<bool, Fail> {
+    let term = family(alloc, "", text)?;
+    let wanted = family(alloc, "", wanted)?;
+    let raised = Box::new(alloc, shift_fam(alloc, &term, by, from)?)?;
+    Ok(same_fam(&raised, &wanted))
+}
+
+fn raises_kind(alloc: Global, text: &str, by: u32, from: u32, wanted: &str) -> Result<bool, Fail> {
+    let term = kind(alloc, "", text)?;
+    let wanted = kind(alloc, "", wanted)?;
+    let raised = Box::new(alloc, shift_kind(alloc, &term, by, from)?)?;
+    Ok(same_kind(&raised, &wanted))
+}
+
+#[test]
+fn indices_are_raised_from_a_place(rt: HostRuntime) -> Result<(), Fail> {
+    let alloc = rt.alloc();
+    for (text, by, from, wanted) in [
+        ("g #0 #1", 2, 0, "g #2 #3"),
+        ("[x] g x #1 #2", 5, 1, "[x] g x #1 #7"),
+        ("#0 ([x] #1 x)", 1, 0, "#1 ([x] #2 x)"),
+        ("[x] g x #1", u32::MAX - 1, 0, "[x] g x #4294967295"),
+    ] {
+        assert!(rt; raises(alloc, text, by, from, wanted)?, "{text}");
+    }
+    assert!(rt; raises_family(alloc, "{x:a #0} a x #1", 2, 0, "{x:a #2} a x #3")?);
+    assert!(rt; raises_kind(alloc, "{x:a #0 #1} type", 2, 1, "{x:a #0 #3} type")?);
+    Ok(())
+}
+
+/// Writes a base by its name, an arrow in parentheses.
+fn write_simple(simple: &Simple, out: &mut String) -> Result<(), Fail> {
+    match simple {
+        Simple::Base(name) => {
+            for name in name.path.as_slice() {
+                out.push_str(name.as_str())?;
+            }
+        }
+        Simple::Arrow(domain, codomain) => {
+            out.push_str("(")?;
+            write_simple(domain, out)?;
+            out.push_str(" ")?;
+            write_simple(codomain, out)?;
+            out.push_str(")")?;
+        }
+    }
+    Ok(())
+}
+
+#[test]
+fn families_erase_to_simple_types(rt: HostRuntime) -> Result<(), Fail> {
+    let alloc = rt.alloc();
+    let erased = simple(alloc, "(a -> b) -> {x:a} c x")?;
+    let mut written = String::new(alloc);
+    write_simple(&erased, &mut written)?;
+    assert_eq!(rt; written.as_str(), "((a b) (a c))");
+    Ok(())
+}
+
+fn class_copied(alloc: Global, text: &str) -> Result<bool, Fail> {
+    let term = class(alloc, text)?;
+    let copy = Box::new(alloc, term.copy(alloc)?)?;
+    Ok(same_class(&term, &copy))
+}
+
+fn value_copied(alloc: Global, text: &str) -> Result<bool, Fail> {
+    let term = value(alloc, text)?;
+    let copy = Box::new(alloc, term.copy(alloc)?)?;
+    Ok(same_value(&term, &copy))
+}
+
+#[test]
+fn terms_are_copied(rt: HostRuntime) -> Result<(), Fail> {
+    let alloc = rt.alloc();
+    for text in ["{x:a} b x", "{x:a} b x -> type"] {
+        assert!(rt; class_copied(alloc, text)?, "{text}");
+    }
+    for text in ["same T.c", "[x] g x z", "family x y. b x"] {
+        assert!(rt; value_copied(alloc, text)?, "{text}");
+    }
+    Ok(())
+}
+
+/// Whether the term of a text that leaves parentheses out is the one that has them.
+fn same_texts(alloc: Global, text: &str, other: &str) -> Result<bool, Fail> {
+    let term = object(alloc, "x y", text)?;
+    let other = object(alloc, "", other)?;
+    Ok(same_obj(&term, &other))
+}
+
+#[test]
+fn texts_are_read_as_terms(rt: HostRuntime) -> Result<(), Fail> {
+    let alloc = rt.alloc();
+    for (text, other) in [
+        ("x y", "#1 #0"),
+        ("[x] g x y", "[z] (g #0 #1)"),
+        ("[x] [y] x (g y)", "[a] [b] #1 (g #0)"),
+        ("T.s.c z", "T.s.c t.z"),
+    ] {
+        assert!(rt; same_texts(alloc, text, other)?, "{text}");
+    }
+    let arrows = family(alloc, "", "a -> b -> c")?;
+    let products = family(alloc, "", "{x:a} ({y:b} c)")?;
+    assert!(rt; same_fam(&arrows, &products));
+    Ok(())
+}
+
+/// Arguments that were added one by one, and put into a vector and back.
+fn added(alloc: Global) -> Result<Spine, Fail> {
+    let mut spine = Spine::with_capacity(alloc, 2)?;
+    spine.add(Box::into_inner(object(alloc, "", "#0")?))?;
+    spine.push(Box::into_inner(object(alloc, "", "c")?))?;
+    Ok(Spine::from_vec(spine.into_vec()))
+}
+
+fn is_second(spine: &Spine, other: &Obj) -> bool {
+    spine.get(1).is_some_and(|second| same_obj(second, other))
+}
+
+#[test]
+fn arguments_grow_at_their_end(rt: HostRuntime) -> Result<(), Fail> {
+    let alloc = rt.alloc();
+    let c = object(alloc, "", "c")?;
+    let spine = added(alloc)?;
+    assert_eq!(rt; spine.len(), 2);
+    assert!(rt; is_second(&spine, &c));
+    let name = constant(alloc, "T.s.c")?;
+    assert!(rt; name.copy(alloc)? == name);
+    Ok(())
+}
