@@ -32,7 +32,7 @@ module _ {E : Type 0} (number_of : E → ℕ) where
     pub others : list_all (λ (number : ℕ). are_of_others number_of number later) numbers ≡ true
 
   -- What holds of each view, beside these words, this number of passes made and this history. A pass that has made its note has
-  -- seen the whole history, and is no pass that was joined into another.
+  -- seen the whole history, and is no pass that was joined into another. Pass 0 keeps the number of passes made.
   pub record Fits (ticket serving made : ℕ) (history : List E) (view : View E) : Type 0 where
     pub turn : InTurn ticket serving view.stage
     pub own : Begins view.numbers view.seen history
@@ -66,8 +66,8 @@ module _ {T E : Type 0} (entries_of : T → List E) where
     pub slot : homes ≡ none ∷ []
     pub one : count_by (λ (view : View E). has_turn view.stage) views ≡ 1
 
-  -- The history is the longest list that was seen, and each list begins it. Tickets and numbers differ: each stands once. The
-  -- holder of a value that is out has seen the history when it took the value, and again after each entry of its own.
+  -- The history is the longest list that was seen. The holder of a value that is out has seen the history when it took the value,
+  -- and again after each entry of its own.
   pub record IsKept (number_of : E → ℕ) (state : State (Option T) (View E)) : Type 0 where
     pub ticket : ℕ
     pub serving : ℕ
@@ -75,8 +75,10 @@ module _ {T E : Type 0} (entries_of : T → List E) where
     pub history : List E
     pub words : state.words ≡ ticket ∷ serving ∷ length history ∷ []
     pub fits : ticket < 18446744073709551616
+    -- as many passes hold a ticket, and no two the same one
     pub tickets : ticket ≡ serving + count_by (λ (view : View E). has_ticket view.stage) state.views
     pub differ : (own : ℕ) → count_by (λ (view : View E). holds_ticket own view.stage) state.views ≤ 1
+    -- the numbers of passes, and of those joined into them, stand once each, and are numbers of passes made
     pub numbers_differ : (number : ℕ) → sum_by (times_in number) state.views ≤ 1
     pub numbers_below : (number : ℕ) → 0 < sum_by (times_in number) state.views → number < made
     pub entries_below : are_below number_of made history ≡ true
