@@ -1,5 +1,5 @@
 pub mod Computed
 pub mod Differing
 pub mod Spines
-pub mod Typed
+mod Typed
 pub mod FirstUnmapped

@@ -20,7 +20,6 @@ pub fn law_differ()
 {}
 
 /// A typed map gives each constant an image of its translated class, and a defined one its translated value.
-#[tactic(auto, using(crate::proofs::Typed::defined_constants_keep_values, crate::proofs::Typed::constants_have_images))]
 pub fn law_typed_maps()
     ensures values { DefinedConstantsKeepValues }
     ensures images { ConstantsHaveImages }
