@@ -5,10 +5,9 @@ use Rattle.std.proofs.lemmas.Str.{IsCharBoundary-start, is_utf8-from_IsUtf8}
 use Rattle.text_meaning.specs.Cut.{Finished, Unclosed, Tokens, OpenComment, IsLexed}
 use Rattle.text_meaning.specs.Cutting.{Between, Cutting, ahead, cut_on, lexed_of}
 use Rattle.token_laws.proofs.OneCut.{one_cut, lex_utf8}
-use Rattle.token_laws.proofs.Steps.{at_end_of_text}
 use Rattle.twelf_lexer.specs.declared.token.Token.{Token}
-use Rattle.twelf_lexer.specs.Steps.{Advances, token_of, tokens_of}
-use Rattle.twelf_lexer.proofs.Fronts.{none_left}
+use Rattle.twelf_lexer.specs.Advances.{Advances}
+use Rattle.twelf_lexer.specs.Steps.{token_of, tokens_of}
 
 -- what was read, and what is still to be read, are the cut of the whole
 pub record LexedSoFar (text : List ℕ) (at : ℕ) (ts : List Token) : Type 0 where
@@ -18,9 +17,6 @@ pub record LexedSoFar (text : List ℕ) (at : ℕ) (ts : List Token) : Type 0 wh
 
 pub nothing_yet : (text : List ℕ) → IsUtf8 text → LexedSoFar text 0 []
 nothing_yet text u = record { within = omega arith; boundary = IsCharBoundary-start text u; so_far = refl }
-
-pub over_nothing : (text : List ℕ) (at to : ℕ) (ts : List Token) → LexedSoFar text at ts → Advances text at to [] → LexedSoFar text to ts
-over_nothing text at to ts l a = record { within = a.within; boundary = a.boundary; so_far = sym (ap (ahead (tokens_of text ts)) a.cut) ∙ l.so_far }
 
 pub over_token : (text : List ℕ) (at to : ℕ) (ts : List Token) (t : Token) → LexedSoFar text at ts → Advances text at to (token_of text t ∷ []) → LexedSoFar text to (ts ++ (t ∷ []))
 over_token text at to ts t l a =
@@ -35,11 +31,8 @@ whole : (text : List ℕ) (at : ℕ) (ts : List Token) (c : Cutting) → IsUtf8 
 whole text at ts c u l e =
     subst (IsLexed text) (lex_utf8 text (is_utf8-from_IsUtf8 text u) ∙ ap lexed_of (sym l.so_far ∙ ap (ahead (tokens_of text ts)) e)) (one_cut text).is_cut
 
-pub finished : (text : List ℕ) (at : ℕ) (ts : List Token) → IsUtf8 text → LexedSoFar text at ts → cut_on Between at (drop at text) ≡ record { tokens = []; ending = Finished at } → IsLexed text (Tokens (tokens_of text ts) at)
-finished text at ts u l e = subst (λ x. IsLexed text (Tokens x at)) (append-nil (tokens_of text ts)) (whole text at ts _ u l e)
+pub finished : (text : List ℕ) (at end : ℕ) (ts : List Token) → IsUtf8 text → LexedSoFar text at ts → cut_on Between at (drop at text) ≡ record { tokens = []; ending = Finished end } → IsLexed text (Tokens (tokens_of text ts) end)
+finished text at end ts u l e = subst (λ x. IsLexed text (Tokens x end)) (append-nil (tokens_of text ts)) (whole text at ts _ u l e)
 
-pub unclosed : (text : List ℕ) (at : ℕ) (ts : List Token) → IsUtf8 text → LexedSoFar text at ts → cut_on Between at (drop at text) ≡ record { tokens = []; ending = Unclosed at } → IsLexed text (OpenComment at)
-unclosed text at ts u l e = whole text at ts _ u l e
-
-pub at_its_end : (text : List ℕ) (at : ℕ) (ts : List Token) → IsUtf8 text → LexedSoFar text at ts → length text ≤ at → IsLexed text (Tokens (tokens_of text ts) at)
-at_its_end text at ts u l h = finished text at ts u l (ap (cut_on Between at) (none_left text at h) ∙ at_end_of_text at)
+pub unclosed : (text : List ℕ) (at from : ℕ) (ts : List Token) → IsUtf8 text → LexedSoFar text at ts → cut_on Between at (drop at text) ≡ record { tokens = []; ending = Unclosed from } → IsLexed text (OpenComment from)
+unclosed text at from ts u l e = whole text at ts _ u l e

@@ -3,6 +3,9 @@ pub mod Fronts
 pub mod Places
 pub mod RowSteps
 pub mod RowLoops
+pub mod Marks
+pub mod Props
 pub mod CommentSteps
 pub mod StepLemmas
+pub mod Lexemes
 pub mod LexLoop

@@ -13,7 +13,8 @@ use Rattle.text_meaning.specs.Cutting.{Between, ahead, cut_on}
 use Rattle.token_laws.proofs.CutFollows.{and_front, or_front, or_back, row_first}
 use Rattle.twelf_lexer.specs.Scans.{IsFront}
 use Rattle.twelf_lexer.specs.Rows.{IsRow, row_goes_on}
-use Rattle.twelf_lexer.specs.Steps.{Advances}
+use Rattle.twelf_lexer.specs.Advances.{Advances}
+use Rattle.twelf_lexer.specs.Lexemes.{runs, runs_behind}
 use Rattle.twelf_lexer.proofs.Fronts.{here_and_on}
 use Rattle.twelf_lexer.proofs.Places.{Stands, begins_at, front_length, front_parts, boundary_before}
 use Rattle.list_laws.proofs.Booleans.{and_second}
@@ -148,21 +149,46 @@ stray_row [] h f = absurd (true≢false (sym h))
 stray_row (w ∷ []) h f = absurd (true≢false (sym h))
 stray_row (w ∷ v ∷ vs) h f = rw f refl
 
+-- the bytes of a row
+same_front : (a b c d : List ℕ) → length a ≡ length b → a ++ c ≡ b ++ d → a ≡ b
+same_front [] [] c d l e = refl
+same_front [] (y ∷ b) c d l e = absurd cc
+same_front (x ∷ a) [] c d l e = absurd cc
+same_front (x ∷ a) (y ∷ b) c d l e = let f : x ≡ y = cc in let l' : length a ≡ length b = cc in let t : a ++ c ≡ b ++ d = cc in let g = same_front a b c d l' t in rw (f, g) refl
+
+pub row_bytes : (text : List ℕ) (at to : ℕ) (ws : List (List ℕ)) → IsRow text at to ws → slice_range text at to ≡ spelled ws
+row_bytes text at to ws r =
+    let forward : at ≤ to = omega (arith, r.length_is) in
+    let len : length (slice_range text at to) ≡ length (spelled ws) = omega (arith, front_length text at to forward r.within, r.length_is) in
+    same_front (slice_range text at to) (spelled ws) (drop to text) (drop to text) len (sym (front_parts text at to forward) ∙ r.parts)
+
 -- a row of one run is that run
 pub single_row : (text : List ℕ) (at to : ℕ) (ws : List (List ℕ)) → IsRow text at to ws → nat_lt 1 (length ws) ≡ false → ws ≡ slice_range text at to ∷ []
 single_row text at to [] r h = absurd (true≢false (sym r.runs))
-single_row text at to (w ∷ []) r h =
-    let forward : at ≤ to = omega (arith, r.length_is) in
-    let len : length (slice_range text at to) ≡ length w = omega (arith, front_length text at to forward r.within, r.length_is, ap length (append-nil w)) in
-    let e : slice_range text at to ++ drop to text ≡ w ++ drop to text = sym (front_parts text at to forward) ∙ r.parts ∙ ap (λ l. l ++ drop to text) (append-nil w) in
-    ap (λ l. l ∷ []) (sym (same_front (slice_range text at to) w (drop to text) (drop to text) len e))
-  where
-    same_front : (a b c d : List ℕ) → length a ≡ length b → a ++ c ≡ b ++ d → a ≡ b
-    same_front [] [] c d l e = refl
-    same_front [] (y ∷ b) c d l e = absurd cc
-    same_front (x ∷ a) [] c d l e = absurd cc
-    same_front (x ∷ a) (y ∷ b) c d l e = let f : x ≡ y = cc in let l' : length a ≡ length b = cc in let t : a ++ c ≡ b ++ d = cc in let g = same_front a b c d l' t in rw (f, g) refl
+single_row text at to (w ∷ []) r h = ap (λ l. l ∷ []) (sym (row_bytes text at to (w ∷ []) r ∙ append-nil w))
 single_row text at to (w ∷ v ∷ vs) r h = absurd (true≢false (sym (two (length vs)) ∙ h))
   where
     two : (n : ℕ) → nat_lt 1 (suc (suc n)) ≡ true
     two n = grind (arith, nat_tests)
+
+-- the runs of a row are read off its bytes
+not_dot : (b : ℕ) → is_identifier_byte b ≡ true → (b == dot) ≡ false
+not_dot b h = ne_eqb b dot (λ e. true≢false (sym h ∙ ap is_identifier_byte e))
+
+runs_over : (run w rest : List ℕ) → list_all is_identifier_byte w ≡ true → runs_behind run (w ++ rest) ≡ runs_behind (run ++ w) rest
+runs_over run [] rest h = ap (λ r. runs_behind r rest) (sym (append-nil run))
+runs_over run (b ∷ w) rest h =
+    let on = runs_over (run ++ (b ∷ [])) w rest (and_back (is_identifier_byte b) (list_all is_identifier_byte w) h) ∙ ap (λ r. runs_behind r rest) (append_assoc run (b ∷ []) w) in
+    rw (not_dot b (and_front (is_identifier_byte b) _ h)) on
+
+runs_dotted : (run : List ℕ) (ws : List (List ℕ)) → list_all is_run ws ≡ true → runs_behind run (dotted ws) ≡ run ∷ ws
+runs_dotted run [] h = refl
+runs_dotted run (w ∷ ws) h =
+    ap (λ l. run ∷ l) (runs_over [] w (dotted ws) (run_ids w (and_front (is_run w) (list_all is_run ws) h)) ∙ runs_dotted w ws (and_back (is_run w) (list_all is_run ws) h))
+
+pub runs_spelled : (ws : List (List ℕ)) → is_row ws ≡ true → runs (spelled ws) ≡ ws
+runs_spelled [] h = absurd (true≢false (sym h))
+runs_spelled (w ∷ ws) h = runs_over [] w (dotted ws) (run_ids w (and_front (is_run w) (list_all is_run ws) h)) ∙ runs_dotted w ws (and_back (is_run w) (list_all is_run ws) h)
+
+pub row_runs : (text : List ℕ) (at to : ℕ) (ws : List (List ℕ)) → IsRow text at to ws → runs (slice_range text at to) ≡ ws
+row_runs text at to ws r = ap runs (row_bytes text at to ws r) ∙ runs_spelled ws r.runs

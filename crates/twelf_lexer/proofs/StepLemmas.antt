@@ -9,7 +9,7 @@ use Rattle.text_meaning.specs.Cutting.{Between, ahead, cut_on}
 use Rattle.token_laws.proofs.CutFollows.{one_of, of_sign_in}
 use Rattle.token_laws.proofs.Steps.{comment_goes_in, line_comment_goes, mark_ends, percent_word_goes, stray_percent_goes, quote_goes, dot_goes, assign_goes, colon_goes, bracket_goes, white_space_goes}
 use Rattle.twelf_lexer.specs.Scans.{IsFront, Closes, StaysOpen}
-use Rattle.twelf_lexer.specs.Steps.{Advances}
+use Rattle.twelf_lexer.specs.Advances.{Advances}
 use Rattle.twelf_lexer.proofs.Fronts.{here_and_on}
 use Rattle.twelf_lexer.proofs.Places.{begins_at, front_length, front_parts, boundary_before, boundary_after}
 use Rattle.twelf_lexer.proofs.RowSteps.{front_runs}

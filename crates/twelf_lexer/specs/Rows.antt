@@ -4,11 +4,9 @@ use Rattle.std.specs.List.{list_any}
 use Rattle.name_meaning.specs.Identifiers.{is_reserved}
 use Rattle.name_meaning.specs.Characters.{is_identifier_byte}
 use Rattle.text_meaning.specs.Bytes.{dot, begins}
-use Rattle.text_meaning.specs.Tokens.{run_kind, spelled}
+use Rattle.text_meaning.specs.Tokens.{spelled}
 use Rattle.text_meaning.specs.Cut.{is_row, ends_row}
 use Rattle.twelf_lexer.specs.declared.row.RowEnd.{RowEnd}
-use Rattle.twelf_lexer.specs.declared.token.TokenKind.{TokenKind}
-use Rattle.twelf_lexer.specs.Steps.{kind_of}
 
 -- from one place of a text up to another these runs stand, joined by single dots
 pub record IsRow (text : List ℕ) (at to : ℕ) (words : List (List ℕ)) : Type 0 where
@@ -24,10 +22,6 @@ pub record IsLongestRow (text : List ℕ) (at : ℕ) (r : RowEnd) : Type 0 where
   pub ends : ends_row (drop r.to text) ≡ true
   pub several : r.several ≡ nat_lt 1 (length words)
   pub reserved : r.reserved ≡ list_any is_reserved words
-
--- a kind that needs no path, where a run is a reserved word
-abbrev pub IsReservedKind : List ℕ → TokenKind → Type 0
-IsReservedKind run kind = (text : List ℕ) (from to : ℕ) → kind_of text from to kind ≡ run_kind run
 
 -- a row that stands before these bytes goes on with a dot and an identifier byte
 abbrev pub row_goes_on : List ℕ → Bool

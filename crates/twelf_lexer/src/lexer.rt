@@ -1,12 +1,12 @@
 //! The lexer: it reads a text once, from left to right.
-ghost use Rattle.std.specs.Prelude.{◌≡◌, ◌≤◌, ◌^◌, ℕ, length, IfErr, IfOk};
+ghost use Rattle.std.specs.Prelude.{◌≡◌, ◌≤◌, ◌^◌, ℕ, false, length, IfErr, IfOk};
 ghost use Rattle.text_meaning.specs.Cut.{IsLexed, Tokens};
 ghost use Rattle.twelf_lexer.specs.Answers.{IsCutOf, IsFaultOf};
-ghost use Rattle.twelf_lexer.specs.Steps.{tokens_of};
+ghost use Rattle.twelf_lexer.specs.Lexemes.{IsLexeme, is_last, lexeme_token};
+ghost use Rattle.twelf_lexer.specs.Steps.{token_of, tokens_of};
 
-use crate::step::{Piece, step_at};
-use crate::{LexFault, Token, TokenList};
-use lf_terms::{Memory, Span};
+use crate::{LexFault, Lexeme, NameTable, Sign, Token, TokenKind, TokenList, lexeme_at, path_of};
+use lf_terms::Memory;
 use std::alloc::Global;
 
 /// The tokens of a text, and where its input ends: at its length, or at the mark that ends it.
@@ -45,38 +45,62 @@ fn lex_text(alloc: Global, text: &str) -> Result<Cut, LexFault>
     ensures ok { IfOk result (λ cut. IsCutOf text.now cut) }
     ensures fault { IfErr result (λ fault. IsFaultOf text.now fault) }
 {
+    let mut names = NameTable::new(alloc);
     let mut tokens = TokenList::new(alloc);
     let mut at = 0;
-    while at < text.len() {
-        let step = step_at(alloc, text, at)?;
-        let to = step.to;
-        match step.piece {
-            Piece::Nothing => {
-                at = to;
-                continue;
-            }
-            Piece::Token(kind) => {
-                let span = Span {
-                    from: at as u32,
-                    to: to as u32,
-                };
-                if let Err(_) = tokens.push(Token { span, kind }) {
-                    return Err(LexFault::Memory);
-                }
-                at = to;
-                continue;
-            }
-            Piece::End => {
+    'tokens: loop {
+        let lexeme = lexeme_at(text, at);
+        match lexeme.sign {
+            Sign::End => {
                 return Ok(Cut {
                     tokens,
-                    end: at as u32,
+                    end: lexeme.span.from,
                 });
             }
-            Piece::Open => return Err(LexFault::OpenComment { at: at as u32 }),
+            Sign::OpenComment => {
+                return Err(LexFault::OpenComment {
+                    at: lexeme.span.from,
+                });
+            }
+            _ => {
+                tokens.add(token(alloc, &mut names, text, lexeme)?)?;
+                at = lexeme.span.to as usize;
+            }
         }
     }
-    Ok(Cut {
-        tokens,
-        end: at as u32,
+}
+
+/// The token that stands in a text.
+fn token(alloc: Global, names: &mut NameTable, text: &str, lexeme: Lexeme) -> Result<Token, Memory>
+    requires stands { IsLexeme text.now lexeme }
+    requires more { is_last lexeme.sign ≡ false }
+    ensures { IfOk result (λ token. token_of text.now token ≡ lexeme_token text.now lexeme) }
+{
+    let kind = match lexeme.sign {
+        Sign::SigWord => TokenKind::Percent,
+        Sign::ViewWord => TokenKind::Percent,
+        Sign::IncludeWord => TokenKind::Percent,
+        Sign::StructWord => TokenKind::Percent,
+        Sign::OtherWord => TokenKind::Percent,
+        Sign::Stray => TokenKind::Stray,
+        Sign::Assign => TokenKind::Assign,
+        Sign::Colon => TokenKind::Colon,
+        Sign::LParen => TokenKind::LParen,
+        Sign::RParen => TokenKind::RParen,
+        Sign::LBracket => TokenKind::LBracket,
+        Sign::RBracket => TokenKind::RBracket,
+        Sign::LBrace => TokenKind::LBrace,
+        Sign::RBrace => TokenKind::RBrace,
+        Sign::Dot => TokenKind::Dot,
+        Sign::TypeWord => TokenKind::TypeWord,
+        Sign::Arrow => TokenKind::Arrow,
+        Sign::BackArrow => TokenKind::BackArrow,
+        Sign::Equal => TokenKind::Equal,
+        Sign::Blank => TokenKind::Blank,
+        _ => TokenKind::Ident(path_of(alloc, names, text, lexeme)?),
+    };
+    Ok(Token {
+        span: lexeme.span,
+        kind,
     })
 }

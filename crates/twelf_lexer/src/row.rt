@@ -1,17 +1,12 @@
 //! Rows of runs: reserved words and identifiers.
-ghost use Rattle.std.specs.Prelude.{◌≡◌, ◌+◌, ◌≤◌, ◌<◌, ◌∷◌, [], ℕ, List, true, false, ◌||◌, length, slice_index, drop, IsCharBoundary, IfOk, IsTrue, MatchOption, ◌==◌};
-ghost use Rattle.std.specs.List.{list_any, slice_range};
+ghost use Rattle.std.specs.Prelude.{◌≡◌, ◌≤◌, ◌<◌, false, ◌||◌, length, slice_index, drop, IsCharBoundary, IsTrue, MatchOption};
 ghost use Rattle.name_meaning.specs.Characters as characters;
 ghost use Rattle.name_meaning.specs.Identifiers as identifiers;
-ghost use Rattle.text_meaning.specs.Tokens.{token};
-ghost use Rattle.text_meaning.specs.Cut.{ends_row};
-ghost use Rattle.twelf_lexer.specs.Rows.{IsRow, IsLongestRow, IsReservedKind, row_goes_on};
-ghost use Rattle.twelf_lexer.specs.Steps.{Advances, kind_of};
+ghost use Rattle.twelf_lexer.specs.Lexemes.{IsReserved, IsToken};
+ghost use Rattle.twelf_lexer.specs.Rows.{IsLongestRow, row_goes_on};
 
-use crate::TokenKind;
+use crate::Sign;
 use crate::scan::{run_end, starts_run, starts_with};
-use lf_terms::{Memory, Name, NameFault, Path};
-use std::alloc::Global;
 
 /// Where a row ends, whether it has several runs, and whether one of them is a reserved word.
 #[derive(Clone, Copy, Debug)]
@@ -22,22 +17,23 @@ pub(crate) struct RowEnd {
 }
 
 /// What the row of runs is that begins at a place between tokens, and where it ends.
-pub(crate) fn row_kind(alloc: Global, text: &str, at: usize) -> Result<(TokenKind, usize), Memory>
+pub(crate) fn row_sign(text: &[u8], at: usize) -> (Sign, usize)
     requires at { at < length text.now }
     requires boundary { IsCharBoundary text.now at }
     requires run { IsTrue (characters.is_identifier_byte (slice_index text.now at)) }
-    ensures { IfOk result (λ row. Advances text.now at row.1 (token at row.1 (kind_of text.now at row.1 row.0) ∷ [])) }
+    ensures { IsToken text.now at result.1 result.0 }
 {
-    let row = row_end(text.as_bytes(), at);
+    let row = row_end(text, at);
     if row.several {
         if row.reserved {
-            return Ok((TokenKind::Stray, row.to));
+            return (Sign::Stray, row.to);
         }
-    } else if let Some(kind) = reserved_kind(&text.as_bytes()[at..row.to]) {
-        return Ok((kind, row.to));
+        return (Sign::Path, row.to);
     }
-    let path = path(alloc, text, at, row.to)?;
-    Ok((TokenKind::Ident(path), row.to))
+    match reserved(&text[at..row.to]) {
+        Some(sign) => (sign, row.to),
+        None => (Sign::Name, row.to),
+    }
 }
 
 /// The longest row from a place on.
@@ -86,52 +82,16 @@ fn is_reserved(run: &[u8]) -> bool
     matches!(run, b"type" | b"->" | b"<-" | b"=" | b"_")
 }
 
-/// The kind of a reserved word. None for every other run.
-fn reserved_kind(run: &[u8]) -> Option<TokenKind>
-    ensures { MatchOption result (identifiers.is_reserved run.now ≡ false) (λ kind. IsReservedKind run.now kind) }
+/// The sign of a reserved word. None for every other run.
+fn reserved(run: &[u8]) -> Option<Sign>
+    ensures { MatchOption result (identifiers.is_reserved run.now ≡ false) (λ sign. IsReserved run.now sign) }
 {
     match run {
-        b"type" => Some(TokenKind::TypeWord),
-        b"->" => Some(TokenKind::Arrow),
-        b"<-" => Some(TokenKind::BackArrow),
-        b"=" => Some(TokenKind::Equal),
-        b"_" => Some(TokenKind::Blank),
+        b"type" => Some(Sign::TypeWord),
+        b"->" => Some(Sign::Arrow),
+        b"<-" => Some(Sign::BackArrow),
+        b"=" => Some(Sign::Equal),
+        b"_" => Some(Sign::Blank),
         _ => None,
-    }
-}
-
-/// The path of a row without reserved words.
-fn path(alloc: Global, text: &str, at: usize, to: usize) -> Result<Path, Memory>
-    requires boundary { IsCharBoundary text.now at }
-    requires row { (words : List (List ℕ)) × IsRow text.now at to words × (list_any identifiers.is_reserved words ≡ false) }
-    requires ends { ends_row (drop to text.now) ≡ true }
-    ensures row { IfOk result (λ path. IsRow text.now at to path) }
-    ensures free { IfOk result (λ path. list_any identifiers.is_reserved path ≡ false) }
-{
-    let mut end = run_end(text.as_bytes(), at);
-    let mut path = Path::new(alloc, name(alloc, text, at, end)?)?;
-    while end < to {
-        let start = end + 1;
-        end = run_end(text.as_bytes(), start);
-        let name = name(alloc, text, start, end)?;
-        if let Err(_) = path.push(name) {
-            return Err(Memory);
-        }
-    }
-    Ok(path)
-}
-
-/// The name of a run that is no reserved word.
-fn name(alloc: Global, text: &str, at: usize, to: usize) -> Result<Name, Memory>
-    requires order { at ≤ to }
-    requires start { IsCharBoundary text.now at }
-    requires end { IsCharBoundary text.now to }
-    requires identifier { IsTrue (identifiers.is_identifier (slice_range text.now at to)) }
-    ensures { IfOk result (λ name. name ≡ slice_range text.now at to) }
-{
-    match Name::new(alloc, &text[at..to]) {
-        Ok(name) => Ok(name),
-        Err(NameFault::Memory) => Err(Memory),
-        Err(NameFault::NotAName) => unreachable!(),
     }
 }

@@ -1,25 +1,24 @@
 //! One step of the lexer.
-ghost use Rattle.std.specs.Prelude.{◌≡◌, ◌+◌, ◌<◌, ◌==◌, drop, length, slice_index, IsUtf8, IsCharBoundary, IfOk, IsTrue, MatchOption, None};
+ghost use Rattle.std.specs.Prelude.{◌≡◌, ◌+◌, ◌<◌, ◌==◌, drop, length, slice_index, IsUtf8, IsCharBoundary, IsTrue, MatchOption, None};
 ghost use Rattle.name_meaning.specs.Characters as characters;
 ghost use Rattle.text_meaning.specs.Bytes.{begins, left_brace};
 ghost use Rattle.text_meaning.specs.Cut as cut;
-ghost use Rattle.twelf_lexer.specs.Steps.{IsStep, IsBracketKind};
+ghost use Rattle.twelf_lexer.specs.Lexemes.{IsBracket, IsPercentWord};
+ghost use Rattle.twelf_lexer.specs.Pieces.{IsStep};
 ghost use Rattle.twelf_lexer.specs.declared.step.Piece.TheVariants as pieces;
 
-use crate::TokenKind;
+use crate::Sign;
 use crate::comment::comment_end;
-use crate::row::row_kind;
+use crate::row::row_sign;
 use crate::scan::{line_end, run_end, starts_run, starts_with};
-use lf_terms::Memory;
 use identifiers::{is_identifier_byte, is_white_space};
-use std::alloc::Global;
 
 /// What stands at a place between tokens.
-#[derive(Debug, Drop)]
+#[derive(Clone, Copy, Debug)]
 pub(crate) enum Piece {
     /// White space or a comment.
     Nothing,
-    Token(TokenKind),
+    Token(Sign),
     /// The mark that ends the input.
     End,
     /// A comment without an end.
@@ -27,27 +26,28 @@ pub(crate) enum Piece {
 }
 
 /// What stands at a place between tokens, and where it ends.
-#[derive(Debug, Drop)]
+#[derive(Clone, Copy, Debug)]
 pub(crate) struct Step {
     pub piece: Piece,
     pub to: usize,
 }
 
 /// What stands at a place between tokens of a text.
-pub(crate) fn step_at(alloc: Global, text: &str, at: usize) -> Result<Step, Memory>
+pub(crate) fn step_at(text: &[u8], at: usize) -> Step
+    requires utf8 { IsUtf8 text.now }
     requires at { at < length text.now }
     requires boundary { IsCharBoundary text.now at }
-    ensures { IfOk result (λ step. IsStep text.now at step) }
+    ensures { IsStep text.now at result }
 {
-    let byte = text.as_bytes()[at];
+    let byte = text[at];
     if is_identifier_byte(byte) {
-        let (kind, to) = row_kind(alloc, text, at)?;
-        return Ok(token(kind, to));
+        let (sign, to) = row_sign(text, at);
+        return token(sign, to);
     }
     if is_white_space(byte) {
-        return Ok(nothing(at + 1));
+        return nothing(at + 1);
     }
-    Ok(special_step(text.as_bytes(), at))
+    special_step(text, at)
 }
 
 fn nothing(to: usize) -> Step
@@ -59,11 +59,11 @@ fn nothing(to: usize) -> Step
     }
 }
 
-fn token(kind: TokenKind, to: usize) -> Step
-    ensures { result ≡ record { piece = pieces.Token kind; to = to } }
+fn token(sign: Sign, to: usize) -> Step
+    ensures { result ≡ record { piece = pieces.Token sign; to = to } }
 {
     Step {
-        piece: Piece::Token(kind),
+        piece: Piece::Token(sign),
         to,
     }
 }
@@ -83,35 +83,35 @@ fn special_step(text: &[u8], at: usize) -> Step
         return colon_step(text, at);
     }
     if byte == b'.' {
-        return token(TokenKind::Dot, at + 1);
+        return token(Sign::Dot, at + 1);
     }
-    match bracket_kind(byte) {
-        Some(kind) => token(kind, at + 1),
-        None => token(TokenKind::Stray, at + 1),
+    match bracket(byte) {
+        Some(sign) => token(sign, at + 1),
+        None => token(Sign::Stray, at + 1),
     }
 }
 
-/// The kind of a bracket. None for every other byte.
-fn bracket_kind(byte: u8) -> Option<TokenKind>
-    ensures { MatchOption result (cut.bracket_sign byte ≡ None) (λ kind. IsBracketKind byte kind) }
+/// The sign of a bracket. None for every other byte.
+fn bracket(byte: u8) -> Option<Sign>
+    ensures { MatchOption result (cut.bracket_sign byte ≡ None) (λ sign. IsBracket byte sign) }
 {
     if byte == b'(' {
-        return Some(TokenKind::LParen);
+        return Some(Sign::LParen);
     }
     if byte == b')' {
-        return Some(TokenKind::RParen);
+        return Some(Sign::RParen);
     }
     if byte == b'[' {
-        return Some(TokenKind::LBracket);
+        return Some(Sign::LBracket);
     }
     if byte == b']' {
-        return Some(TokenKind::RBracket);
+        return Some(Sign::RBracket);
     }
     if byte == b'{' {
-        return Some(TokenKind::LBrace);
+        return Some(Sign::LBrace);
     }
     if byte == b'}' {
-        return Some(TokenKind::RBrace);
+        return Some(Sign::RBrace);
     }
     None
 }
@@ -125,9 +125,9 @@ fn colon_step(text: &[u8], at: usize) -> Step
 {
     let next = at + 1;
     if starts_with(text, next, b'=') {
-        return token(TokenKind::Assign, next + 1);
+        return token(Sign::Assign, next + 1);
     }
-    token(TokenKind::Colon, next)
+    token(Sign::Colon, next)
 }
 
 /// At a percent sign.
@@ -151,9 +151,29 @@ fn percent_step(text: &[u8], at: usize) -> Step
         };
     }
     if starts_run(text, next) {
-        return token(TokenKind::Percent, run_end(text, next));
+        let to = run_end(text, next);
+        return token(percent_word(&text[next..to]), to);
     }
-    token(TokenKind::Stray, next)
+    token(Sign::Stray, next)
+}
+
+/// Which percent word `%` and a run are.
+fn percent_word(run: &[u8]) -> Sign
+    ensures { IsPercentWord run.now result }
+{
+    if run == b"sig".as_slice() {
+        return Sign::SigWord;
+    }
+    if run == b"view".as_slice() {
+        return Sign::ViewWord;
+    }
+    if run == b"include".as_slice() {
+        return Sign::IncludeWord;
+    }
+    if run == b"struct".as_slice() {
+        return Sign::StructWord;
+    }
+    Sign::OtherWord
 }
 
 /// Whether a comment up to the end of the line goes on behind its percent sign.

@@ -55,7 +55,7 @@ no_atoms_refuse_back n row k = refl
 
 -- ---- whole expressions
 
-pub resumed_codomain : (k : Waiting) (s : Span) (d : Expr) (w v : Spelled) (ts : List Token) → IsSpelled v (join s (read_span w.span)) (ArrowExpr (join s (read_span w.span)) d (read_expr w.tree.value))
+pub resumed_codomain : (k : Waiting) (s : Span) (d : Expr) (w v : Spelled) (ts : List Token) → IsSpelled v (join s (read_span w.span)) (ArrowExpr (join s (read_span w.span)) d (read_expr w.tree))
     → answer_resumed (InCodomain s d k) w ts ≡ answer_resumed k v ts
 unfolding resume
 resumed_codomain k s d w v ts h = ap₂ (λ u e. answer_with (λ t. resume k u e t) ts) (sym h.span) (sym h.tree)
@@ -102,31 +102,31 @@ pub same_state : (n m : ℕ) (r q : Row) (xs ys : Atoms) (k j : Waiting) → n �
 same_state n m r q xs ys k j a b c d = cc
 
 -- what waits for a codomain
-pub codomain_is : (o : Option frame.Atoms) (a : frame.Atoms) (d : Spelled) (k : Waiting) → o ≡ Some a → IsSpelled d (read_span a.span) (applied (read_span a.span) (read_expr a.head.value) (read_arguments (expressions_of a.args)))
-    → codomain_of (read_atoms o) k ≡ InCodomain (read_span d.span) (read_expr d.tree.value) k
+pub codomain_is : (o : Option frame.Atoms) (a : frame.Atoms) (d : Spelled) (k : Waiting) → o ≡ Some a → IsSpelled d (read_span a.span) (applied (read_span a.span) (read_expr a.head) (read_arguments (expressions_of a.args)))
+    → codomain_of (read_atoms o) k ≡ InCodomain (read_span d.span) (read_expr d.tree) k
 codomain_is o a d k e h = ap (λ x. codomain_of (read_atoms x) k) e ∙ ap₂ (λ s t. InCodomain s t k) (sym h.span) (sym h.tree)
 
 -- an operand of these atoms, in its row
-pub spelled_in_row : (taken row : frames.Row) (a : frame.Atoms) (p w : Spelled) → taken ≡ row → IsSpelled p (read_span a.span) (applied (read_span a.span) (read_expr a.head.value) (read_arguments (expressions_of a.args)))
-    → IsSpelled w (row_span (read_row taken) (read_span p.span)) (row_tree (read_row taken) (read_span p.span) (read_expr p.tree.value))
-    → IsSpelled w (row_span (read_row row) (read_span a.span)) (row_tree (read_row row) (read_span a.span) (applied (read_span a.span) (read_expr a.head.value) (read_arguments (expressions_of a.args))))
+pub spelled_in_row : (taken row : frames.Row) (a : frame.Atoms) (p w : Spelled) → taken ≡ row → IsSpelled p (read_span a.span) (applied (read_span a.span) (read_expr a.head) (read_arguments (expressions_of a.args)))
+    → IsSpelled w (row_span (read_row taken) (read_span p.span)) (row_tree (read_row taken) (read_span p.span) (read_expr p.tree))
+    → IsSpelled w (row_span (read_row row) (read_span a.span)) (row_tree (read_row row) (read_span a.span) (applied (read_span a.span) (read_expr a.head) (read_arguments (expressions_of a.args))))
 spelled_in_row taken row a p w e h g =
     record {
       span = g.span ∙ ap₂ (λ x s. row_span (read_row x) s) e h.span;
-      tree = g.tree ∙ ap (λ x. row_tree (read_row x) (read_span p.span) (read_expr p.tree.value)) e ∙ ap₂ (λ s t. row_tree (read_row row) s t) h.span h.tree;
+      tree = g.tree ∙ ap (λ x. row_tree (read_row x) (read_span p.span) (read_expr p.tree)) e ∙ ap₂ (λ s t. row_tree (read_row row) s t) h.span h.tree;
     }
 
 pub back_row_is : (row : frames.Row) (o : Option frame.Atoms) (a : frame.Atoms) (w : Spelled) → o ≡ Some a
-    → IsSpelled w (row_span (read_row row) (read_span a.span)) (row_tree (read_row row) (read_span a.span) (applied (read_span a.span) (read_expr a.head.value) (read_arguments (expressions_of a.args))))
-    → back_row (read_row row) (read_atoms o) ≡ AfterBack (read_span w.span) (read_expr w.tree.value)
+    → IsSpelled w (row_span (read_row row) (read_span a.span)) (row_tree (read_row row) (read_span a.span) (applied (read_span a.span) (read_expr a.head) (read_arguments (expressions_of a.args))))
+    → back_row (read_row row) (read_atoms o) ≡ AfterBack (read_span w.span) (read_expr w.tree)
 back_row_is row o a w e h = ap (λ x. back_row (read_row row) (read_atoms x)) e ∙ ap₂ AfterBack (sym h.span) (sym h.tree)
 
 pub operand_is : (row : frames.Row) (o : Option frame.Atoms) (a : frame.Atoms) (w : Spelled) (k : Waiting) (ts : List Token) → o ≡ Some a
-    → IsSpelled w (row_span (read_row row) (read_span a.span)) (row_tree (read_row row) (read_span a.span) (applied (read_span a.span) (read_expr a.head.value) (read_arguments (expressions_of a.args))))
+    → IsSpelled w (row_span (read_row row) (read_span a.span)) (row_tree (read_row row) (read_span a.span) (applied (read_span a.span) (read_expr a.head) (read_arguments (expressions_of a.args))))
     → answer_with (λ t. operand_ends (read_row row) (read_atoms o) k t) ts ≡ answer_resumed k w ts
 operand_is row o a w k ts e h =
     ap (λ x. answer_with (λ t. operand_ends (read_row row) (read_atoms x) k t) ts) e
-    ∙ resumed_operand k (read_row row) (read_span a.span) (read_expr a.head.value) (read_arguments (expressions_of a.args)) w ts h
+    ∙ resumed_operand k (read_row row) (read_span a.span) (read_expr a.head) (read_arguments (expressions_of a.args)) w ts h
 
 pub turned_from : (r : Result (Option Spelled) ReadFault) (a b : Answer) (k : Waiting) (s : Stack) (ts : List Token) → a ≡ b → Turned b r k s ts → Turned a r k s ts
 turned_from r a b k s ts e h = subst (λ x. Turned x r k s ts) (sym e) h

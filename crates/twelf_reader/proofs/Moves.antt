@@ -1,7 +1,7 @@
 -- The machine's answer at one token.
 use Rattle.std.proofs.Common.{◌≡◌, ℕ, ◌≤◌, ne_eqb, arith, Some, Bool, true, false, List, [], ◌∷◌, ◌++◌, None, if◌then◌else◌, refl, sym, ap, subst, ◌∙◌}
 use Rattle.text_meaning.specs.Tokens.{Span, Sign, Kind, Mark, Token, sign, SigWord, ViewWord, RightBrace, DotSign}
-use Rattle.text_meaning.specs.Reading.{Answer, Syntax, TooDeep, Unsupported, is_too_deep, with_end}
+use Rattle.text_meaning.specs.Reading.{Answer, Syntax, TooDeep, Unsupported, is_too_deep}
 use Rattle.text_meaning.specs.Parsing.{Atoms, Waiting, Row, NoAtoms, State, Refused, Expect, MoreWords, AtOperand, at_operand, begins_operand, operand_ends, step, level, fault, expect, answer_on, is_refused, is_left_out, takes_include, is_bare_binder}
 use Rattle.reading_laws.proofs.OneAnswer.{answer_refused, answer_deep, answer_goes}
 use Rattle.text_laws.proofs.Completes.{expect_here}
@@ -17,8 +17,6 @@ use Rattle.std.specs.Prelude.{Result, Err}
 use Rattle.std.proofs.lemmas.List.Sums.{fold-append}
 use Rattle.twelf_reader.specs.Frames.{waits, waiting}
 use Rattle.twelf_reader.specs.declared.frame.Frame.{Frame}
-use Rattle.twelf_lexer.specs.Steps.{tokens_of}
-use Rattle.twelf_lexer.specs.declared.token.Token as lexer
 use Rattle.twelf_reader.proofs.SignCases.{operand_begins, words_other}
 
 -- An answer that is another has its faults.
@@ -81,13 +79,9 @@ abbrev pub behind_next : List Token → List Token
 behind_next [] = []
 behind_next (t ∷ ts) = ts
 
-pub left_first : (text : List ℕ) (ts : List lexer.Token) (end : ℕ) → with_end (tokens_of text ts) end ≡ next_token (with_end (tokens_of text ts) end) ∷ behind_next (with_end (tokens_of text ts) end)
-left_first text [] end = refl
-left_first text (t ∷ ts) end = refl
-
 -- there is always a next token
 pub has_next : (r : Reader) → left r ≡ next_token (left r) ∷ behind_next (left r)
-has_next r = left_first r.text.now r.tokens.now r.end
+has_next r = refl
 
 -- ---- the next token is refused
 

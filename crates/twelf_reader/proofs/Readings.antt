@@ -1,26 +1,17 @@
 -- From the machine's answer to what a text is read as.
 use Rattle.std.specs.Prelude.{IfOk, IfErr, Result, Ok, Err}
 use Rattle.std.proofs.Common.{◌≡◌, ℕ, List, refl, sym, subst}
-use Rattle.text_meaning.specs.Tokens.{Token}
-use Rattle.text_meaning.specs.Cut.{Tokens, NotUtf8, OpenComment, IsLexed}
-use Rattle.text_meaning.specs.Reading.{Target, Answer, Syntax, Reads, with_end}
-use Rattle.text_meaning.specs.Parsing.{answer_on, start, parse}
+use Rattle.text_meaning.specs.Cut.{NotUtf8, IsLexed}
+use Rattle.text_meaning.specs.Reading.{Target, Answer, Syntax, Reads}
 use Rattle.text_meaning.specs.TextAnswers.{read}
-use Rattle.reading_laws.proofs.OneAnswer.{one_answer, one_reading}
+use Rattle.reading_laws.proofs.OneAnswer.{one_reading}
 use Rattle.twelf_reader.specs.Going.{Fails, Goes}
 use Rattle.twelf_reader.specs.Answers.{IsFaultOf}
 use Rattle.twelf_reader.specs.declared.fault.ReadFault.{ReadFault}
 use Rattle.twelf_reader.specs.declared.fault.ReadFault.TheVariants as faults
 
-pub read_as : (target : Target) (text : List ℕ) (ts : List Token) (end : ℕ) → IsLexed text (Tokens ts end) → answer_on (start target) (with_end ts end) ≡ read target text
-unfolding parse
-read_as target text ts end h = (one_reading target text).only (answer_on (start target) (with_end ts end)) (Tokens ts end, h, (one_answer target ts end).is_answer)
-
 pub not_utf8 : (target : Target) (text : List ℕ) (at : ℕ) → IsLexed text (NotUtf8 at) → read target text ≡ Syntax at
 not_utf8 target text at h = sym ((one_reading target text).only (Syntax at) (NotUtf8 at, h, refl))
-
-pub open_comment : (target : Target) (text : List ℕ) (at : ℕ) → IsLexed text (OpenComment at) → read target text ≡ Syntax at
-open_comment target text at h = sym ((one_reading target text).only (Syntax at) (OpenComment at, h, refl))
 
 -- ---- the clauses of the two calls
 

@@ -1,16 +1,11 @@
 -- Which tokens a state refuses, where some signs have been ruled out.
-use Rattle.std.proofs.Common.{◌≡◌, ℕ, ◌+◌, Bool, true, false, List, [], ◌∷◌, refl, sym, ap, eqb-true, true≢false}
+use Rattle.std.proofs.Common.{◌≡◌, ℕ, true, false, List, [], ◌∷◌, refl, sym, ap, eqb-true, true≢false}
 use Rattle.text_meaning.specs.Tokens.{Span, Sign, Kind, Mark, Ident, SigWord, ViewWord, IncludeWord, StructWord, OtherWord, Stray, AssignSign, ColonSign, LeftParen, RightParen, LeftBracket, RightBracket, LeftBrace, RightBrace, DotSign, TypeWord, ArrowSign, BackSign, EqualSign, BlankSign, EndSign}
 use Rattle.name_meaning.specs.Names.{Path}
 use Rattle.text_meaning.specs.Trees.{Binder, Expr, Written, Assign, Decl}
 use Rattle.text_meaning.specs.Parsing.{Simple, Atoms, NoAtoms, Row, Brace, Curly, Square, Owner, Waiting, State, code, expect, at_module, at_decl, after_domain, at_assign, more_words, class_ends, operand_ends, at_operand, at_variable, after_variable, expect_name, expect_path, is_refused, begins_operand}
-use Rattle.std.specs.Prelude.{cond, codes, bytes_eq}
-use Rattle.std.specs.List.{slice_range}
 use Rattle.text_laws.proofs.Sound.{code_injective}
 use Rattle.mmt_syntax.specs.Dependencies.{first_name}
-use Rattle.twelf_lexer.specs.Steps.{kind_of}
-use Rattle.twelf_lexer.specs.declared.token.TokenKind.{TokenKind}
-use Rattle.twelf_lexer.specs.declared.token.TokenKind.TheVariants as kinds
 use Rattle.twelf_reader.specs.Signs.{is_sign, is_path, is_name}
 use Rattle.twelf_reader.specs.Going.{left_out_at}
 use Rattle.twelf_reader.specs.declared.refusing.Spot.{Spot}
@@ -164,32 +159,3 @@ pub one_name : (p : Path) → is_name (Ident p) ≡ true → p ≡ first_name p 
 one_name [] h = absurd (true≢false (sym h))
 one_name (n ∷ []) h = refl
 one_name (n ∷ m ∷ ns) h = absurd (true≢false (sym h))
-
--- no token of a text is the end of the input
-no_end : (a b c d : Bool) → is_sign EndSign (Mark (cond a SigWord (cond b ViewWord (cond c IncludeWord (cond d StructWord OtherWord))))) ≡ false
-no_end true b c d = refl
-no_end false true c d = refl
-no_end false false true d = refl
-no_end false false false true = refl
-no_end false false false false = refl
-
-pub not_end : (text : List ℕ) (from to : ℕ) (kind : TokenKind) → is_sign EndSign (kind_of text from to kind) ≡ false
-not_end text from to kinds.Percent =
-    let w = slice_range text (from + 1) to in
-    no_end (bytes_eq w (codes "sig")) (bytes_eq w (codes "view")) (bytes_eq w (codes "include")) (bytes_eq w (codes "struct"))
-not_end text from to kinds.Stray = refl
-not_end text from to kinds.Assign = refl
-not_end text from to kinds.Colon = refl
-not_end text from to kinds.LParen = refl
-not_end text from to kinds.RParen = refl
-not_end text from to kinds.LBracket = refl
-not_end text from to kinds.RBracket = refl
-not_end text from to kinds.LBrace = refl
-not_end text from to kinds.RBrace = refl
-not_end text from to kinds.Dot = refl
-not_end text from to kinds.TypeWord = refl
-not_end text from to kinds.Arrow = refl
-not_end text from to kinds.BackArrow = refl
-not_end text from to kinds.Equal = refl
-not_end text from to kinds.Blank = refl
-not_end text from to (kinds.Ident path) = refl

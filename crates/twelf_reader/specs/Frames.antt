@@ -26,15 +26,15 @@ use Rattle.twelf_reader.specs.declared.frame.Stack.{Stack}
 -- An expression takes this span and has this tree.
 pub record IsSpelled (w : Spelled) (s : tokens.Span) (e : trees.Expr) : Type 0 where
   pub span : read_span w.span ≡ s
-  pub tree : read_expr w.tree.value ≡ e
+  pub tree : read_expr w.tree ≡ e
 
 abbrev pub read_row : Row → parsing.Row
 read_row rows.Plain = parsing.Plain
 read_row rows.AfterArrow = parsing.AfterArrow
-read_row (rows.AfterBack w) = parsing.AfterBack (read_span w.span) (read_expr w.tree.value)
+read_row (rows.AfterBack w) = parsing.AfterBack (read_span w.span) (read_expr w.tree)
 
 abbrev pub read_some_atoms : Atoms → parsing.Atoms
-read_some_atoms a = parsing.SomeAtoms (read_span a.span) (read_expr a.head.value) (read_arguments (expressions_of a.args))
+read_some_atoms a = parsing.SomeAtoms (read_span a.span) (read_expr a.head) (read_arguments (expressions_of a.args))
 
 abbrev pub read_atoms : Option Atoms → parsing.Atoms
 read_atoms None = parsing.NoAtoms
@@ -54,7 +54,7 @@ abbrev pub waits : Waiting → Frame → Waiting
 waits k (frames.Parens l o) = InParens (read_span l) o.level.n (read_row o.row) (read_atoms o.atoms) k
 waits k (frames.Domain b l x o) = InDomain (read_brace b) (read_span l) (read_binder x) o.level.n (read_row o.row) (read_atoms o.atoms) k
 waits k (frames.Body l b o) = InBody (read_span l) (read_binding b) (read_row o.row) (read_atoms o.atoms) k
-waits k (frames.Codomain w) = InCodomain (read_span w.span) (read_expr w.tree.value) k
+waits k (frames.Codomain w) = InCodomain (read_span w.span) (read_expr w.tree) k
 
 -- Frames wait in front of what waits behind them all, the last one first.
 abbrev pub waiting : Waiting → List Frame → Waiting
@@ -69,7 +69,7 @@ stands s k = operand_state s.operand (waiting k s.frames.items)
 
 -- the answer where an expression is whole and the next token resumes what waits for it
 abbrev pub answer_resumed : Waiting → Spelled → List Token → Answer
-answer_resumed k w ts = answer_with (λ t. resume k (read_span w.span) (read_expr w.tree.value) t) ts
+answer_resumed k w ts = answer_with (λ t. resume k (read_span w.span) (read_expr w.tree) t) ts
 
 -- What a turn of the reader comes to: another operand, or a whole expression that nothing in the stack waits for.
 abbrev pub Turned : Answer → Result (Option Spelled) ReadFault → Waiting → Stack → List Token → Type 0
@@ -81,5 +81,5 @@ Turned answer (Err f) k s ts = Fails f answer
 abbrev pub IsBody : tokens.Span → parsing.Binding → Operand → Spelled → Spelled → Type 0
 IsBody left binding o body w =
     let s = parsing.last_span (read_atoms o.atoms) (join left (read_span body.span)) in
-    let e = parsing.last_tree (read_atoms o.atoms) (join left (read_span body.span)) (parsing.bound (join left (read_span body.span)) binding (read_expr body.tree.value)) in
+    let e = parsing.last_tree (read_atoms o.atoms) (join left (read_span body.span)) (parsing.bound (join left (read_span body.span)) binding (read_expr body.tree)) in
     IsSpelled w (parsing.row_span (read_row o.row) s) (parsing.row_tree (read_row o.row) s e)

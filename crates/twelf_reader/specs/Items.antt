@@ -1,16 +1,12 @@
 -- Where the machine stands behind what a reader of declarations and assignments has read.
 use Rattle.std.specs.Prelude.{List, [], ◌∷◌, ◌++◌, Option, Some, None}
-use Rattle.std.specs.Option.{option_map}
-use Rattle.std.specs.declared.boxed.Box.{Box}
-use Rattle.std.specs.declared.alloc.Global.{Global}
 use Rattle.text_meaning.specs.Tokens.{DotSign, EndSign}
 use Rattle.text_meaning.specs.Trees as trees
 use Rattle.text_meaning.specs.Reading.{ModuleTree}
 use Rattle.text_meaning.specs.Parsing.{AtAssign, AtDecl, Expect, Owner, Simple, State, Whole, as_written, close_owner}
-use Rattle.mmt_syntax.specs.Readings.{read_assign, read_decl, read_expr}
+use Rattle.mmt_syntax.specs.Readings.{read_assign, read_decl}
 use Rattle.mmt_syntax.specs.declared.assign.Assign.{Assign}
 use Rattle.mmt_syntax.specs.declared.decl.Decl.{Decl}
-use Rattle.mmt_syntax.specs.declared.expr.Expr.{Expr}
 
 -- behind one more assignment, or behind the brace that ends them
 abbrev pub next_assign : Owner → List trees.Assign → Option Assign → State
@@ -25,6 +21,3 @@ theory_ends sig ds = Expect DotSign (Expect EndSign (Whole (ModuleTree (trees.Si
 abbrev pub next_decl : Simple → List trees.Decl → Option Decl → State
 next_decl sig ds (Some d) = AtDecl sig (ds ++ (read_decl d ∷ []))
 next_decl sig ds None = theory_ends sig ds
-
-abbrev pub read_boxed : Option (Box Expr Global) → Option trees.Expr
-read_boxed v = option_map (λ e. read_expr e.value) v

@@ -1,33 +1,18 @@
--- The signs of the reader, and what stands in a place.
+-- What stands in a place.
 use Rattle.std.specs.Prelude.{Bool, true, false, [], ◌∷◌, ◌==◌}
-use Rattle.text_meaning.specs.Tokens.{Kind, Mark, Ident, SigWord, ViewWord, IncludeWord, StructWord, OtherWord, Stray, AssignSign, ColonSign, LeftParen, RightParen, LeftBracket, RightBracket, LeftBrace, RightBrace, DotSign, TypeWord, ArrowSign, BackSign, EqualSign, BlankSign, EndSign}
+use Rattle.text_meaning.specs.Tokens.{Kind, Mark, Ident}
 use Rattle.text_meaning.specs.Tokens as tokens
 use Rattle.text_meaning.specs.Parsing.{code}
-use Rattle.twelf_reader.specs.declared.sign.Sign.{Sign}
-use Rattle.twelf_reader.specs.declared.sign.Sign.TheVariants as signs
+use Rattle.twelf_lexer.specs.declared.sign.Sign.{Sign}
+use Rattle.twelf_lexer.specs.declared.sign.Sign.TheVariants as signs
 
-abbrev pub read_sign : Sign → tokens.Sign
-read_sign signs.SigWord = SigWord
-read_sign signs.ViewWord = ViewWord
-read_sign signs.IncludeWord = IncludeWord
-read_sign signs.StructWord = StructWord
-read_sign signs.OtherWord = OtherWord
-read_sign signs.Stray = Stray
-read_sign signs.Assign = AssignSign
-read_sign signs.Colon = ColonSign
-read_sign signs.LParen = LeftParen
-read_sign signs.RParen = RightParen
-read_sign signs.LBracket = LeftBracket
-read_sign signs.RBracket = RightBracket
-read_sign signs.LBrace = LeftBrace
-read_sign signs.RBrace = RightBrace
-read_sign signs.Dot = DotSign
-read_sign signs.TypeWord = TypeWord
-read_sign signs.Arrow = ArrowSign
-read_sign signs.BackArrow = BackSign
-read_sign signs.Equal = EqualSign
-read_sign signs.Blank = BlankSign
-read_sign signs.End = EndSign
+-- a sign that a text can have for a reader: it is one token, and no token else is the same
+abbrev pub is_plain : Sign → Bool
+is_plain signs.Stray = false
+is_plain signs.Name = false
+is_plain signs.Path = false
+is_plain signs.OpenComment = false
+is_plain _ = true
 
 -- the kind is this sign; an identifier; an identifier of one name
 abbrev pub is_sign : tokens.Sign → Kind → Bool

@@ -12,8 +12,8 @@ ghost use Rattle.twelf_reader.specs.Items.{next_assign};
 use crate::ReadFault;
 use crate::reader::Reader;
 use crate::refusing::Spot;
-use crate::sign::Sign;
 use mmt_syntax::{Assign, Assigns};
+use twelf_lexer::Sign;
 
 impl<'a> Reader<'a> {
     /// Assignments, and the brace that ends them.
@@ -79,7 +79,7 @@ impl<'a> Reader<'a> {
         self.expect(Sign::Dot)?;
         Ok(Assign::Const {
             target,
-            value: Box::into_inner(value),
+            value,
         })
     }
 }

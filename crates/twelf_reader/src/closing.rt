@@ -10,11 +10,11 @@ ghost use Rattle.twelf_reader.specs.Frames.{Turned, answer_resumed, read_atoms, 
 use crate::ReadFault;
 use crate::frame::{Binding, Brace, Frame, Row, Spelled, Stack};
 use crate::reader::Reader;
-use crate::sign::Sign;
 use crate::tree::{applied, arrow, close_body, in_row, join};
 use lf_terms::Span;
 use mmt_syntax::{Binder, Expr};
 use std::mem;
+use twelf_lexer::Sign;
 
 impl<'a> Reader<'a> {
     /// The operand ends before the next token.
@@ -84,10 +84,10 @@ impl<'a> Reader<'a> {
         &mut self,
         stack: &mut Stack,
         opening: Span,
-        inside: Box<Expr>,
+        inside: Expr,
     ) -> Result<(), ReadFault>
         ensures goes { (s : tokens.Span) (k : Waiting) → Goes
-            (answer_with (λ t. resume (InParens (read_span opening) stack.old.operand.level.n (read_row stack.old.operand.row) (read_atoms stack.old.operand.atoms) (waiting k stack.old.frames.items)) s (read_expr inside.value) t) (left self.old))
+            (answer_with (λ t. resume (InParens (read_span opening) stack.old.operand.level.n (read_row stack.old.operand.row) (read_atoms stack.old.operand.atoms) (waiting k stack.old.frames.items)) s (read_expr inside) t) (left self.old))
             result (λ _. answer_on (stands stack.new k) (left self.new)) }
         ensures less { OnOk result (length (left self.new) < length (left self.old)) }
     {
@@ -108,10 +108,10 @@ impl<'a> Reader<'a> {
         brace: Brace,
         opening: Span,
         name: Binder,
-        domain: Box<Expr>,
+        domain: Expr,
     ) -> Result<(), ReadFault>
         ensures goes { (s : tokens.Span) (k : Waiting) → Goes
-            (answer_with (λ t. resume (InDomain (read_brace brace) (read_span opening) (read_binder name) stack.old.operand.level.n (read_row stack.old.operand.row) (read_atoms stack.old.operand.atoms) (waiting k stack.old.frames.items)) s (read_expr domain.value) t) (left self.old))
+            (answer_with (λ t. resume (InDomain (read_brace brace) (read_span opening) (read_binder name) stack.old.operand.level.n (read_row stack.old.operand.row) (read_atoms stack.old.operand.atoms) (waiting k stack.old.frames.items)) s (read_expr domain) t) (left self.old))
             result (λ _. answer_on (stands stack.new k) (left self.new)) }
         ensures less { OnOk result (length (left self.new) < length (left self.old)) }
     {
@@ -121,6 +121,7 @@ impl<'a> Reader<'a> {
                     return Err(self.refuse_behind());
                 }
                 self.take(Sign::RBrace);
+                let domain = Box::new(self.alloc, domain)?;
                 self.open_body(stack, opening, Binding::Pi(name, domain))
             }
             Brace::Square => {
@@ -128,6 +129,7 @@ impl<'a> Reader<'a> {
                     return Err(self.refuse_behind());
                 }
                 self.take(Sign::RBracket);
+                let domain = Box::new(self.alloc, domain)?;
                 self.open_body(stack, opening, Binding::TypedLam(name, domain))
             }
         }

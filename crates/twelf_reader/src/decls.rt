@@ -8,13 +8,13 @@ ghost use Rattle.mmt_syntax.specs.Readings.{read_assigns, read_decl, read_decls,
 ghost use Rattle.twelf_reader.specs.Signs.{is_name};
 ghost use Rattle.twelf_reader.specs.Left.{left, next_kind};
 ghost use Rattle.twelf_reader.specs.Going.{Goes, answer_with};
-ghost use Rattle.twelf_reader.specs.Items.{next_decl, read_boxed, theory_ends};
+ghost use Rattle.twelf_reader.specs.Items.{next_decl, theory_ends};
 
 use crate::ReadFault;
 use crate::reader::Reader;
 use crate::refusing::Spot;
-use crate::sign::Sign;
 use mmt_syntax::{Assigns, Decl, Decls, Expr, StructDecl};
+use twelf_lexer::Sign;
 
 impl<'a> Reader<'a> {
     /// Declarations, and the brace that ends them.
@@ -106,15 +106,15 @@ impl<'a> Reader<'a> {
         let value = self.value()?;
         Ok(Decl::Const {
             name,
-            class: Box::into_inner(class),
-            value: unboxed(value),
+            class,
+            value,
         })
     }
 
     /// Behind the class of a constant: its value, if there is one, and the dot.
-    fn value(&mut self) -> Result<Option<Box<Expr>>, ReadFault>
+    fn value(&mut self) -> Result<Option<Expr>, ReadFault>
         ensures goes { (sig : Simple) (ds : List trees.Decl) (c : Simple) (e : trees.Expr) → Goes (answer_with (λ t. class_ends sig ds c e t.kind) (left self.old))
-            result (λ v. answer_on (AtDecl sig (ds ++ trees.ConstDecl (as_written c) e (read_boxed v) ∷ [])) (left self.new)) }
+            result (λ v. answer_on (AtDecl sig (ds ++ trees.ConstDecl (as_written c) e (option_map read_expr v) ∷ [])) (left self.new)) }
         ensures less { OnOk result (length (left self.new) ≤ length (left self.old)) }
     {
         if self.sees(Sign::Dot) {
@@ -128,15 +128,5 @@ impl<'a> Reader<'a> {
         let value = self.expr()?;
         self.expect(Sign::Dot)?;
         Ok(Some(value))
-    }
-}
-
-/// The expression of a box, if there is one.
-fn unboxed(value: Option<Box<Expr>>) -> Option<Expr>
-    ensures { option_map read_expr result ≡ read_boxed value }
-{
-    match value {
-        Some(value) => Some(Box::into_inner(value)),
-        None => None,
     }
 }

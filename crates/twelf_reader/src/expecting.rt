@@ -1,26 +1,28 @@
 //! Tokens that must come.
-ghost use Rattle.std.specs.Prelude.{◌≡◌, ◌∷◌, ◌<◌, ◌≤◌, [], List, false, length, IfOk, OnOk};
+ghost use Rattle.std.specs.Prelude.{◌≡◌, ◌∷◌, ◌<◌, ◌≤◌, [], List, false, true, length, IfOk, OnOk};
 ghost use Rattle.text_meaning.specs.Tokens.{Mark, EndSign, DotSign};
 ghost use Rattle.text_meaning.specs.Trees as trees;
 ghost use Rattle.text_meaning.specs.Reading.{Tree, Read};
 ghost use Rattle.text_meaning.specs.Parsing.{State, Whole, Expect, ExpectName, ExpectPath, MoreWords, Simple, answer_on, as_written, at_morph, is_refused};
 ghost use Rattle.mmt_syntax.specs.Readings.{read_morph, read_written};
-ghost use Rattle.twelf_reader.specs.Signs.{is_sign, read_sign};
+ghost use Rattle.twelf_reader.specs.Signs.{is_plain, is_sign};
+ghost use Rattle.twelf_lexer.specs.Lexemes.{mark_of};
 ghost use Rattle.twelf_reader.specs.Left.{left};
 ghost use Rattle.twelf_reader.specs.Going.{Goes, simple_of};
 
 use crate::ReadFault;
 use crate::reader::Reader;
 use crate::refusing::Spot;
-use crate::sign::Sign;
 use lf_terms::Memory;
 use mmt_syntax::{Morph, Words, Written};
+use twelf_lexer::Sign;
 
 impl<'a> Reader<'a> {
     /// Takes this sign, which must come.
     pub(crate) fn expect(&mut self, mark: Sign) -> Result<(), ReadFault>
-        requires { is_sign (read_sign mark) (Mark EndSign) ≡ false }
-        ensures goes { (next : State) → is_refused next ≡ false → Goes (answer_on (Expect (read_sign mark) next) (left self.old)) result (λ _. answer_on next (left self.new)) }
+        requires plain { is_plain mark ≡ true }
+        requires not_end { is_sign (mark_of mark) (Mark EndSign) ≡ false }
+        ensures goes { (next : State) → is_refused next ≡ false → Goes (answer_on (Expect (mark_of mark) next) (left self.old)) result (λ _. answer_on next (left self.new)) }
         ensures less { OnOk result (length (left self.new) < length (left self.old)) }
     {
         if !self.sees(mark) {
@@ -34,10 +36,10 @@ impl<'a> Reader<'a> {
     pub(crate) fn finish(&self) -> Result<(), ReadFault>
         ensures { (tree : Tree) → Goes (answer_on (Expect EndSign (Whole tree)) (left self.now)) result (λ _. Read tree) }
     {
-        match self.tokens.split_first() {
-            None => Ok(()),
-            Some(_) => Err(self.refuse(Spot::Elsewhere)),
+        if !self.sees(Sign::End) {
+            return Err(self.refuse(Spot::Elsewhere));
         }
+        Ok(())
     }
 
     /// Takes an identifier of one name, which must come.

@@ -12,13 +12,13 @@ use crate::ReadFault;
 use crate::frame::{Brace, Operand, Spelled, Stack};
 use crate::level::Level;
 use crate::reader::Reader;
-use crate::sign::Sign;
 use mmt_syntax::{Expr, Node};
+use twelf_lexer::Sign;
 
 impl<'a> Reader<'a> {
     /// An expression of a declaration, an assignment or a judgement. The token behind it is left.
-    pub(crate) fn expr(&mut self) -> Result<Box<Expr>, ReadFault>
-        ensures goes { (p : Purpose) → Goes (answer_on (at_expr 1 (Ends p)) (left self.old)) result (λ e. answer_with (λ t. purpose_ends p (read_expr e.value) t.kind) (left self.new)) }
+    pub(crate) fn expr(&mut self) -> Result<Expr, ReadFault>
+        ensures goes { (p : Purpose) → Goes (answer_on (at_expr 1 (Ends p)) (left self.old)) result (λ e. answer_with (λ t. purpose_ends p (read_expr e) t.kind) (left self.new)) }
         ensures less { OnOk result (length (left self.new) ≤ length (left self.old)) }
     {
         let mut stack = Stack {

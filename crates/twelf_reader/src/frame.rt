@@ -11,7 +11,7 @@ use mmt_syntax::{Binder, Expr, Exprs};
 #[derive(Drop)]
 pub(crate) struct Spelled {
     pub span: Span,
-    pub tree: Box<Expr>,
+    pub tree: Expr,
 }
 
 /// Where an operand stands: first, after `->`, or after `<-` behind the row so far.
@@ -26,7 +26,7 @@ pub(crate) enum Row {
 #[derive(Drop)]
 pub(crate) struct Atoms {
     pub span: Span,
-    pub head: Box<Expr>,
+    pub head: Expr,
     pub args: Exprs,
 }
 

@@ -13,7 +13,7 @@ mod modules;
 mod opening;
 mod reader;
 mod refusing;
-mod sign;
+mod taking;
 mod texts;
 mod tree;
 

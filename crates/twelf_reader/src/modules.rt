@@ -10,8 +10,8 @@ ghost use Rattle.twelf_reader.specs.Going.{Goes};
 use crate::ReadFault;
 use crate::reader::Reader;
 use crate::refusing::Spot;
-use crate::sign::Sign;
 use mmt_syntax::{Judgement, Module, ViewDecl};
+use twelf_lexer::Sign;
 
 impl<'a> Reader<'a> {
     /// A module and nothing else.
@@ -73,9 +73,6 @@ impl<'a> Reader<'a> {
         self.expect(Sign::Colon)?;
         let fam = self.expr()?;
         self.finish()?;
-        Ok(Judgement {
-            obj: Box::into_inner(obj),
-            fam: Box::into_inner(fam),
-        })
+        Ok(Judgement { obj, fam })
     }
 }

@@ -15,11 +15,11 @@ use crate::frame::{Binding, Brace, Frame, Operand, Row, Stack};
 use crate::level::Level;
 use crate::reader::Reader;
 use crate::refusing::Spot;
-use crate::sign::Sign;
 use crate::tree::{applied, in_row};
 use lf_terms::{Memory, Span};
 use mmt_syntax::Binder;
 use std::mem;
+use twelf_lexer::Sign;
 
 impl<'a> Reader<'a> {
     /// Behind an opening parenthesis: what is inside it begins.

@@ -8,7 +8,7 @@ ghost use Rattle.twelf_reader.specs.Going.{Fails, answer_with, bare_at, left_out
 use crate::ReadFault;
 use crate::level::Level;
 use crate::reader::Reader;
-use crate::sign::Sign;
+use twelf_lexer::Sign;
 
 /// Where a token is refused, as far as it decides whether this profile leaves it out.
 #[derive(Clone, Copy, Debug)]

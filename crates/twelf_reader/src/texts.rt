@@ -1,17 +1,18 @@
 //! The two calls that read a text.
-ghost use Rattle.std.specs.Prelude.{◌≤◌, ◌^◌, length, IfErr, IfOk};
+ghost use Rattle.std.specs.Prelude.{◌≡◌, ◌≤◌, ◌^◌, length, IfErr, IfOk};
 ghost use Rattle.text_meaning.specs.Reading.{Answer, Target, JudgementText, JudgementTree, ModuleText, ModuleTree, Read, Reads};
-ghost use Rattle.mmt_syntax.specs.Readings as syntax;
+ghost use Rattle.text_meaning.specs.Parsing.{answer_on, start};
 ghost use Rattle.text_meaning.specs.TextAnswers.{read};
-ghost use Rattle.twelf_lexer.specs.Answers.{IsCutOf};
+ghost use Rattle.mmt_syntax.specs.Readings as syntax;
 ghost use Rattle.twelf_reader.specs.Going.{Fails, Goes};
+ghost use Rattle.twelf_reader.specs.Left.{left_from};
 ghost use Rattle.twelf_reader.specs.Answers.{IsFaultOf};
 
 use crate::ReadFault;
 use crate::reader::Reader;
 use mmt_syntax::{Judgement, Module};
 use std::alloc::Global;
-use twelf_lexer::{Cut, LexFault, lex};
+use twelf_lexer::open_comment;
 
 /// The one module that a text of at most 2^26 bytes spells, at a nesting of at most 500. It answers the tree exactly
 /// where the text has this reading, and `Syntax`, `TooDeep` or `Unsupported` at a place exactly where the text has
@@ -22,14 +23,8 @@ pub fn read_module(alloc: Global, text: &[u8]) -> Result<Module, ReadFault>
     ensures fault { IfErr result (λ fault. IsFaultOf ModuleText text.now fault) }
     ensures only { (answer : Answer) → Reads ModuleText text.now answer → Goes answer result (λ m. Read (ModuleTree (syntax.read_module m))) }
 {
-    let cut = cut(alloc, text)?;
-    let mut reader = Reader {
-        alloc,
-        text,
-        tokens: cut.tokens.as_slice(),
-        end: cut.end,
-    };
-    reader.whole_module()
+    let text = in_utf8(text)?;
+    module(alloc, text)
 }
 
 /// The one judgement that a text of at most 2^26 bytes spells, `expression : expression`, at a nesting of at most
@@ -41,26 +36,55 @@ pub fn read_judgement(alloc: Global, text: &[u8]) -> Result<Judgement, ReadFault
     ensures fault { IfErr result (λ fault. IsFaultOf JudgementText text.now fault) }
     ensures only { (answer : Answer) → Reads JudgementText text.now answer → Goes answer result (λ j. Read (JudgementTree (syntax.read_judgement j))) }
 {
-    let cut = cut(alloc, text)?;
-    let mut reader = Reader {
-        alloc,
-        text,
-        tokens: cut.tokens.as_slice(),
-        end: cut.end,
-    };
-    reader.whole_judgement()
+    let text = in_utf8(text)?;
+    judgement(alloc, text)
 }
 
-/// The tokens of a text. A fault of the lexer is one of syntax.
-fn cut(alloc: Global, text: &[u8]) -> Result<Cut, ReadFault>
+/// The same text, if it is UTF-8.
+fn in_utf8(text: &[u8]) -> Result<&str, ReadFault>
     requires small { length text.now ≤ 2 ^ 26 }
-    ensures ok { IfOk result (λ cut. IsCutOf text.now cut) }
+    ensures ok { IfOk result (λ same. same.now ≡ text.now) }
     ensures fault { IfErr result (λ fault. (target : Target) → Fails fault (read target text.now)) }
 {
-    match lex(alloc, text) {
-        Ok(cut) => Ok(cut),
-        Err(LexFault::NotUtf8 { at }) => Err(ReadFault::Syntax { at }),
-        Err(LexFault::OpenComment { at }) => Err(ReadFault::Syntax { at }),
-        Err(LexFault::Memory) => Err(ReadFault::Memory),
+    match str::from_utf8(text) {
+        Ok(text) => Ok(text),
+        Err(error) => Err(ReadFault::Syntax {
+            at: error.valid_up_to() as u32,
+        }),
+    }
+}
+
+/// The module of a text that is UTF-8.
+fn module(alloc: Global, text: &str) -> Result<Module, ReadFault>
+    requires small { length text.now ≤ 2 ^ 26 }
+    ensures { Goes (read ModuleText text.now) result (λ m. Read (ModuleTree (syntax.read_module m))) }
+{
+    let mut reader = Reader::new(alloc, text);
+    match reader.whole_module() {
+        Ok(module) => Ok(module),
+        Err(fault) => Err(settled(text, fault)),
+    }
+}
+
+/// The judgement of a text that is UTF-8.
+fn judgement(alloc: Global, text: &str) -> Result<Judgement, ReadFault>
+    requires small { length text.now ≤ 2 ^ 26 }
+    ensures { Goes (read JudgementText text.now) result (λ j. Read (JudgementTree (syntax.read_judgement j))) }
+{
+    let mut reader = Reader::new(alloc, text);
+    match reader.whole_judgement() {
+        Ok(judgement) => Ok(judgement),
+        Err(fault) => Err(settled(text, fault)),
+    }
+}
+
+/// The fault of a text that does not read. A comment without an end comes before what a reader finds.
+fn settled(text: &str, fault: ReadFault) -> ReadFault
+    requires small { length text.now ≤ 2 ^ 26 }
+    ensures { (target : Target) → Fails fault (answer_on (start target) (left_from text.now 0)) → Fails result (read target text.now) }
+{
+    match open_comment(text) {
+        Some(at) => ReadFault::Syntax { at },
+        None => fault,
     }
 }

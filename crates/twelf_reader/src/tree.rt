@@ -23,19 +23,19 @@ pub(crate) fn join(first: Span, last: Span) -> Span
 }
 
 /// The expression that is this node.
-pub(crate) fn spelled(alloc: Global, span: Span, node: Node) -> Result<Spelled, Memory>
-    ensures { IfOk result (λ w. IsSpelled w (read_span span) (read_node node (read_span span))) }
+pub(crate) fn spelled(span: Span, node: Node) -> Spelled
+    ensures { IsSpelled result (read_span span) (read_node node (read_span span)) }
 {
-    Ok(Spelled {
+    Spelled {
         span,
-        tree: Box::new(alloc, Expr { span, node })?,
-    })
+        tree: Expr { span, node },
+    }
 }
 
 /// A row of atoms: the first alone, or the first applied to the others.
 pub(crate) fn applied(alloc: Global, atoms: Atoms) -> Result<Spelled, Memory>
     ensures { IfOk result (λ w. IsSpelled w (read_span atoms.span)
-        (grammar.applied (read_span atoms.span) (read_expr atoms.head.value) (read_arguments (expressions_of atoms.args)))) }
+        (grammar.applied (read_span atoms.span) (read_expr atoms.head) (read_arguments (expressions_of atoms.args)))) }
 {
     if atoms.args.len() == 0 {
         return Ok(Spelled {
@@ -44,26 +44,25 @@ pub(crate) fn applied(alloc: Global, atoms: Atoms) -> Result<Spelled, Memory>
         });
     }
     let node = Node::App {
-        head: atoms.head,
+        head: Box::new(alloc, atoms.head)?,
         args: atoms.args,
     };
-    spelled(alloc, atoms.span, node)
+    Ok(spelled(atoms.span, node))
 }
 
 /// An operand in its row.
 pub(crate) fn in_row(alloc: Global, row: Row, operand: Spelled) -> Result<Spelled, Memory>
     ensures { IfOk result (λ w. IsSpelled w (parsing.row_span (read_row row) (read_span operand.span))
-        (parsing.row_tree (read_row row) (read_span operand.span) (read_expr operand.tree.value))) }
+        (parsing.row_tree (read_row row) (read_span operand.span) (read_expr operand.tree))) }
 {
     match row {
         Row::Plain => Ok(operand),
         Row::AfterArrow => Ok(operand),
         Row::AfterBack(so_far) => {
-            let node = Node::Back {
-                body: so_far.tree,
-                dom: operand.tree,
-            };
-            spelled(alloc, join(so_far.span, operand.span), node)
+            let span = join(so_far.span, operand.span);
+            let body = Box::new(alloc, so_far.tree)?;
+            let dom = Box::new(alloc, operand.tree)?;
+            Ok(spelled(span, Node::Back { body, dom }))
         }
     }
 }
@@ -76,19 +75,19 @@ pub(crate) fn bound(
     body: Spelled,
 ) -> Result<Spelled, Memory>
     ensures { IfOk result (λ w. IsSpelled w (grammar.join (read_span left) (read_span body.span))
-        (parsing.bound (grammar.join (read_span left) (read_span body.span)) (read_binding binding) (read_expr body.tree.value))) }
+        (parsing.bound (grammar.join (read_span left) (read_span body.span)) (read_binding binding) (read_expr body.tree))) }
 {
     let span = join(left, body.span);
-    let body = body.tree;
+    let body = Box::new(alloc, body.tree)?;
     match binding {
-        Binding::Pi(name, dom) => spelled(alloc, span, Node::Pi { name, dom, body }),
+        Binding::Pi(name, dom) => Ok(spelled(span, Node::Pi { name, dom, body })),
         Binding::Lam(name) => {
             let dom = None;
-            spelled(alloc, span, Node::Lam { name, dom, body })
+            Ok(spelled(span, Node::Lam { name, dom, body }))
         }
         Binding::TypedLam(name, dom) => {
             let dom = Some(dom);
-            spelled(alloc, span, Node::Lam { name, dom, body })
+            Ok(spelled(span, Node::Lam { name, dom, body }))
         }
     }
 }
@@ -100,25 +99,25 @@ pub(crate) fn behind(
     binder: Spelled,
 ) -> Result<Spelled, Memory>
     ensures { IfOk result (λ w. IsSpelled w (parsing.last_span (read_atoms atoms) (read_span binder.span))
-        (parsing.last_tree (read_atoms atoms) (read_span binder.span) (read_expr binder.tree.value))) }
+        (parsing.last_tree (read_atoms atoms) (read_span binder.span) (read_expr binder.tree))) }
 {
     match atoms {
         None => Ok(binder),
         Some(atoms) => {
             let span = join(atoms.span, binder.span);
             let args = with_argument(atoms.args, binder.tree)?;
-            let head = atoms.head;
-            spelled(alloc, span, Node::App { head, args })
+            let head = Box::new(alloc, atoms.head)?;
+            Ok(spelled(span, Node::App { head, args }))
         }
     }
 }
 
 /// Arguments and one more.
-fn with_argument(args: Exprs, argument: Box<Expr>) -> Result<Exprs, Memory>
-    ensures { IfOk result (λ all. read_arguments (expressions_of all) ≡ ThenArg (read_arguments (expressions_of args)) (read_expr argument.value)) }
+fn with_argument(args: Exprs, argument: Expr) -> Result<Exprs, Memory>
+    ensures { IfOk result (λ all. read_arguments (expressions_of all) ≡ ThenArg (read_arguments (expressions_of args)) (read_expr argument)) }
 {
     let mut args = args;
-    args.add(Box::into_inner(argument))?;
+    args.add(argument)?;
     Ok(args)
 }
 
@@ -140,24 +139,18 @@ pub(crate) fn close_body(
 /// An arrow from one expression to another.
 pub(crate) fn arrow(alloc: Global, dom: Spelled, body: Spelled) -> Result<Spelled, Memory>
     ensures { IfOk result (λ w. IsSpelled w (grammar.join (read_span dom.span) (read_span body.span))
-        (ArrowExpr (grammar.join (read_span dom.span) (read_span body.span)) (read_expr dom.tree.value) (read_expr body.tree.value))) }
+        (ArrowExpr (grammar.join (read_span dom.span) (read_span body.span)) (read_expr dom.tree) (read_expr body.tree))) }
 {
-    let node = Node::Arrow {
-        dom: dom.tree,
-        body: body.tree,
-    };
-    spelled(alloc, join(dom.span, body.span), node)
+    let span = join(dom.span, body.span);
+    let dom = Box::new(alloc, dom.tree)?;
+    let body = Box::new(alloc, body.tree)?;
+    Ok(spelled(span, Node::Arrow { dom, body }))
 }
 
 impl Operand {
     /// Adds an atom that takes this span.
-    pub(crate) fn add_atom(
-        &mut self,
-        alloc: Global,
-        span: Span,
-        atom: Box<Expr>,
-    ) -> Result<(), Memory>
-        ensures atoms { OnOk result (read_atoms self.new.atoms ≡ parsing.add_atom (read_atoms self.old.atoms) (read_span span) (read_expr atom.value)) }
+    pub(crate) fn add_atom(&mut self, alloc: Global, span: Span, atom: Expr) -> Result<(), Memory>
+        ensures atoms { OnOk result (read_atoms self.new.atoms ≡ parsing.add_atom (read_atoms self.old.atoms) (read_span span) (read_expr atom)) }
         ensures row { OnOk result (self.new.row ≡ self.old.row) }
         ensures level { OnOk result (self.new.level.n ≡ self.old.level.n) }
     {
@@ -189,7 +182,7 @@ impl Operand {
         ensures row { OnOk result (self.new.row ≡ self.old.row) }
         ensures level { OnOk result (self.new.level.n ≡ self.old.level.n) }
     {
-        let atom = spelled(alloc, span, node)?;
+        let atom = spelled(span, node);
         self.add_atom(alloc, span, atom.tree)
     }
 }

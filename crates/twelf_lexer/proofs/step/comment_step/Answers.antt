@@ -1,5 +1,5 @@
 use Rattle.std.proofs.Common.{sym, subst}
-use Rattle.twelf_lexer.specs.Steps.{IsStep}
+use Rattle.twelf_lexer.specs.Pieces.{IsStep}
 use Rattle.twelf_lexer.proofs.StepLemmas as steps
 use Rattle.twelf_lexer.proofs.step.comment_step.Goals as goal
 

@@ -1,6 +1,6 @@
 -- Arguments, where there are some, make an application.
-use Rattle.std.proofs.Common.{◌≡◌, List, [], ◌∷◌, map, length, refl, sym, subst, ◌∙◌}
-use Rattle.std.specs.Prelude.{fold, IfOk}
+use Rattle.std.proofs.Common.{◌≡◌, List, [], ◌∷◌, map, length, refl, sym, ap, subst, ◌∙◌}
+use Rattle.std.specs.Prelude.{fold}
 use Rattle.text_meaning.specs.Tokens.{Span}
 use Rattle.text_meaning.specs.Trees.{Expr, Exprs, AppExpr, ThenArg}
 use Rattle.text_meaning.specs.Grammar as grammar
@@ -21,6 +21,7 @@ applied_some s h (e ∷ es) n = applied_then s h _ (read_expr e) (map read_expr 
 pub returns : goal.returns
 returns c =
     let a = c.args.atoms in
-    let some = applied_some (read_span a.span) (read_expr a.head.value) (expressions_of a.args) (λ e. c.if-len-eq0.false (c.len.ensures ∙ e)) in
-    let is = read_node_app a.head a.args (read_span a.span) ∙ sym some in
-    subst (λ e. IfOk c.spelled.result (λ w. IsSpelled w (read_span a.span) e)) is c.spelled.ensures
+    let h = c.in_ok-new.field-0 in
+    let some = applied_some (read_span a.span) (read_expr a.head) (expressions_of a.args) (λ e. c.if-len-eq0.false (c.len.ensures ∙ e)) in
+    let is = read_node_app h a.args (read_span a.span) ∙ ap (λ e. AppExpr (read_span a.span) (read_expr e) (read_arguments (expressions_of a.args))) c.in_ok-new.ensures.ok ∙ sym some in
+    subst (λ e. IsSpelled c.spelled.result (read_span a.span) e) is c.spelled.ensures

@@ -13,7 +13,7 @@ returns-then-not-sees-clause-goes c = λ s k.
     let o = c.args.stack.now.operand in
     let w = waiting k c.args.stack.now.frames.items in
     let l = read_span c.args.opening in
-    let e = read_expr c.args.inside.value in
+    let e = read_expr c.args.inside in
     c.refuse_behind.ensures (λ t. resume (InParens l o.level.n (read_row o.row) (read_atoms o.atoms) w) s e t)
     (parens_refuse c.args.self.now l o.level.n (read_row o.row) (read_atoms o.atoms) w s e (sym c.if-not-sees.ensures))
 
@@ -24,7 +24,7 @@ returns-clause-goes c = λ s k.
     let w = waiting k c.args.stack.now.frames.items in
     let l = read_span c.args.opening in
     let r = read_span c.take-closing.result in
-    let e = read_expr c.args.inside.value in
+    let e = read_expr c.args.inside in
     let atoms = ap (λ x. add_atom (read_atoms o.atoms) x e) (sym c.join.ensures) ∙ sym c.in_ok-add_atom.ensures.atoms in
     parens_close l o.level.n (read_row o.row) (read_atoms o.atoms) w s e r (operand_state u w) (left c.args.self.now) (left c.take-closing.new.self) c.take-closing.ensures.takes
     (same_operand o.level.n u.level.n (read_row o.row) (read_row u.row) (add_atom (read_atoms o.atoms) (join l r) e) (read_atoms u.atoms) w (sym c.in_ok-add_atom.ensures.level) (ap read_row (sym c.in_ok-add_atom.ensures.row)) atoms)

@@ -29,7 +29,7 @@ returns-in_err-expect-2-clause-goes c = λ o xs.
     let target = c.in_ok-target.target in
     let value = at_expr 1 (Ends (ValueFor o xs (read_written target))) in
     let taken = took (AtAssign o xs) (Expect AssignSign value) (ident (read_span target.span) target.path) (left c.args.self.now) (left c.take_path.new.self) c.in_ok-target.ensures.takes refl refl refl in
-    let next = AtAssign o (xs ++ (ConstAssign (read_written target) (read_expr c.in_ok-value.value.value) ∷ [])) in
+    let next = AtAssign o (xs ++ (ConstAssign (read_written target) (read_expr c.in_ok-value.value) ∷ [])) in
     let p = err_from_is_err_and c.from_residual-in_err-expect-2.result c.from_residual-in_err-expect-2.ensures.1 in
     rw (p.1, p.2) (failed c.in_err-expect-2.field-0.0
     (taken ∙ c.in_ok-expect.ensures.goes value refl ∙ c.in_ok-value.ensures.goes (ValueFor o xs (read_written target)) ∙ with_expected c.expr.new.self DotSign next)
@@ -40,6 +40,5 @@ returns-clause-goes c = λ o xs.
     let target = c.in_ok-target.target in
     let value = at_expr 1 (Ends (ValueFor o xs (read_written target))) in
     let taken = took (AtAssign o xs) (Expect AssignSign value) (ident (read_span target.span) target.path) (left c.args.self.now) (left c.take_path.new.self) c.in_ok-target.ensures.takes refl refl refl in
-    let next = AtAssign o (xs ++ (ConstAssign (read_written target) (read_expr c.in_ok-value.value.value) ∷ [])) in
+    let next = AtAssign o (xs ++ (ConstAssign (read_written target) (read_expr c.in_ok-value.value) ∷ [])) in
     taken ∙ c.in_ok-expect.ensures.goes value refl ∙ c.in_ok-value.ensures.goes (ValueFor o xs (read_written target)) ∙ with_expected c.expr.new.self DotSign next ∙ c.in_ok-expect-2.ensures.goes next refl
-    ∙ ap (λ e. answer_on (AtAssign o (xs ++ (ConstAssign (read_written target) (read_expr e) ∷ []))) (left c.expect-2.new.self)) (sym c.into_inner.ensures)

@@ -34,14 +34,13 @@ returns-in_err-value-clause-goes c = λ sig ds.
     let taken = took (AtDecl sig ds) (Expect ColonSign class) (ident (read_span name.span) (first_name name.path ∷ [])) (left c.args.self.now) (left c.take_simple.new.self) c.in_ok-name.ensures.takes refl refl refl in
     let p = err_from_is_err_and c.from_residual-in_err-value.result c.from_residual-in_err-value.ensures.1 in
     rw (p.1, p.2) (failed c.in_err-value.field-0.0 (taken ∙ c.in_ok-expect.ensures.goes class refl ∙ c.in_ok-class.ensures.goes (ClassOf sig ds (simple_of name)))
-    (c.in_err-value.ensures.goes sig ds (simple_of name) (read_expr c.in_ok-class.class.value)))
+    (c.in_err-value.ensures.goes sig ds (simple_of name) (read_expr c.in_ok-class.class)))
 
 pub returns-clause-goes : goal.returns-clause-goes
 returns-clause-goes c = λ sig ds.
     let name = c.in_ok-name.name in
     let class = at_expr 1 (Ends (ClassOf sig ds (simple_of name))) in
     let taken = took (AtDecl sig ds) (Expect ColonSign class) (ident (read_span name.span) (first_name name.path ∷ [])) (left c.args.self.now) (left c.take_simple.new.self) c.in_ok-name.ensures.takes refl refl refl in
-    let came = taken ∙ c.in_ok-expect.ensures.goes class refl ∙ c.in_ok-class.ensures.goes (ClassOf sig ds (simple_of name)) ∙ c.in_ok-value.ensures.goes sig ds (simple_of name) (read_expr c.in_ok-class.class.value) in
+    let came = taken ∙ c.in_ok-expect.ensures.goes class refl ∙ c.in_ok-class.ensures.goes (ClassOf sig ds (simple_of name)) ∙ c.in_ok-value.ensures.goes sig ds (simple_of name) (read_expr c.in_ok-class.class) in
     came
-    ∙ ap₂ (λ n v. answer_on (AtDecl sig (ds ++ (ConstDecl n (read_expr c.in_ok-class.class.value) v ∷ []))) (left c.value.new.self)) c.in_ok-name.ensures.one (sym c.unboxed.ensures)
-    ∙ ap (λ e. answer_on (AtDecl sig (ds ++ (ConstDecl (read_written name) (read_expr e) (option_map read_expr c.unboxed.result) ∷ []))) (left c.value.new.self)) (sym c.into_inner.ensures)
+    ∙ ap (λ n. answer_on (AtDecl sig (ds ++ (ConstDecl n (read_expr c.in_ok-class.class) (option_map read_expr c.in_ok-value.value) ∷ []))) (left c.value.new.self)) c.in_ok-name.ensures.one

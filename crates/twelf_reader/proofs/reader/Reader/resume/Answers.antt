@@ -27,7 +27,7 @@ rows-preserved-in-Some-Codomain c =
       goes = λ k.
           let items : fs ≡ gs ++ (Codomain dom ∷ []) = c.in-Some-Codomain.ensures.items ∙ ap (λ f. gs ++ (f ∷ [])) c.in-Some-Codomain.field-0-is in
           c.rows.invariant.goes k ∙ ap (λ j. answer_resumed j c.rows.whole before) (one_more_waits k gs fs (Codomain dom) items)
-          ∙ resumed_codomain (waiting k gs) (read_span dom.span) (read_expr dom.tree.value) c.rows.whole whole before c.in_ok-whole-in-Some-Codomain.ensures;
+          ∙ resumed_codomain (waiting k gs) (read_span dom.span) (read_expr dom.tree) c.rows.whole whole before c.in_ok-whole-in-Some-Codomain.ensures;
       same = c.rows.invariant.same;
     }
 
@@ -59,7 +59,7 @@ returns-in_err-close_parens-in-Some-Parens-clause-goes c = λ k.
     let before = left c.rows.self in
     let w = waiting k gs in
     let items : fs ≡ gs ++ (Parens l o ∷ []) = c.in-Some-Parens.ensures.items ∙ ap (λ f. gs ++ (f ∷ [])) c.in-Some-Parens.field-0-is in
-    let resumed = λ (x : Operand). answer_with (λ t. resume (InParens (read_span l) x.level.n (read_row x.row) (read_atoms x.atoms) w) (read_span whole.span) (read_expr whole.tree.value) t) before in
+    let resumed = λ (x : Operand). answer_with (λ t. resume (InParens (read_span l) x.level.n (read_row x.row) (read_atoms x.atoms) w) (read_span whole.span) (read_expr whole.tree) t) before in
     let came : answer_resumed (waiting k c.args.stack.now.frames.items) c.args.whole (left c.args.self.now) ≡ resumed c.replace-in-Some-Parens.new.dest
     = c.rows.invariant.goes k ∙ ap (λ j. answer_resumed j whole before) (one_more_waits k gs fs (Parens l o) items) ∙ ap resumed (sym c.replace-in-Some-Parens.ensures.after) in
     let p = err_from_is_err_and c.from_residual-in_err-close_parens-in-Some-Parens.result c.from_residual-in_err-close_parens-in-Some-Parens.ensures.1 in
@@ -76,7 +76,7 @@ returns-in-Some-Parens-clause-goes c = λ k.
     let before = left c.rows.self in
     let w = waiting k gs in
     let items : fs ≡ gs ++ (Parens l o ∷ []) = c.in-Some-Parens.ensures.items ∙ ap (λ f. gs ++ (f ∷ [])) c.in-Some-Parens.field-0-is in
-    let resumed = λ (x : Operand). answer_with (λ t. resume (InParens (read_span l) x.level.n (read_row x.row) (read_atoms x.atoms) w) (read_span whole.span) (read_expr whole.tree.value) t) before in
+    let resumed = λ (x : Operand). answer_with (λ t. resume (InParens (read_span l) x.level.n (read_row x.row) (read_atoms x.atoms) w) (read_span whole.span) (read_expr whole.tree) t) before in
     let came : answer_resumed (waiting k c.args.stack.now.frames.items) c.args.whole (left c.args.self.now) ≡ resumed c.replace-in-Some-Parens.new.dest
     = c.rows.invariant.goes k ∙ ap (λ j. answer_resumed j whole before) (one_more_waits k gs fs (Parens l o) items) ∙ ap resumed (sym c.replace-in-Some-Parens.ensures.after) in
     came ∙ c.in_ok-close_parens-in-Some-Parens.ensures.goes (read_span whole.span) k
@@ -93,7 +93,7 @@ returns-in_err-close_domain-in-Some-Domain-clause-goes c = λ k.
     let before = left c.rows.self in
     let w = waiting k gs in
     let items : fs ≡ gs ++ (Domain b l n o ∷ []) = c.in-Some-Domain.ensures.items ∙ ap (λ f. gs ++ (f ∷ [])) c.in-Some-Domain.field-0-is in
-    let resumed = λ (x : Operand). answer_with (λ t. resume (InDomain (read_brace b) (read_span l) (read_binder n) x.level.n (read_row x.row) (read_atoms x.atoms) w) (read_span whole.span) (read_expr whole.tree.value) t) before in
+    let resumed = λ (x : Operand). answer_with (λ t. resume (InDomain (read_brace b) (read_span l) (read_binder n) x.level.n (read_row x.row) (read_atoms x.atoms) w) (read_span whole.span) (read_expr whole.tree) t) before in
     let came : answer_resumed (waiting k c.args.stack.now.frames.items) c.args.whole (left c.args.self.now) ≡ resumed c.replace-in-Some-Domain.new.dest
     = c.rows.invariant.goes k ∙ ap (λ j. answer_resumed j whole before) (one_more_waits k gs fs (Domain b l n o) items) ∙ ap resumed (sym c.replace-in-Some-Domain.ensures.after) in
     let p = err_from_is_err_and c.from_residual-in_err-close_domain-in-Some-Domain.result c.from_residual-in_err-close_domain-in-Some-Domain.ensures.1 in
@@ -112,7 +112,7 @@ returns-in-Some-Domain-clause-goes c = λ k.
     let before = left c.rows.self in
     let w = waiting k gs in
     let items : fs ≡ gs ++ (Domain b l n o ∷ []) = c.in-Some-Domain.ensures.items ∙ ap (λ f. gs ++ (f ∷ [])) c.in-Some-Domain.field-0-is in
-    let resumed = λ (x : Operand). answer_with (λ t. resume (InDomain (read_brace b) (read_span l) (read_binder n) x.level.n (read_row x.row) (read_atoms x.atoms) w) (read_span whole.span) (read_expr whole.tree.value) t) before in
+    let resumed = λ (x : Operand). answer_with (λ t. resume (InDomain (read_brace b) (read_span l) (read_binder n) x.level.n (read_row x.row) (read_atoms x.atoms) w) (read_span whole.span) (read_expr whole.tree) t) before in
     let came : answer_resumed (waiting k c.args.stack.now.frames.items) c.args.whole (left c.args.self.now) ≡ resumed c.replace-in-Some-Domain.new.dest
     = c.rows.invariant.goes k ∙ ap (λ j. answer_resumed j whole before) (one_more_waits k gs fs (Domain b l n o) items) ∙ ap resumed (sym c.replace-in-Some-Domain.ensures.after) in
     came ∙ c.in_ok-close_domain-in-Some-Domain.ensures.goes (read_span whole.span) k

@@ -1,6 +1,6 @@
 use Rattle.std.proofs.Common.{◌-◌}
 use Rattle.twelf_lexer.proofs.RowLoops.{PathSoFar}
-use Rattle.twelf_lexer.proofs.row.path.Given as goal
+use Rattle.twelf_lexer.proofs.path.path.Given as goal
 
 abbrev pub invariant-loop-end : goal.invariant-loop-end
 invariant-loop-end l = PathSoFar l.text l.at l.to l.end l.path

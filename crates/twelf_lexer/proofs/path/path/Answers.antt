@@ -3,7 +3,7 @@ use Rattle.name_meaning.specs.Characters.{is_identifier_byte}
 use Rattle.twelf_lexer.specs.Scans.{IsFront}
 use Rattle.twelf_lexer.proofs.Places.{boundary_after}
 use Rattle.twelf_lexer.proofs.RowLoops.{PathSoFar, path_begins, path_goes}
-use Rattle.twelf_lexer.proofs.row.path.Goals as goal
+use Rattle.twelf_lexer.proofs.path.path.Goals as goal
 
 pub name-requires-clause-identifier : goal.name-requires-clause-identifier
 name-requires-clause-identifier c =

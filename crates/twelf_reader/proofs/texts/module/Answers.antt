@@ -1,0 +1,9 @@
+use Rattle.std.proofs.Common.{sym, ap, ◌∙◌}
+use Rattle.text_meaning.specs.Reading.{ModuleText, ModuleTree}
+use Rattle.text_meaning.specs.Parsing.{AtModule, answer_on}
+use Rattle.mmt_syntax.specs.Readings as syntax
+use Rattle.twelf_reader.proofs.Endings.{read_whole}
+use Rattle.twelf_reader.proofs.texts.module.Goals as goal
+
+pub returns-in-Ok : goal.returns-in-Ok
+returns-in-Ok c = read_whole ModuleText c.args.text.now (ModuleTree (syntax.read_module c.in-Ok.module)) c.utf8.text (ap (answer_on AtModule) (sym c.new-reader.ensures) ∙ c.in-Ok.ensures)
