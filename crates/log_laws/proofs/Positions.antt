@@ -1,5 +1,5 @@
 -- What stands at a place of a log or of its library.
-use Rattle.std.proofs.Common.{◌≡◌, ℕ, zero, suc, ◌<◌, ◌≤◌, List, [], ◌∷◌, ◌++◌, length, slice_get, Option, Some, None, refl, ap, ◌∙◌, arith}
+use Rattle.std.proofs.Common.{◌≡◌, ℕ, zero, suc, ◌<◌, ◌≤◌, List, [], ◌∷◌, ◌++◌, length, slice_get, Some, None, refl, ap, ◌∙◌, arith}
 use Rattle.name_meaning.specs.Names.{Name}
 use Rattle.log_meaning.specs.Log.{Edit, Log, names_of, library_of, version_of, edit_at, name_at}
 use Rattle.list_laws.proofs.Places.{get_behind}
