@@ -7,3 +7,5 @@ pub mod Pointing
 pub mod Entries
 pub mod Told
 pub mod Rising
+pub mod Passing
+pub mod Replying

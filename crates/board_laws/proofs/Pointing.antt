@@ -49,12 +49,12 @@ by_within (x ∷ xs) zero p h = omega arith
 by_within (x ∷ xs) (suc i) p h = let e = by_within xs i p h in omega (arith, e)
 
 -- a later entry with its place
-place_of : (later : History) (x : Entry) → Member x later → (i : ℕ) × (slice_get later i ≡ Some x)
+pub place_of : (later : History) (x : Entry) → Member x later → (i : ℕ) × (slice_get later i ≡ Some x)
 place_of [] x m = absurd m
 place_of (y ∷ later) x (inl e) = (0, ap Some (sym e))
 place_of (y ∷ later) x (inr m) = let q = place_of later x m in (suc q.0, q.1)
 
-not_same : (p q : ℕ) → not (nat_eq p q) ≡ true → p ≡ q → ⊥
+pub not_same : (p q : ℕ) → not (nat_eq p q) ≡ true → p ≡ q → ⊥
 not_same p q h e = true≢false (sym h ∙ ap not (eq-eqb p q e))
 
 module _ (dependencies : Dependencies) (seen later : History) (pass c : ℕ) (legal : IsLegal dependencies (seen ++ later)) (others : are_of_others pass later ≡ true) (may : may_call seen pass (InstallCall c) ≡ true) where
@@ -179,18 +179,18 @@ calls_are_seen subject seen pass call reply after h =
           ∙ ap (λ (z : History). entries_of pass seen ++ z) (added_own subject.dependencies h.point pass call);
     }
 
-pub wants_are_seen : (dependencies : Dependencies) (seen : History) (pass : ℕ) (call : BoardCall) (after : History) → FindsNoMemory dependencies seen pass call after
-    → IsSeenAfter dependencies seen pass [] after
+pub wants_are_seen : {Answer : Type 0} (subject : Subject Answer) (seen : History) (pass : ℕ) (call : BoardCall) (after : History) → FindsNoMemory subject seen pass call after
+    → IsSeenAfter subject.dependencies seen pass [] after
     × ((c : ℕ) → may_call seen pass (InstallCall c) ≡ true → may_call after pass (InstallCall c) ≡ true)
-wants_are_seen dependencies seen pass call after w =
-    let p : IsPoint dependencies seen pass after = subst (IsPoint dependencies seen pass) (sym w.sees) w.at_point in (
+wants_are_seen subject seen pass call after w =
+    let p : IsPoint subject.dependencies seen pass after = subst (IsPoint subject.dependencies seen pass) (sym w.sees) w.at_point in (
       record {
         legal = p.legal;
         later = p.goes_on.later;
         begins = p.goes_on.begins;
-        own = point_has_own dependencies seen pass after p ∙ sym (append-nil (entries_of pass seen));
+        own = point_has_own subject.dependencies seen pass after p ∙ sym (append-nil (entries_of pass seen));
       },
-      λ c. (point_ends_no_claim dependencies seen pass after c p).0,
+      λ c. (point_ends_no_claim subject.dependencies seen pass after c p).0,
     )
 
 -- ---- the job of a claim

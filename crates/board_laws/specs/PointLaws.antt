@@ -1,13 +1,17 @@
 -- Laws of the points of calls (this profile).
-use Rattle.std.specs.Prelude.{◌≡◌, ℕ, true, [], ◌++◌, take, Some}
+use Rattle.std.specs.Prelude.{◌≡◌, ℕ, ◌<◌, true, [], ◌++◌, take, slice_get, Some, Decides}
+use Rattle.log_meaning.specs.Log.{Edit}
+use Rattle.log_meaning.specs.Append.{Made}
+use Rattle.turn_meaning.specs.Passes.{Pass, Joins}
 use Rattle.name_meaning.specs.Names.{Name}
 use Rattle.walk_meaning.specs.Walks.{Dependencies}
 use Rattle.walk_meaning.specs.Subject.{Subject}
-use Rattle.board_meaning.specs.Events.{History}
+use Rattle.board_meaning.specs.Events.{Entry, History, log_of, version_after}
+use Rattle.board_meaning.specs.Ready.{is_closed}
 use Rattle.board_meaning.specs.Claims.{claim_at}
-use Rattle.board_meaning.specs.Machine.{Job, job_of, claim_reply, ClaimCall, InstallCall, ReleaseCall, may_call, after_call}
+use Rattle.board_meaning.specs.Machine.{Job, job_of, edit_reply, claim_reply, install_reply, report_reply, answers_reply, IsVerdict, EditCall, ClaimCall, InstallCall, ReleaseCall, CloseCall, may_call, after_call}
 use Rattle.board_meaning.specs.Legal.{IsLegal}
-use Rattle.board_meaning.specs.Points.{entries_of, IsPoint, BoardCall, Reply, added_by, Happens, FindsNoMemory}
+use Rattle.board_meaning.specs.Points.{number_of, entries_of, are_below, IsPoint, BoardCall, Makes, Reports, AsksAnswers, AsksClosed, Reply, EditReply, ClaimReply, InstallReply, ReportReply, AnswersReply, ClosedReply, may_ask, added_by, Happens, FindsNoMemory}
 
 -- Where no other pass has made an entry, what a pass has seen is the point.
 abbrev pub SeenIsPoint : Type 0
@@ -51,12 +55,68 @@ CallsAreSeen Answer =
     → IsSeenAfter subject.dependencies seen pass (added_by subject.dependencies happens.point pass call) after
 
 -- A call that finds no memory adds nothing, and leaves its pass each claim that it could end.
-abbrev pub WantsAreSeen : Type 0
-WantsAreSeen =
-    (dependencies : Dependencies) (seen : History) (pass : ℕ) (call : BoardCall) (after : History)
-    → FindsNoMemory dependencies seen pass call after
-    → IsSeenAfter dependencies seen pass [] after
+abbrev pub WantsAreSeen : Type 0 → Type 0
+WantsAreSeen Answer =
+    (subject : Subject Answer) (seen : History) (pass : ℕ) (call : BoardCall) (after : History)
+    → FindsNoMemory subject seen pass call after
+    → IsSeenAfter subject.dependencies seen pass [] after
     × ((claim : ℕ) → may_call seen pass (InstallCall claim) ≡ true → may_call after pass (InstallCall claim) ≡ true)
+
+-- What a call that finds no memory would have done: an edit would have been made, a report would have told a verdict; or
+-- it is a claim, or asks for answers. No other call finds none.
+abbrev pub WouldTake : {Answer : Type 0} → Subject Answer → History → BoardCall → Type 0
+WouldTake subject history (Makes (EditCall edit)) = (version : ℕ) × (edit_reply history edit ≡ Made version)
+WouldTake subject history (Makes ClaimCall) = Unit {0}
+WouldTake subject history (Makes (InstallCall claim)) = ⊥
+WouldTake subject history (Makes (ReleaseCall claim)) = ⊥
+WouldTake subject history (Makes CloseCall) = ⊥
+WouldTake {Answer} subject history (Reports name) = (answer : Answer) × (version : ℕ) × (report_reply subject history name ≡ IsVerdict answer version)
+WouldTake subject history (AsksAnswers name) = Unit {0}
+WouldTake subject history AsksClosed = ⊥
+
+abbrev pub WantsAreOfThese : Type 0 → Type 0
+WantsAreOfThese Answer =
+    (subject : Subject Answer) (seen : History) (pass : ℕ) (call : BoardCall) (after : History)
+    → (FindsNoMemory subject seen pass call after → WouldTake subject after call)
+    × (IsPoint subject.dependencies seen pass after → may_ask after pass call ≡ true → WouldTake subject after call → FindsNoMemory subject seen pass call after)
+
+-- Through a pass, an edit, a claim and an install are told what the machine replies at the point.
+abbrev pub CallsAreTold : Type 0 → Type 0
+CallsAreTold Answer =
+    (subject : Subject Answer) (seen : History) (pass : ℕ) (reply : Reply Answer) (after : History)
+    → ((edit : Edit) (happens : Happens subject seen pass (Makes (EditCall edit)) reply after) → reply ≡ EditReply (edit_reply happens.point edit))
+    × ((happens : Happens subject seen pass (Makes ClaimCall) reply after) → reply ≡ ClaimReply (claim_reply subject happens.point))
+    × ((claim : ℕ) (happens : Happens subject seen pass (Makes (InstallCall claim)) reply after) → reply ≡ InstallReply (install_reply subject.dependencies happens.point claim))
+
+-- A report, a question for answers and a question whether the board is closed are told what the machine replies after
+-- all that the pass has then seen.
+abbrev pub QuestionsAreTold : Type 0 → Type 0
+QuestionsAreTold Answer =
+    (subject : Subject Answer) (seen : History) (pass : ℕ) (name : Name) (reply : Reply Answer) (after : History)
+    → (Happens subject seen pass (Reports name) reply after → reply ≡ ReportReply (report_reply subject after name))
+    × (Happens subject seen pass (AsksAnswers name) reply after → reply ≡ AnswersReply (answers_reply subject after name))
+    × (Happens subject seen pass AsksClosed reply after → reply ≡ ClosedReply (is_closed after))
+
+-- All entries are of passes below a number exactly where the pass of each entry is less than it.
+abbrev pub BelowIsLess : Type 0
+BelowIsLess =
+    (made : ℕ) (history : History)
+    → Decides (are_below made history) ((place : ℕ) (entry : Entry) → slice_get history place ≡ Some entry → entry.pass < made)
+
+-- At a point of pass 0 the log, the version, and whether the board is closed are as the pass has seen them: no other pass
+-- edits or closes.
+abbrev pub FrontKnowsLog : Type 0
+FrontKnowsLog =
+    (dependencies : Dependencies) (seen point : History) → IsPoint dependencies seen 0 point
+    → (log_of point ≡ log_of seen) × (version_after point ≡ version_after seen) × (is_closed point ≡ is_closed seen)
+
+-- Where two passes have seen legal histories and one takes in the other, it has then seen a legal history, which is a point
+-- for both.
+abbrev pub JoinsAreSeen : Type 0 → Type 0
+JoinsAreSeen Lock =
+    (dependencies : Dependencies) (before other after : Pass Lock Entry) → IsLegal dependencies before.seen → IsLegal dependencies other.seen
+    → Joins number_of before other after
+    → IsPoint dependencies before.seen before.number after.seen × IsPoint dependencies other.seen other.number after.seen
 
 -- The pass that was handed a job by a claim may end that claim, by an install or a release, and the job is that of the
 -- claim.

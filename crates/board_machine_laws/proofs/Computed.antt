@@ -12,7 +12,7 @@ use Rattle.board_meaning.specs.Ready.{is_closed, dependencies_stand, is_ready, l
 use Rattle.walk_meaning.specs.Subject.{answers_of}
 use Rattle.board_meaning.specs.Machine.{job_after, job_of, install_reply, report_reply, answers_reply, event_of, may_call, after_call}
 use Rattle.board_meaning.specs.Legal.{after_calls, may_make_all}
-use Rattle.board_machine_laws.specs.Examples.{JobHasStamps, InstallIsStale, WayBackIsStale, StaleIsPending, ClaimedAgain, HistoryOfStaleInstall, SecondInstallIsInstalled, VerdictIsTold, NothingIsReady, CallsMayBeMade, AbsentNameIsInput, BothStand, OnlyDependantFalls, DependencyComesFirst, RingIsTold, RingIsNotReady, DroppedIsAbsent, ClosedIsNotReady, ClosedIsUsed, ClosedTellsVerdict, OthersMayNotCall}
+use Rattle.board_machine_laws.specs.Examples.{JobHasStamps, InstallIsStale, WayBackIsStale, StaleIsPending, ClaimedAgain, HistoryOfStaleInstall, SecondInstallIsInstalled, VerdictIsTold, NothingIsReady, CallsMayBeMade, AbsentNameIsInput, BothStand, OnlyDependantFalls, DependencyComesFirst, RingIsTold, RingIsNotReady, DroppedIsAbsent, ClosedIsNotReady, ClosedIsUsed, ClosedTellsVerdict, OthersMayNotCall, JobHasAnswers, AnswersAreTold, StaleClaimIsNoHindrance, CurrentClaimHinders}
 
 -- What all examples compute with.
 abbrev machine : Unit {0}
@@ -102,3 +102,19 @@ closed_tells_verdict = refl
 pub others_may_not_call : OthersMayNotCall
 unfolding machine
 others_may_not_call = refl
+
+pub job_has_answers : JobHasAnswers
+unfolding machine
+job_has_answers = refl
+
+pub answers_are_told : AnswersAreTold
+unfolding machine
+answers_are_told = refl
+
+pub stale_claim_is_no_hindrance : StaleClaimIsNoHindrance
+unfolding machine
+stale_claim_is_no_hindrance = refl
+
+pub current_claim_hinders : CurrentClaimHinders
+unfolding machine
+current_claim_hinders = refl

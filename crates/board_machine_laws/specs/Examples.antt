@@ -7,7 +7,7 @@ use Rattle.walk_meaning.specs.Subject.{Subject}
 use Rattle.board_meaning.specs.Events.{EditMade, Claim, Install, Stale, History}
 use Rattle.board_meaning.specs.Claims.{Input}
 use Rattle.board_meaning.specs.Standing.{stands}
-use Rattle.board_meaning.specs.Machine.{claim_reply, IsInstalled, IsStale, install_reply, IsVerdict, IsPending, IsAbsent, report_reply, Call, EditCall, ClaimCall, InstallCall, ReleaseCall, CloseCall}
+use Rattle.board_meaning.specs.Machine.{claim_reply, IsInstalled, IsStale, install_reply, IsVerdict, IsPending, IsAbsent, report_reply, answers_reply, Call, EditCall, ClaimCall, InstallCall, ReleaseCall, CloseCall}
 use Rattle.board_meaning.specs.Legal.{PassCall, after_calls, may_make_all}
 
 -- A small subject. Each byte of a text is the name of a dependency, and the answer of a name is the number of
@@ -166,3 +166,29 @@ ClosedTellsVerdict = map (report_reply counted (played used_after_close)) (A ∷
 abbrev pub OthersMayNotCall : Type 0
 OthersMayNotCall =
     map (may_make_all letters (played (put A [] ∷ by_worker ClaimCall ∷ []))) ((by_worker (EditCall (Drop A)) ∷ []) ∷ (by_front (InstallCall 1) ∷ []) ∷ (by_worker (InstallCall 1) ∷ []) ∷ []) ≡ false ∷ false ∷ true ∷ []
+
+-- B is put and judged, and then A, which names it. The job of A has the answer of B.
+abbrev pub dependency_judged : List PassCall
+dependency_judged = put B [] ∷ by_worker ClaimCall ∷ by_worker (InstallCall 1) ∷ put A B ∷ []
+
+abbrev pub JobHasAnswers : Type 0
+JobHasAnswers =
+    claim_reply counted (played dependency_judged) ≡ Some (record { claim = 4; name = A; text = B; inputs = input A 2 ∷ input B 1 ∷ []; answers = (B, Some 1) ∷ [] })
+
+-- Once A is judged too, the answers of its reach are told, and those of a name that waits or is absent are not.
+abbrev pub both_judged : List PassCall
+both_judged =
+    put B [] ∷ by_worker ClaimCall ∷ by_worker (InstallCall 1) ∷ put A B ∷ by_worker ClaimCall ∷ by_worker (InstallCall 4) ∷ put C A ∷ []
+
+abbrev pub AnswersAreTold : Type 0
+AnswersAreTold =
+    map (answers_reply counted (played both_judged)) (A ∷ B ∷ C ∷ codes "D" ∷ []) ≡ Some ((B, Some 1) ∷ []) ∷ Some [] ∷ None ∷ None ∷ []
+
+-- A is put again while it is claimed: the open claim, whose stamp has changed, does not hinder a new one.
+abbrev pub StaleClaimIsNoHindrance : Type 0
+StaleClaimIsNoHindrance =
+    claim_reply counted (played put_after_claim) ≡ Some (record { claim = 3; name = A; text = B; inputs = input A 2 ∷ input B 0 ∷ []; answers = (B, None) ∷ [] })
+
+-- While the claim is current, the name is not claimed again.
+abbrev pub CurrentClaimHinders : Type 0
+CurrentClaimHinders = claim_reply counted (played (put A [] ∷ by_front ClaimCall ∷ [])) ≡ None

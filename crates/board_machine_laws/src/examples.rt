@@ -1,6 +1,6 @@
 //! Worked examples: each function does nothing, and its contract is proved by computing.
 
-ghost use Rattle.board_machine_laws.specs.Examples.{JobHasStamps, InstallIsStale, WayBackIsStale, StaleIsPending, ClaimedAgain, HistoryOfStaleInstall, SecondInstallIsInstalled, VerdictIsTold, NothingIsReady, CallsMayBeMade, AbsentNameIsInput, BothStand, OnlyDependantFalls, DependencyComesFirst, RingIsTold, RingIsNotReady, DroppedIsAbsent, ClosedIsNotReady, ClosedIsUsed, ClosedTellsVerdict, OthersMayNotCall};
+ghost use Rattle.board_machine_laws.specs.Examples.{JobHasStamps, InstallIsStale, WayBackIsStale, StaleIsPending, ClaimedAgain, HistoryOfStaleInstall, SecondInstallIsInstalled, VerdictIsTold, NothingIsReady, CallsMayBeMade, AbsentNameIsInput, BothStand, OnlyDependantFalls, DependencyComesFirst, RingIsTold, RingIsNotReady, DroppedIsAbsent, ClosedIsNotReady, ClosedIsUsed, ClosedTellsVerdict, OthersMayNotCall, JobHasAnswers, AnswersAreTold, StaleClaimIsNoHindrance, CurrentClaimHinders};
 
 /// A name is put again, and put back, between a claim and its install.
 pub fn stale_install()
@@ -14,6 +14,8 @@ pub fn stale_install()
     ensures told { VerdictIsTold }
     ensures nothing { NothingIsReady }
     ensures may { CallsMayBeMade }
+    ensures claimed_anew { StaleClaimIsNoHindrance }
+    ensures claimed_once { CurrentClaimHinders }
 {}
 
 /// An absent name that a module names is put.
@@ -22,6 +24,12 @@ pub fn absent_dependency()
     ensures stand { BothStand }
     ensures falls { OnlyDependantFalls }
     ensures first { DependencyComesFirst }
+{}
+
+/// A module is judged after one that it names.
+pub fn answers_of_dependency()
+    ensures job { JobHasAnswers }
+    ensures told { AnswersAreTold }
 {}
 
 /// Rings, dropped names, a closed board, and calls that a pass may not make.

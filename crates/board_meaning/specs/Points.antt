@@ -1,14 +1,14 @@
 -- What a pass has seen of a board that several threads share, and the point at which a call of it happens (this profile).
-use Rattle.std.specs.Prelude.{◌≡◌, ℕ, Bool, true, List, [], ◌++◌, Option, option_to_list}
+use Rattle.std.specs.Prelude.{◌≡◌, ℕ, Bool, true, false, List, [], ◌++◌, Option, option_to_list}
 use Rattle.name_meaning.specs.Names.{Name}
-use Rattle.log_meaning.specs.Append.{Edited}
+use Rattle.log_meaning.specs.Append.{Edited, Made, Same, Absent, Full, TooLong, TooMany}
 use Rattle.walk_meaning.specs.Walks.{Dependencies}
 use Rattle.walk_meaning.specs.Subject.{Subject}
 use Rattle.turn_meaning.specs.Numbers as numbers
 use Rattle.turn_meaning.specs.Passes.{GoesOn}
 use Rattle.board_meaning.specs.Events.{Entry, History}
 use Rattle.board_meaning.specs.Ready.{is_closed}
-use Rattle.board_meaning.specs.Machine.{Job, Installed, Told, Call, EditCall, ClaimCall, InstallCall, ReleaseCall, CloseCall, edit_reply, claim_reply, install_reply, report_reply, answers_reply, may_call, entry_by}
+use Rattle.board_meaning.specs.Machine.{Job, Installed, Told, IsVerdict, IsPending, IsAbsent, Call, EditCall, ClaimCall, InstallCall, ReleaseCall, CloseCall, edit_reply, claim_reply, install_reply, report_reply, answers_reply, may_call, entry_by}
 use Rattle.board_meaning.specs.Legal.{IsLegal}
 
 -- What an entry carries: the number of its pass.
@@ -88,10 +88,41 @@ pub record Happens {Answer : Type 0} (subject : Subject Answer) (seen : History)
   pub replies : reply ≡ reply_of subject point call
   pub sees : after ≡ point ++ added_by subject.dependencies point pass call
 
--- A call through a pass that has seen these entries finds no memory: it has a point, at which the pass may make it; it
--- makes no entry there, and the pass has then seen the point.
-pub record FindsNoMemory (dependencies : Dependencies) (seen : History) (pass : ℕ) (call : BoardCall) (after : History) : Type 0 where
+-- The edit was made.
+abbrev pub is_made : Edited → Bool
+is_made (Made version) = true
+is_made (Same version) = false
+is_made (Absent version) = false
+is_made Full = false
+is_made TooLong = false
+is_made TooMany = false
+
+-- A verdict is told.
+abbrev pub is_verdict : {Answer : Type 0} → Told Answer → Bool
+is_verdict (IsVerdict answer version) = true
+is_verdict (IsPending version) = false
+is_verdict (IsAbsent version) = false
+
+-- The call may find no memory: an edit where it would be made, and a claim. The others find room that was taken before.
+abbrev pub call_takes_memory : History → Call → Bool
+call_takes_memory history (EditCall edit) = is_made (edit_reply history edit)
+call_takes_memory history ClaimCall = true
+call_takes_memory history (InstallCall claim) = false
+call_takes_memory history (ReleaseCall claim) = false
+call_takes_memory history CloseCall = false
+
+-- The call may find no memory: also a report where it would tell a verdict, and a question for answers.
+abbrev pub takes_memory : {Answer : Type 0} → Subject Answer → History → BoardCall → Bool
+takes_memory subject history (Makes call) = call_takes_memory history call
+takes_memory subject history (Reports name) = is_verdict (report_reply subject history name)
+takes_memory subject history (AsksAnswers name) = true
+takes_memory subject history AsksClosed = false
+
+-- A call through a pass that has seen these entries finds no memory: it has a point, at which the pass may make it and it
+-- takes memory; it makes no entry there, and the pass has then seen the point.
+pub record FindsNoMemory {Answer : Type 0} (subject : Subject Answer) (seen : History) (pass : ℕ) (call : BoardCall) (after : History) : Type 0 where
   pub point : History
-  pub at_point : IsPoint dependencies seen pass point
+  pub at_point : IsPoint subject.dependencies seen pass point
   pub may : may_ask point pass call ≡ true
+  pub takes : takes_memory subject point call ≡ true
   pub sees : after ≡ point

@@ -1,7 +1,7 @@
 -- Laws of the log and of the library that it leaves (this profile).
-use Rattle.std.specs.Prelude.{◌≡◌, suc, ◌≤◌, [], ◌∷◌, ◌++◌, Option, Some, None, if◌then◌else◌}
+use Rattle.std.specs.Prelude.{◌≡◌, ℕ, suc, ◌<◌, ◌≤◌, List, [], ◌∷◌, ◌++◌, length, Option, Some, None, if◌then◌else◌}
 use Rattle.name_meaning.specs.Names.{Name, Text, same_name, is_among}
-use Rattle.log_meaning.specs.Log.{Edit, Put, Drop, edited_name, Log, Library, names_of, library_of, text_of, is_present, version_of, stamp_of, IsLibrary}
+use Rattle.log_meaning.specs.Log.{Edit, Put, Drop, edited_name, Log, Library, names_of, library_of, text_of, is_present, version_of, stamp_of, IsLibrary, edit_at, name_at}
 use Rattle.log_meaning.specs.Append.{appended, IsWithinLimits}
 
 -- What an edit leaves of its name.
@@ -36,3 +36,21 @@ StampsArePast = (log : Log) (name : Name) → stamp_of log name ≤ version_of l
 -- A log that keeps to the limits keeps to them after any edit.
 abbrev pub LimitsAreKept : Type 0
 LimitsAreKept = (log : Log) (edit : Edit) → IsWithinLimits log → IsWithinLimits (appended log edit)
+
+-- The edit at a version is the one that made it, the first edit making version 1.
+abbrev pub EditsStandAtVersions : Type 0
+EditsStandAtVersions =
+    (before after : Log) (edit : Edit) → edit_at (before ++ edit ∷ after) (suc (version_of before)) ≡ Some edit
+
+-- No edit made version 0, or a version past the last one.
+abbrev pub NoEditMadeOthers : Type 0
+NoEditMadeOthers = (log : Log) → (edit_at log 0 ≡ None) × ((version : ℕ) → version_of log < version → edit_at log version ≡ None)
+
+-- The name with so many names before it in byte order stands at that place, and past the last name there is none.
+abbrev pub NamesStandInOrder : Type 0
+NamesStandInOrder =
+    (log : Log) (before after : List Name) (name : Name) → names_of (library_of log) ≡ before ++ name ∷ after
+    → name_at log (length before) ≡ Some name
+
+abbrev pub NoNameStandsPastLast : Type 0
+NoNameStandsPastLast = (log : Log) (i : ℕ) → length (names_of (library_of log)) ≤ i → name_at log i ≡ None

@@ -1,6 +1,7 @@
 //! The log and the library that it leaves.
 
-ghost use Rattle.log_laws.specs.LogLaws.{LogLeavesLibrary, NamesArePresent, EditDecidesText, EditDecidesStamp, StampsArePast, LimitsAreKept};
+ghost use Rattle.log_laws.specs.LogLaws.{LogLeavesLibrary, NamesArePresent, EditDecidesText, EditDecidesStamp, StampsArePast, LimitsAreKept, EditsStandAtVersions, NoEditMadeOthers, NamesStandInOrder, NoNameStandsPastLast};
+ghost use Rattle.log_laws.specs.Limits.{LogLimits, InputLimits};
 
 /// A log leaves a library, whose names are the present ones. An edit decides the text of its name alone.
 pub fn law_library()
@@ -18,4 +19,18 @@ pub fn law_stamps()
 /// A log that keeps to the limits keeps to them after any edit.
 pub fn law_limits()
     ensures { LimitsAreKept }
+{}
+
+/// Versions are counted from 1 and places of names from 0.
+pub fn law_places()
+    ensures edits { EditsStandAtVersions }
+    ensures no_other { NoEditMadeOthers }
+    ensures names { NamesStandInOrder }
+    ensures no_more { NoNameStandsPastLast }
+{}
+
+/// The limits are these numbers.
+pub fn law_numbers()
+    ensures log { LogLimits }
+    ensures input { InputLimits }
 {}

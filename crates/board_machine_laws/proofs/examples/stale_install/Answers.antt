@@ -1,4 +1,4 @@
-use Rattle.board_machine_laws.proofs.Computed.{job_has_stamps, install_is_stale, way_back_is_stale, stale_is_pending, claimed_again, history_of_stale_install, second_install_is_installed, verdict_is_told, nothing_is_ready, calls_may_be_made}
+use Rattle.board_machine_laws.proofs.Computed.{job_has_stamps, install_is_stale, way_back_is_stale, stale_is_pending, claimed_again, history_of_stale_install, second_install_is_installed, verdict_is_told, nothing_is_ready, calls_may_be_made, stale_claim_is_no_hindrance, current_claim_hinders}
 use Rattle.board_machine_laws.proofs.examples.stale_install.Goals as goal
 
 pub returns-clause-job : goal.returns-clause-job
@@ -30,3 +30,9 @@ returns-clause-nothing c = nothing_is_ready
 
 pub returns-clause-may : goal.returns-clause-may
 returns-clause-may c = calls_may_be_made
+
+pub returns-clause-claimed_anew : goal.returns-clause-claimed_anew
+returns-clause-claimed_anew c = stale_claim_is_no_hindrance
+
+pub returns-clause-claimed_once : goal.returns-clause-claimed_once
+returns-clause-claimed_once c = current_claim_hinders
