@@ -1,7 +1,10 @@
 //! Each object in memory with ample memory, and calls that fail.
 
 use lf_terms::Bytes;
-use mmt_outside::{Failed, Gate, Inputs64, MemSink, MemSource, NoFolder, OpenGate, OutFault, Sink, Source, StdSink, StdSource, write_all};
+use mmt_outside::{
+    Failed, Gate, Inputs64, MemSink, MemSource, NoFolder, OpenGate, OutFault, Sink, Source,
+    StdSink, StdSource, write_all,
+};
 use std::alloc::{AllocError, Global};
 use std::test::Fail;
 

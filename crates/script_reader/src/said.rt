@@ -9,8 +9,8 @@ ghost use Rattle.output_meaning.specs.ScriptLines.{is_name, is_silent, is_end_li
 ghost use Rattle.name_meaning.specs.Characters as characters;
 ghost use Rattle.script_reader.specs.Said.{read_said, IsWithin};
 
-use lf_terms::{Memory, Name, NameFault};
 use identifiers::is_white_space;
+use lf_terms::{Memory, Name, NameFault};
 use std::alloc::Global;
 
 /// The greatest length of a line outside the text of a `put`, its line end not counted.
