@@ -1,5 +1,5 @@
 -- A module of a library is accepted exactly where it is grounded, written with its name, and passes its tests.
-use Rattle.std.proofs.Common.{◌≡◌, true, false, not, length, Option, Some, None, is_some, Ok, refl, sym, ap, ◌∙◌, true≢false}
+use Rattle.std.proofs.Common.{◌≡◌, true, false, not, length, Some, is_some, Ok, sym, ap, ◌∙◌}
 use Rattle.std.proofs.lemmas.Bool.{and_from}
 use Rattle.name_meaning.specs.Names.{Path, same_name as same_bytes, Name, is_among}
 use Rattle.log_meaning.specs.Log.{Library, is_present}

@@ -1,5 +1,5 @@
 -- What a module makes is coherent over what is known of others.
-use Rattle.std.proofs.Common.{◌≡◌, ◌<◌, Bool, true, false, cond, List, [], ◌∷◌, ◌++◌, length, Option, Some, None, is_some, Ok, not, ◌||◌, ⊎_elim, refl, sym, ap, ◌∙◌, subst, true≢false, append-nil, arith}
+use Rattle.std.proofs.Common.{◌≡◌, ◌<◌, true, cond, List, [], ◌∷◌, ◌++◌, length, Option, Some, None, is_some, Ok, not, ◌||◌, ⊎_elim, refl, sym, ap, ◌∙◌, subst, append-nil, arith}
 use Rattle.std.specs.Prelude.{⊤}
 use Rattle.std.proofs.lemmas.Bool.{or_cases}
 use Rattle.name_meaning.specs.Names.{Name, Path, same_name}

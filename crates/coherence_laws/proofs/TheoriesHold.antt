@@ -9,7 +9,7 @@ use Rattle.list_laws.proofs.Members.{Member, in_append, append_left, append_righ
 use Rattle.name_laws.proofs.Order.{among_member, member_among, same_sound, same_itself}
 use Rattle.list_laws.proofs.Places.{get_more, place_within, get_front, get_last}
 use Rattle.lf_meaning.specs.HeadMaps.{HeadMap}
-use Rattle.library_meaning.specs.Faces.{StructureFace, TheoryFace, Known, IsAbsent, theory_face, Environment, theory_of, structure_of, includes_of, own_part, own_parts, flat_signature, flat_of}
+use Rattle.library_meaning.specs.Faces.{StructureFace, TheoryFace, IsAbsent, Environment, theory_of, structure_of, includes_of, own_part, own_parts, flat_signature, flat_of}
 use Rattle.library_meaning.specs.Closure.{sees, with_inclusion}
 use Rattle.library_meaning.specs.Resolution.{has_path, own_at}
 use Rattle.library_meaning.specs.Holding.{ClassHolds, OptionalValueHolds}

@@ -1,14 +1,10 @@
 -- How the lines of a script are cut into commands (this profile). So far a script has at most one `put`, and of the
 -- other commands `report` alone.
 use Rattle.name_meaning.specs.Limits.{text_limit, line_limit}
-use Rattle.output_meaning.specs.ScriptLines.{behind_end, text_before, is_end_line, is_silent, is_name}
-use Rattle.std.specs.Prelude.{ℕ, Bool, List, [], ◌∷◌, ◌++◌, Option, Some, None, ◌&&◌, ◌||◌, ◌^◌, length, drop, nat_eq, nat_lt, if◌then◌else◌, codes}
-use Rattle.std.specs.List.{list_all, starts_with}
-use Rattle.std.specs.Str.{is_utf8, bytes_eq}
-use Rattle.std.specs.Str.Lines.{strip_carriage_return}
-use Rattle.name_meaning.specs.Characters.{is_white_space}
-use Rattle.name_meaning.specs.Identifiers.{is_identifier}
-use Rattle.output_meaning.specs.Lines.{without_line_feed, content_of}
+use Rattle.output_meaning.specs.ScriptLines.{behind_end, text_before, is_silent, is_name}
+use Rattle.std.specs.Prelude.{ℕ, Bool, List, [], ◌∷◌, Option, Some, None, length, drop, nat_eq, nat_lt, if◌then◌else◌, codes}
+use Rattle.std.specs.List.{starts_with}
+use Rattle.output_meaning.specs.Lines.{content_of}
 
 -- A line says nothing (it is blank, or a comment), puts a text under a name, asks for the report of a name, or is
 -- no line of a script.

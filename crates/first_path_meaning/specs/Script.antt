@@ -1,6 +1,6 @@
 -- What a script prints (this profile).
 use Rattle.output_meaning.specs.ScriptLines.{line_after}
-use Rattle.std.specs.Prelude.{ℕ, zero, suc, Bool, true, false, List, [], ◌∷◌, ◌++◌, ◌+◌, ◌-◌, ◌^◌, min, length, Option, Some, None, if◌then◌else◌}
+use Rattle.std.specs.Prelude.{ℕ, zero, suc, Bool, true, false, List, [], ◌∷◌, ◌++◌, ◌+◌, length, Option, Some, None, if◌then◌else◌}
 use Rattle.std.specs.Str.{bytes_eq}
 use Rattle.output_meaning.specs.Lines.{lines_of}
 use Rattle.first_path_meaning.specs.Commands.{Command, put, report, blank, Next, ends, gives, bad, unended, next_of}

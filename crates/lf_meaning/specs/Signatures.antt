@@ -1,7 +1,7 @@
 -- Flat signatures: declarations of constants, in order (Harper and Licata 2007, section 2;
 -- definitions as in Rabe and Kohlhase 2013, section 3).
-use Rattle.name_meaning.specs.Names.{same_name, Name}
-use Rattle.std.specs.Prelude.{ℕ, List, [], ◌∷◌, Option, Some, None, Bool, ◌&&◌, nat_eq, if◌then◌else◌}
+use Rattle.name_meaning.specs.Names.{same_name}
+use Rattle.std.specs.Prelude.{ℕ, List, [], ◌∷◌, Option, Some, None, Bool, ◌&&◌, if◌then◌else◌}
 use lib.Pointwise.{pointwise}
 use Rattle.lf_meaning.specs.Terms.{Constant, Object, Family, Kind}
 

@@ -1,7 +1,7 @@
 -- Replacements that pass through raising and substitution.
-use Rattle.lf_meaning.specs.Replacement.{of_constants, Headed, Kept, Replaced, raise_headed, Replacement, replace}
+use Rattle.lf_meaning.specs.Replacement.{Headed, Kept, Replaced, raise_headed, Replacement}
 use Rattle.std.specs.Prelude.{◌≡◌, ℕ, ◌+◌, ◌<◌, ◌≤◌, [], Some}
-use Rattle.lf_meaning.specs.Terms.{Constant, Object, Var, Simple, Base, Arrow, SimpleContext}
+use Rattle.lf_meaning.specs.Terms.{Constant, Var, Simple, Base, Arrow, SimpleContext}
 use Rattle.lf_meaning.specs.Raising.{raised}
 use Rattle.lf_meaning.specs.Substitution.{action}
 use Rattle.lf_meaning.specs.Sorts.{Sorts, HasSort, SynthesisesSort}

@@ -2,7 +2,7 @@
 use Rattle.std.proofs.Common.{◌≡◌, Bool, true, false, cond, [], ◌∷◌, ◌++◌, Option, Some, None, refl}
 use Rattle.lf_meaning.specs.Terms.{Constant}
 use Rattle.lf_meaning.specs.Signatures.{Class, Value, Declaration, Signature, same_constant, declaration_of, undefined_class, declared_class}
-use Rattle.lf_meaning.specs.HeadMaps.{Image, Mapping, HeadMap, image_of}
+use Rattle.lf_meaning.specs.HeadMaps.{Image, HeadMap, image_of}
 
 keep_found : {A : Type 0} (b : Bool) (first found : A) (o q : Option A) → (o ≡ Some found → q ≡ Some found) → cond b (Some first) o ≡ Some found → cond b (Some first) q ≡ Some found
 keep_found true first found o q f h = h

@@ -1,7 +1,7 @@
 -- Look-up of declarations in a signature.
 use Rattle.std.proofs.Common.{◌≡◌, [], ◌∷◌, ◌++◌, Option, Some, None, Bool, true, false, cond, refl, ap, subst, ◌∙◌}
 use Rattle.lf_meaning.specs.Terms.{Constant}
-use Rattle.lf_meaning.specs.Signatures.{Class, Value, Declaration, Signature, same_constant, declaration_of, undefined_class, declared_class, class_of}
+use Rattle.lf_meaning.specs.Signatures.{Class, Declaration, Signature, same_constant, declaration_of, undefined_class, declared_class, class_of}
 use Rattle.lf_meaning.specs.Judgements.{IsClass, IsSignature}
 use Rattle.lf_term_laws.proofs.Declarations.{undefined_is, declaration_front}
 

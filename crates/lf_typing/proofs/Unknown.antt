@@ -1,7 +1,6 @@
 -- Defined and undeclared constants are no constants of the judgements.
-use Rattle.std.proofs.Common.{◌≡◌, Option, Some, None, ap, ◌∙◌}
-use Rattle.lf_meaning.specs.Terms.{Constant}
-use Rattle.lf_meaning.specs.Signatures.{Class, Declaration, Signature, declaration_of, undefined_class, declared_class, class_of}
+use Rattle.std.proofs.Common.{◌≡◌, None, ap, ◌∙◌}
+use Rattle.lf_meaning.specs.Signatures.{undefined_class, declared_class, class_of}
 use Rattle.list_laws.proofs.Options.{clash}
 use Rattle.lf_typing.specs.TypingLaws.{DefinedIsNoConstant, UndeclaredIsNoConstant}
 

@@ -3,7 +3,7 @@ use Rattle.std.proofs.Common.{◌≡◌, ◌≢◌, ℕ, zero, suc, Bool, true, 
 use Rattle.std.specs.Prelude.{⊤}
 use Rattle.name_meaning.specs.Names.{Name}
 use Rattle.lf_meaning.specs.Terms.{Constant}
-use Rattle.lf_meaning.specs.Signatures.{Class, Declaration, Signature, same_constant, declaration_of, declared_class}
+use Rattle.lf_meaning.specs.Signatures.{Declaration, Signature, same_constant, declaration_of, declared_class}
 use Rattle.lf_term_laws.proofs.Equality.{same_constant_sound}
 use Rattle.list_laws.proofs.Members.{Member, in_append, append_left, append_right, in_flat_map, flat_map_in, place_member}
 use Rattle.name_laws.proofs.Order.{among_member, member_among}

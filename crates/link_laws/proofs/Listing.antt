@@ -1,8 +1,8 @@
 -- Lists: members by place, tests of all, and maps that have the names of declarations.
-use Rattle.std.proofs.Common.{◌≡◌, ℕ, zero, suc, Bool, true, false, cond, List, [], ◌∷◌, ◌++◌, slice_get, Option, Some, None, Ok, inl, inr, refl, sym, ap, ◌∙◌}
+use Rattle.std.proofs.Common.{◌≡◌, ℕ, zero, suc, Bool, true, false, cond, List, [], ◌∷◌, ◌++◌, slice_get, Option, Some, Ok, inl, inr, refl, sym, ap, ◌∙◌}
 use Rattle.std.specs.Prelude.{⊤}
 use Rattle.lf_meaning.specs.Terms.{Constant}
-use Rattle.lf_meaning.specs.Signatures.{Class, Declaration, Signature, same_constant, declaration_of, declared_class, class_of}
+use Rattle.lf_meaning.specs.Signatures.{Class, Declaration, Signature, same_constant, declaration_of, class_of}
 use Rattle.list_laws.proofs.Members.{Member}
 use Rattle.lf_meaning.specs.HeadMaps.{Image, Mapping, HeadMap, image_of}
 use Rattle.library_meaning.specs.Coherence.{declared_names, mapped_names}

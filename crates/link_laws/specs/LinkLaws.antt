@@ -1,9 +1,7 @@
 -- Laws of links (this profile).
 use Rattle.link_meaning.specs.LinkMaps.{IsMapOfLink, IsSettled}
-use Rattle.std.specs.Prelude.{◌≡◌, ◌↔◌, List, [], Ok, IsSome}
+use Rattle.std.specs.Prelude.{◌≡◌, ◌↔◌, List, [], Ok}
 use Rattle.lf_meaning.specs.HeadMaps.{HeadMap}
-use Rattle.library_meaning.specs.Faces.{theory_of}
-use Rattle.library_meaning.specs.Coherence.{IsCoherent}
 use Rattle.text_meaning.specs.Trees.{Assign}
 use Rattle.link_meaning.specs.Assignments.{Setting, Assigned, read_assigns}
 use Rattle.link_meaning.specs.AssignmentsRead.{AssignsRead}

@@ -3,7 +3,7 @@ use Rattle.std.proofs.Common.{◌≡◌, ℕ, zero, suc, Bool, true, false, List
 use Rattle.std.proofs.lemmas.Bool.{or_cases, and_parts}
 use Rattle.name_meaning.specs.Names.{Name, same_name}
 use Rattle.lf_meaning.specs.Terms.{Constant}
-use Rattle.lf_meaning.specs.Signatures.{Class, Value, Declaration, Signature, undefined_class, declaration_of, class_of}
+use Rattle.lf_meaning.specs.Signatures.{Class, Value, Declaration, Signature, declaration_of, class_of}
 use Rattle.lf_meaning.specs.Judgements.{Fits, ValueFits, IsDeclaration, IsSignature}
 use Rattle.lf_typing.proofs.Declared.{declared_as}
 use Rattle.lf_typing.proofs.Growing.{signature_shrinks}

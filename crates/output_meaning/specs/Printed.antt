@@ -1,7 +1,6 @@
 -- The lines that are printed (this profile). Each ends in a line feed.
-use Rattle.std.specs.Prelude.{ℕ, List, [], ◌∷◌, ◌++◌, ◌+◌, ◌==◌, not, take, codes}
+use Rattle.std.specs.Prelude.{ℕ, List, [], ◌∷◌, ◌++◌, ◌+◌, codes}
 use Rattle.std.specs.Fmt.{decimal}
-use Rattle.std.specs.List.{count_by, suffix_len}
 
 abbrev pub end_of_line : List ℕ
 end_of_line = 10 ∷ []

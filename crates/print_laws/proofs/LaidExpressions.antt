@@ -17,7 +17,6 @@ use Rattle.print_meaning.specs.PrintedExpressions.{is_word, is_binding, is_opera
 use Rattle.print_laws.proofs.LaidOut.{IsFit, IsLaid, laid_append}
 use Rattle.print_laws.proofs.Writable.{IsWritable}
 use Rattle.print_laws.proofs.WellWritten.{IsWrittenBinder, IsWellWritten, AreWellWritten}
-use Rattle.token_laws.proofs.Bytes.{ends_row_begins}
 
 -- each byte is ASCII
 abbrev pub AreLow : List ℕ → Type 0

@@ -5,7 +5,7 @@ use Rattle.name_meaning.specs.Names.{Name, Path}
 use Rattle.lf_meaning.specs.Terms.{Constant}
 use Rattle.lf_meaning.specs.Signatures.{Class, Value, SameAs, TermValue, FamilyValue, Declaration, Signature, same_constant, undefined_class, declared_class, class_of}
 use Rattle.lf_meaning.specs.Judgements.{Fits, ValueFits, IsDeclaration, IsSignature}
-use Rattle.lf_term_laws.proofs.Equality.{same_constant_sound, same_constant_itself}
+use Rattle.lf_term_laws.proofs.Equality.{same_constant_sound}
 use Rattle.list_laws.proofs.Members.{Member, in_append, append_left, append_right, place_member}
 use Rattle.lf_meaning.specs.HeadMaps.{Image, HeadMap, image_of}
 use Rattle.translation_meaning.specs.Translation.{translate_value, translate_image, same_image, compose}

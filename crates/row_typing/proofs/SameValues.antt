@@ -1,7 +1,7 @@
 -- Two maps that give the same values to the constants of two signatures translate what both have alike.
 use Rattle.std.proofs.Common.{◌≡◌, ℕ, zero, suc, ◌+◌, ◌≤◌, [], ◌∷◌, ◌++◌, length, length-append, Bool, true, false, cond, Option, Some, None, is_some, refl, sym, ap, ap₂, ◌∙◌, subst, arith}
 use Rattle.lf_meaning.specs.Terms.{Constant}
-use Rattle.lf_meaning.specs.Signatures.{Class, Value, Signature, same_constant, undefined_class, class_of}
+use Rattle.lf_meaning.specs.Signatures.{Class, Value, Signature, same_constant, class_of}
 use Rattle.lf_meaning.specs.Judgements.{IsClass, Fits, IsDeclaration, IsSignature}
 use Rattle.lf_typing.proofs.Declared.{declared_as, found_in, class_more}
 use Rattle.lf_typing.proofs.Closed.{class_is_class}
@@ -10,7 +10,6 @@ use Rattle.lf_meaning.specs.HeadMaps.{Image, HeadMap, image_of}
 use Rattle.translation_meaning.specs.Translation.{translate_class, translate_value}
 use Rattle.translation_typing.proofs.Agreeing.{AgreeOn, class_agrees, value_agrees}
 use Rattle.translation_typing.proofs.Restricted.{restrict, restricted, restricted_there}
-use Rattle.std.proofs.lemmas.Option.{same_Some}
 use Rattle.lf_term_laws.proofs.Declarations.{undefined_is, image_front}
 
 -- both maps have an image of the constant, of its class by their own translation, and of one value

@@ -1,5 +1,5 @@
 -- Which bytes are names.
-use Rattle.std.proofs.Common.{◌≡◌, ℕ, Bool, true, false, List, refl, not, ap, subst, ◌∙◌, arith}
+use Rattle.std.proofs.Common.{◌≡◌, ℕ, true, false, List, refl, not, ap, subst, ◌∙◌, arith}
 use Rattle.std.specs.Prelude.{Some, None, IsTrue, if◌then◌else◌}
 use Rattle.std.specs.Str.{IsUtf8, is_utf8}
 use Rattle.std.proofs.lemmas.Str.{IsUtf8-from_is_utf8, is_utf8-from_IsUtf8}

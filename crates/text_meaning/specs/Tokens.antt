@@ -1,5 +1,5 @@
 -- Tokens: what each is, and the bytes that it takes (this profile, after Twelf's lexer).
-use Rattle.name_meaning.specs.Names.{Path, Name}
+use Rattle.name_meaning.specs.Names.{Path}
 use Rattle.std.specs.Prelude.{ℕ, List, [], ◌∷◌, ◌++◌, codes, bytes_eq, cond}
 use Rattle.std.specs.List.{list_any}
 use Rattle.name_meaning.specs.Identifiers.{is_reserved}

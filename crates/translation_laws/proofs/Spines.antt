@@ -1,5 +1,5 @@
 -- Spines taken at once, and composed maps.
-use Rattle.std.proofs.Common.{◌≡◌, Bool, true, false, cond, List, [], ◌∷◌, map, Option, Some, option_map, refl}
+use Rattle.std.proofs.Common.{◌≡◌, List, [], ◌∷◌, map, option_map, refl}
 use Rattle.lf_meaning.specs.Terms.{Constant, Object, At, Con, AtomicFamily, FamilyApp, apply_all, family_apply_all}
 use Rattle.lf_meaning.specs.Signatures.{same_constant}
 use Rattle.lf_meaning.specs.Replacement.{takes_all, object_of, of_constants}

@@ -2,8 +2,7 @@
 use Rattle.std.proofs.Common.{◌≡◌, Option, Some, sym, ap, ◌∙◌, subst}
 use Rattle.std.proofs.lemmas.Option.{same_Some}
 use Rattle.lf_meaning.specs.Signatures.{Value}
-use Rattle.lf_meaning.specs.HeadMaps.{Image, image_of}
-use Rattle.translation_meaning.specs.Translation.{translate_value}
+use Rattle.lf_meaning.specs.HeadMaps.{Image}
 use Rattle.translation_meaning.specs.TypedMaps.{KeepsValue}
 use Rattle.translation_laws.specs.TranslationLaws.{DefinedConstantsKeepValues, ConstantsHaveImages}
 

@@ -1,13 +1,13 @@
 -- Typed maps carry typing. Of a map what counts are the images of the source's constants; that their translated classes are
 -- well typed follows by the order of declarations.
-use Rattle.std.proofs.Common.{◌≡◌, ℕ, zero, suc, ◌+◌, ◌≤◌, [], ◌∷◌, ◌++◌, length, length-append, Bool, true, false, cond, Option, Some, None, refl, sym, ap, ap₂, ◌∙◌, subst, subst₂, arith}
+use Rattle.std.proofs.Common.{◌≡◌, ℕ, zero, suc, ◌+◌, ◌≤◌, [], ◌∷◌, ◌++◌, length, length-append, Bool, true, false, cond, Some, refl, sym, ap, ap₂, ◌∙◌, subst, subst₂, arith}
 use Rattle.std.specs.Prelude.{slice_get}
 use Rattle.lf_meaning.specs.Terms.{Constant, Object, Atomic, Family, AtomicFamily, Kind, Context, Simple, SimpleContext}
 use Rattle.lf_meaning.specs.Erasure.{erase, erase_context}
 use Rattle.lf_meaning.specs.Raising.{raise, raise_family, raise_kind}
 use Rattle.lf_meaning.specs.Substitution.{substitute, substitute_family, substitute_kind}
 use Rattle.lf_meaning.specs.Sorts.{HasSort, sorts_of}
-use Rattle.lf_meaning.specs.Signatures.{Class, Value, Declaration, Signature, same_constant, declaration_of, undefined_class, class_of}
+use Rattle.lf_meaning.specs.Signatures.{Class, Value, Declaration, Signature, same_constant, declaration_of, class_of}
 use Rattle.lf_meaning.specs.Judgements.{Checks, Synthesises, SynthesisesKind, IsFamily, IsKind, IsContext, IsSignature, IsClass, IsDeclaration, Fits}
 use Rattle.lf_term_laws.proofs.Equality.{same_constant_sound}
 use Rattle.lf_typing.proofs.Declared.{declared_as, found_in, class_more}

@@ -1,5 +1,5 @@
 -- Laws of verdicts (this profile).
-use Rattle.verdict_meaning.specs.Rounds.{known_to, known_of, others_reached, verdicts, verdict_of, modules}
+use Rattle.verdict_meaning.specs.Rounds.{known_to, others_reached, verdict_of, modules}
 use Rattle.std.specs.Prelude.{◌≡◌, ℕ, ◌<◌, true, false, slice_get, Some}
 use Rattle.name_meaning.specs.Names.{Name, Text, is_among}
 use Rattle.log_meaning.specs.Log.{Library, text_of}
@@ -9,7 +9,6 @@ use Rattle.walk_meaning.specs.Subject.{AnswersPresent, KeepsToReach}
 use Rattle.text_meaning.specs.Trees.{Module}
 use Rattle.text_meaning.specs.Reading.{ModuleText, ModuleTree, Read}
 use Rattle.text_meaning.specs.TextAnswers.{read}
-use Rattle.library_meaning.specs.Faces.{Environment}
 use Rattle.expansion_meaning.specs.Rules.{Rule}
 use Rattle.text_meaning.specs.Dependencies.{Dependency, module_dependencies, dependencies}
 use Rattle.verdict_meaning.specs.Verdicts.{Refused, judge}

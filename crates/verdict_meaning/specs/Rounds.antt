@@ -5,7 +5,7 @@ use Rattle.name_meaning.specs.Names.{Name, same_name, is_among}
 use Rattle.log_meaning.specs.Log.{Library, Module}
 use Rattle.library_meaning.specs.Faces.{Environment, Known, IsAbsent}
 use Rattle.std.specs.Prelude.{ℕ, zero, suc, List, [], ◌∷◌, map, filter, not, length, Option, Some, None, if◌then◌else◌}
-use Rattle.walk_meaning.specs.Walks.{walking, ungrounded_names}
+use Rattle.walk_meaning.specs.Walks.{ungrounded_names}
 use Rattle.walk_meaning.specs.Reach.{reach}
 use Rattle.walk_meaning.specs.Subject.{Subject}
 use Rattle.text_meaning.specs.Dependencies.{dependencies}
