@@ -99,7 +99,7 @@ impl<T: Story> Turns<T> {
         pass_on(top, &mut pass.place);
     }
 
-    /// A pass with the next number, which has seen what pass 0 has. `Memory` never comes: the table has no part for each pass.
+    /// A pass with the next number, which has seen what pass 0 has. `Memory` never comes: a pass takes no memory.
     pub fn split(&self, first: &mut Pass<T>) -> Result<Pass<T>, Memory>
         requires first { IsIdleOf self.now first.old × (first.old.number ≡ 0) }
         requires room { first.old.made < 2 ^ 32 - 1 }
