@@ -12,3 +12,4 @@ pub mod Replying
 pub mod Counting
 pub mod Backing
 pub mod Turning
+pub mod Working
