@@ -9,3 +9,7 @@ pub mod Told
 pub mod Rising
 pub mod Passing
 pub mod Replying
+pub mod Counting
+pub mod Backing
+pub mod Turning
+pub mod Working

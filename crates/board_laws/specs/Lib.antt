@@ -1,3 +1,5 @@
 pub mod HistoryLaws
 pub mod StandingLaws
 pub mod PointLaws
+pub mod BackingLaws
+pub mod TurnLaws

@@ -1,14 +1,14 @@
 -- Laws of standing verdicts, of ready names and of installs (this profile).
-use Rattle.std.specs.Prelude.{◌≡◌, ◌≢◌, ℕ, ◌<◌, true, false, [], ◌∷◌, ◌++◌, ◌&&◌, ◌||◌, not, take, slice_get, Some, None, is_some, Decides}
+use Rattle.std.specs.Prelude.{◌≡◌, ◌≢◌, ℕ, suc, ◌<◌, ◌≤◌, true, false, [], ◌∷◌, ◌++◌, ◌&&◌, ◌||◌, not, take, slice_get, length, Some, None, is_some, Decides}
 use Rattle.std.specs.List.{list_all}
 use Rattle.name_meaning.specs.Names.{Name, comes_before, is_among}
-use Rattle.log_meaning.specs.Log.{Edit, edited_name, is_present}
+use Rattle.log_meaning.specs.Log.{Edit, edited_name, names_of, is_present}
 use Rattle.walk_meaning.specs.Walks.{Dependencies, is_grounded}
 use Rattle.walk_meaning.specs.Reach.{reach}
 use Rattle.walk_meaning.specs.Subject.{Subject, AnswersPresent, KeepsToReach}
 use Rattle.board_meaning.specs.Events.{EditMade, Install, Entry, History, edit_in, library_after, version_after, stamp_after}
 use Rattle.board_meaning.specs.Claims.{claim_at, open_claims, Input, inputs_of, input_names, is_unchanged, is_claim_of}
-use Rattle.board_meaning.specs.Standing.{installed_claim, is_unedited, stands, Stands}
+use Rattle.board_meaning.specs.Standing.{installed_claim, is_unedited, stands, Stands, standing_names, standing_count}
 use Rattle.board_meaning.specs.Ready.{is_closed, is_ready, least_ready}
 use Rattle.board_meaning.specs.Machine.{IsInstalled, IsStale, install_reply, claim_reply, IsVerdict, IsPending, IsAbsent, is_known, report_reply}
 use Rattle.board_meaning.specs.Legal.{MayFollow, IsLegal}
@@ -155,3 +155,29 @@ ReportTellsOthers Answer =
     → Decides (not (is_present (library_after history) name)) (report_reply subject history name ≡ IsAbsent (version_after history))
     × (AnswersPresent subject
     → Decides (is_present (library_after history) name && not (is_known subject.dependencies history name)) (report_reply subject history name ≡ IsPending (version_after history)))
+
+-- The list of standing names has those with a standing verdict, and no others.
+abbrev pub StandingNamesStand : Type 0
+StandingNamesStand =
+    (dependencies : Dependencies) (history : History) (name : Name) → IsLegal dependencies history
+    → is_among (standing_names dependencies history) name ≡ stands dependencies history name
+
+-- An install raises the number of standing verdicts by one.
+abbrev pub InstallRaisesCount : Type 0
+InstallRaisesCount =
+    (dependencies : Dependencies) (history : History) (entry : Entry) (claim : ℕ) → IsLegal dependencies history
+    → MayFollow dependencies history entry → entry.event ≡ Install claim
+    → standing_count dependencies (history ++ entry ∷ []) ≡ suc (standing_count dependencies history)
+
+-- An entry that is neither an edit nor an install leaves it.
+abbrev pub OthersKeepCount : Type 0
+OthersKeepCount =
+    (dependencies : Dependencies) (history : History) (entry : Entry) → IsLegal dependencies history
+    → edit_in entry ≡ None → installed_claim entry.event ≡ None
+    → standing_count dependencies (history ++ entry ∷ []) ≡ standing_count dependencies history
+
+-- No more verdicts stand than the library has names.
+abbrev pub CountIsWithinNames : Type 0
+CountIsWithinNames =
+    (dependencies : Dependencies) (history : History)
+    → standing_count dependencies history ≤ length (names_of (library_after history))

@@ -1,6 +1,7 @@
 //! Standing verdicts, ready names and installs.
 
-ghost use Rattle.board_laws.specs.StandingLaws.{StandingIsDecided, StandingIsPresentAnswer, InputsArePresentReach, StandingIsGrounded, StandingRestsOnStanding, ReadyRestsOnStanding, LeastIsReady, EditLeavesStanding, InstallMakesStanding, OthersLeaveStanding, SomeNameIsReady, ClaimsAreOfLeastReady, StaleTellsFirstChanged, InstalledIsUnedited, InstalledIsUnchanged, ReportTellsAnswer, ReportTellsOthers, ClaimGivesJob, InstallIsOfWaiting};
+ghost use Rattle.board_laws.specs.StandingLaws.{StandingIsDecided, StandingIsPresentAnswer, InputsArePresentReach, StandingIsGrounded, StandingRestsOnStanding, ReadyRestsOnStanding, LeastIsReady, EditLeavesStanding, InstallMakesStanding, OthersLeaveStanding, SomeNameIsReady, ClaimsAreOfLeastReady, StaleTellsFirstChanged, InstalledIsUnedited, InstalledIsUnchanged, ReportTellsAnswer, ReportTellsOthers, ClaimGivesJob, InstallIsOfWaiting, StandingNamesStand, InstallRaisesCount, OthersKeepCount, CountIsWithinNames};
+ghost use Rattle.board_laws.specs.BackingLaws.{StandingIsBacked, BackedStaysBacked, BackedWasGrounded, ToldIsBacked, AnswersAreBacked};
 
 /// A standing verdict is the answer at the present library, and a report tells no other. A claim gives a job where a name is
 /// ready.
@@ -40,4 +41,21 @@ pub fn law_install()
     ensures unedited { InstalledIsUnedited }
     ensures unchanged { InstalledIsUnchanged }
     ensures waiting { InstallIsOfWaiting }
+{}
+
+/// How many verdicts stand.
+pub fn law_count()
+    ensures names { StandingNamesStand }
+    ensures install { InstallRaisesCount }
+    ensures others { OthersKeepCount }
+    ensures within { CountIsWithinNames }
+{}
+
+/// What is told is backed by the history.
+pub fn law_backing<A>()
+    ensures standing { StandingIsBacked }
+    ensures later { BackedStaysBacked }
+    ensures grounded { BackedWasGrounded }
+    ensures told { ToldIsBacked A }
+    ensures answers { AnswersAreBacked A }
 {}

@@ -5,3 +5,4 @@ pub mod Ready
 pub mod Machine
 pub mod Legal
 pub mod Points
+pub mod Turns

@@ -1,10 +1,10 @@
 -- Which verdicts stand. No verdict is in the history: a standing one is the subject's answer (this profile).
-use Rattle.std.specs.Prelude.{◌≡◌, ℕ, suc, Bool, true, false, List, ◌&&◌, not, drop, slice_get, filter_map, length, Option, Some, None}
+use Rattle.std.specs.Prelude.{◌≡◌, ℕ, suc, Bool, true, false, List, ◌++◌, ◌&&◌, not, drop, slice_get, filter, filter_map, length, Option, Some, None}
 use Rattle.std.specs.List.{list_any}
 use Rattle.name_meaning.specs.Names.{Name, same_name, is_among}
-use Rattle.log_meaning.specs.Log.{Edit, edited_name}
+use Rattle.log_meaning.specs.Log.{Edit, edited_name, names_of}
 use Rattle.walk_meaning.specs.Walks.{Dependencies}
-use Rattle.board_meaning.specs.Events.{Event, EditMade, Claim, Install, Stale, Release, Close, Entry, History, edit_in}
+use Rattle.board_meaning.specs.Events.{Event, EditMade, Claim, Install, Stale, Release, Close, Entry, History, edit_in, library_after, version_after}
 use Rattle.board_meaning.specs.Claims.{claim_at, is_claim_of, inputs_of, input_names}
 
 -- The place of the claim whose verdict was installed, if that is what happened.
@@ -59,3 +59,19 @@ pub record Stands (dependencies : Dependencies) (history : History) (name : Name
 -- The number of installs.
 abbrev pub installs : History → ℕ
 installs history = length (installed_claims history)
+
+-- The names that have a standing verdict, in byte order, and how many they are.
+abbrev pub standing_names : Dependencies → History → List Name
+standing_names dependencies history = filter (stands dependencies history) (names_of (library_after history))
+
+abbrev pub standing_count : Dependencies → History → ℕ
+standing_count dependencies history = length (standing_names dependencies history)
+
+-- The name stood at this version: the history has a beginning with this version, after which it stands. So a verdict that
+-- is told at that version is backed by the history.
+pub record IsBacked (dependencies : Dependencies) (history : History) (name : Name) (version : ℕ) : Type 0 where
+  pub beginning : History
+  pub later : History
+  pub goes_on : history ≡ beginning ++ later
+  pub at_version : version_after beginning ≡ version
+  pub standing : stands dependencies beginning name ≡ true
