@@ -30,6 +30,13 @@ impl Names {
         }
     }
 
+    /// The names of a vector. It takes no memory.
+    pub fn from_vec(items: Vec<Name>) -> Self
+        ensures { result ≡ items.items }
+    {
+        Names { items }
+    }
+
     /// Adds a name at the end, or hands it back for want of memory.
     pub fn push(&mut self, item: Name) -> Result<(), Name>
         ensures ok { OnOk result (self.new ≡ self.old ++ item ∷ []) }

@@ -61,7 +61,8 @@ impl<V: Drop> NameTable<V> {
 
     /// The value under a name. None exactly where the name is not there.
     pub fn get(&self, name: &Name) -> Option<&V>
-        ensures { option_copied result ≡ row_of self.now name.now }
+        ensures value { option_copied result ≡ row_of self.now name.now }
+        ensures ordered { IsTable self.now }
     {
         match self.place(name) {
             Ok(place) => Some(&self.rows[place].1),
@@ -98,7 +99,7 @@ impl<V: Drop> NameTable<V> {
 
     /// Puts a value under a name that is above all others; or hands both back for want of memory, and changes nothing.
     pub fn push(&mut self, name: Name, value: V) -> Result<(), (Name, V)>
-        requires { IsGap (row_names self.old) name (length self.old) }
+        requires { IsTable (self.old ++ (name, value) ∷ []) }
         ensures ok { OnOk result (self.new ≡ self.old ++ (name, value) ∷ []) }
         ensures err { OnErr result (self.new ≡ self.old) }
         ensures back { IfErr result (λ back. back ≡ (name, value)) }

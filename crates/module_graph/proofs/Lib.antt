@@ -1,0 +1,3 @@
+mod Grounding
+mod Firsts
+mod Reached
