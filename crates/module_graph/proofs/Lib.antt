@@ -1,3 +1,5 @@
-mod Grounding
+mod GroundedNames
 mod Firsts
 mod Reached
+mod Writes
+mod Peeled

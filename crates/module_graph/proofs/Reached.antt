@@ -1,21 +1,20 @@
 -- Names that are reached one after another, each with its direct dependencies behind it.
-use Rattle.std.proofs.Common.{◌≡◌, ℕ, zero, suc, ◌+◌, ◌<◌, ◌≤◌, Bool, true, false, cond, List, [], ◌∷◌, ◌++◌, length, filter, get_or, slice_get, fold, unwrap_or, Option, Some, None, is_some, ◌⊎◌, inl, inr, ⊎_elim, refl, sym, ap, ◌∙◌, subst, true≢false, arith}
+use Rattle.std.proofs.Common.{◌≡◌, ℕ, zero, suc, ◌+◌, ◌<◌, ◌≤◌, Bool, true, false, cond, List, [], ◌∷◌, ◌++◌, length, filter, get_or, slice_get, unwrap_or, Option, Some, None, is_some, ◌⊎◌, inl, inr, ⊎_elim, refl, sym, ap, ◌∙◌, subst, true≢false, arith}
 use Rattle.std.specs.Option.{option_and_then}
 use Rattle.std.proofs.lemmas.Option.{slice_get-get_or}
 use Rattle.std.specs.List.{list_any, list_all, IsDistinct, AllByRecursion}
 use Rattle.std.specs.List.Sorted.{IsSorted}
 use Rattle.std.specs.Ordering.{nat_cmp, is_lt}
 use Rattle.std.specs.Cmp.Lexicographic.{slice_cmp}
-use Rattle.std.proofs.lemmas.Bool.{cases_Bool, and_from, and_parts}
+use Rattle.std.proofs.lemmas.Bool.{and_from, and_parts}
 use Rattle.indexmap.specs.IndexSet.{insert_key, insert_all}
 use Rattle.name_meaning.specs.Names.{Name, same_name, comes_before, is_among, is_ascending}
 use Rattle.name_meaning.specs.Rows.{row_of}
-use Rattle.walk_meaning.specs.Walks.{direct}
 use Rattle.walk_meaning.specs.Reach.{reach}
 use Rattle.walk_meaning.specs.Graphs.{Graph, row_dependencies, row_library, graph_reach}
 use Rattle.list_laws.proofs.Members.{Member, place_member, in_append, append_left, append_right, filter_in}
 use Rattle.list_laws.proofs.Places.{get_front, place_within}
-use Rattle.name_laws.proofs.Order.{among_member, member_among, same_sound, same_itself, same_of, same_turned, before_turned, all_before_more}
+use Rattle.name_laws.proofs.Order.{among_member, member_among, same_of, same_turned, before_turned, all_before_more}
 use Rattle.walk_laws.proofs.Graphs.{row_direct}
 use Rattle.walk_laws.proofs.Reaching.{one_list, reach_closed, reach_first, reach_ascending, reach_least}
 

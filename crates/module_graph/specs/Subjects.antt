@@ -1,5 +1,5 @@
 -- What a subject is given when it judges, and its law (this profile).
-use Rattle.std.specs.Prelude.{◌≡◌, true, ℕ, List, map, Option, Some}
+use Rattle.std.specs.Prelude.{◌≡◌, true, List, map, Option, Some}
 use Rattle.std.specs.Option.{option_map}
 use Rattle.name_meaning.specs.Names.{Name, Text}
 use Rattle.log_meaning.specs.Log.{Library, IsLibrary, text_of}

@@ -2,7 +2,7 @@
 ghost use Rattle.std.specs.Prelude.{◌≡◌, [], length, slice_get, OnErr, OnOk, is_some};
 ghost use Rattle.std.specs.Option.{option_copied, option_map};
 ghost use Rattle.name_meaning.specs.Rows.{row_names, row_of, with_row, without_row, IsTable, IsGap};
-ghost use Rattle.std.specs.Prelude.{IfErr, IfOk, Some};
+ghost use Rattle.std.specs.Prelude.{◌<◌, List, ℕ, IfErr, IfOk, Some};
 
 use lf_terms::{Memory, Name, Names};
 use name_table::NameTable;
@@ -71,15 +71,25 @@ impl Graph {
     /// Where the name is, or where it would stand.
     pub(crate) fn place(&self, name: &Name) -> Result<usize, usize>
         ensures found { IfOk result (λ place. slice_get (row_names self.now) place ≡ Some name.now) }
+        ensures within { IfOk result (λ place. place < length self.now) }
         ensures absent { IfErr result (IsGap (row_names self.now) name.now) }
     {
         self.rows.place(name)
     }
 
-    /// The name at a place, counted from 0, with its direct dependencies. None exactly where the place is past the end.
-    pub(crate) fn at(&self, place: usize) -> Option<(&Name, &Names)>
-        ensures { option_map (λ row. (row.0.now, row.1.now)) result ≡ slice_get self.now place }
+    /// The name at a place that is not past the end.
+    pub(crate) fn name_at(&self, place: usize) -> &Name
+        requires { place < length self.now }
+        ensures { slice_get (row_names self.now) place ≡ Some result.now }
     {
-        self.rows.at(place)
+        self.rows.row_at(place).0
+    }
+
+    /// The direct dependencies of the name at a place that is not past the end.
+    pub(crate) fn dependencies_at(&self, place: usize) -> &Names
+        requires { place < length self.now }
+        ensures { (name : List ℕ) × (slice_get self.now place ≡ Some (name, result.now)) }
+    {
+        self.rows.row_at(place).1
     }
 }

@@ -3,12 +3,14 @@
 
 mod answers;
 mod graph;
+mod grounding;
 mod reaching;
 mod subject;
 mod ungrounded;
 
 pub use answers::Answers;
 pub use graph::Graph;
+pub use grounding::grounded;
 pub use reaching::reach;
 pub use subject::Subject;
 pub use ungrounded::first_ungrounded;

@@ -19,7 +19,7 @@ pub fn reach(alloc: Global, graph: &Graph, name: &Name) -> Result<Names, Memory>
     reached.insert(name.copy(alloc)?)?;
     let mut next = 0;
     while next < reached.len() {
-        let row = row_at(graph, &reached, next);
+        let row = dependencies_at(graph, &reached, next);
         next += 1;
         if let Some(dependencies) = row {
             reach_all(alloc, &mut reached, dependencies.as_slice())?;
@@ -31,7 +31,11 @@ pub fn reach(alloc: Global, graph: &Graph, name: &Name) -> Result<Names, Memory>
 }
 
 /// The direct dependencies of the name at a place. None where there is no such place, and where the graph lacks the name.
-fn row_at<'a>(graph: &'a Graph, reached: &IndexSet<Name>, place: usize) -> Option<&'a Names>
+fn dependencies_at<'a>(
+    graph: &'a Graph,
+    reached: &IndexSet<Name>,
+    place: usize,
+) -> Option<&'a Names>
     ensures { option_copied result ≡ option_and_then (row_of graph.now) (slice_get reached.now.keys place) }
 {
     match reached.get_index(place) {

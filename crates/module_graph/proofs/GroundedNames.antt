@@ -1,16 +1,16 @@
 -- Grounded names of a graph, as a list and one by one.
-use Rattle.std.proofs.Common.{◌≡◌, ℕ, Bool, true, false, not, List, [], ◌∷◌, Result, Ok, Err, IfOk, IfErr, is_err, Bor, length, map, filter, slice_get, Option, Some, None, is_some, ◌&&◌, ◌⊎◌, inl, inr, ⊎_elim, refl, sym, ap, ◌∙◌, subst, true≢false}
+use Rattle.std.proofs.Common.{◌≡◌, ℕ, Bool, true, false, not, List, [], ◌∷◌, Result, Ok, Err, IfOk, IfErr, is_err, Bor, length, map, slice_get, Option, Some, None, is_some, ◌⊎◌, inl, inr, refl, sym, ap, ◌∙◌, subst, true≢false}
 use Rattle.std.specs.Option.{option_copied}
 use Rattle.std.specs.List.Sorted.{IsSearchInRange, IsBinarySearchResult}
 use Rattle.std.specs.Ordering.{nat_cmp}
 use Rattle.std.specs.Cmp.Lexicographic.{slice_cmp}
 use Rattle.std.proofs.lemmas.Bool.{cases_Bool, and_from, and_parts, not_from_false}
-use Rattle.name_meaning.specs.Names.{Name, is_among, is_ascending}
+use Rattle.name_meaning.specs.Names.{Name, is_ascending}
 use Rattle.name_meaning.specs.Rows.{row_names, row_of, IsTable, IsGap}
 use Rattle.log_meaning.specs.Log.{is_present}
 use Rattle.walk_meaning.specs.Walks.{is_ungrounded, is_grounded}
 use Rattle.walk_meaning.specs.Graphs.{Graph, row_dependencies, row_library, is_graph_ungrounded, graph_grounded}
-use Rattle.list_laws.proofs.Members.{Member, in_filter, filter_in}
+use Rattle.list_laws.proofs.Members.{in_filter, filter_in}
 use Rattle.name_laws.proofs.Order.{among_member, ascending_filtered}
 use Rattle.name_laws.proofs.Searching.{searched}
 use Rattle.name_laws.proofs.Rows.{member_at, gap_absent, row_among}
