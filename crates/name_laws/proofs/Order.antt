@@ -1,5 +1,5 @@
 -- Names in byte order.
-use Rattle.std.proofs.Common.{◌≡◌, Bool, true, false, List, [], ◌∷◌, ◌⊎◌, inl, inr, ⊎_elim, cond, refl, sym, ap, ◌∙◌, subst, true≢false, ◌&&◌}
+use Rattle.std.proofs.Common.{◌≡◌, Bool, true, false, List, [], ◌∷◌, filter, ◌⊎◌, inl, inr, ⊎_elim, cond, refl, sym, ap, ◌∙◌, subst, true≢false, ◌&&◌}
 use Rattle.std.specs.List.{list_all}
 use Rattle.std.proofs.Common.{Ordering, Less, Equal, Greater}
 use Rattle.std.specs.Ordering.{nat_cmp, is_lt, is_eq, ordering_reverse}
@@ -7,7 +7,7 @@ use Rattle.std.specs.Cmp.Lexicographic.{slice_cmp, nat_list_cmp_total, texts_tie
 use Rattle.std.proofs.lemmas.Slice.Eq.{bytes_eq-Decides}
 use Rattle.std.proofs.lemmas.Bool.{cases_Bool, and_parts, and_from}
 use Rattle.name_meaning.specs.Names.{Name, same_name, comes_before, is_among, is_ascending, with_name, with_names}
-use Rattle.list_laws.proofs.Members.{Member, any_found, any_of, all_at, all_of}
+use Rattle.list_laws.proofs.Members.{Member, any_found, any_of, all_at, all_of, in_filter}
 
 pub same_sound : (n m : Name) → same_name n m ≡ true → n ≡ m
 same_sound n m h = (bytes_eq-Decides n m).0 h
@@ -149,3 +149,19 @@ with_present n [] h m = absurd m
 with_present n (k ∷ names) h m =
     let p = and_parts (list_all (comes_before k) names) (is_ascending names) h in
     there_by names (with_name n names) n k (same_name n k) (comes_before n k) refl refl p.0 m (with_present n names p.1)
+
+-- ---- the names that pass a test
+
+all_filtered : (p q : Name → Bool) (names : List Name) → list_all q names ≡ true → list_all q (filter p names) ≡ true
+all_filtered p q names h = all_of q (filter p names) (λ x m. all_at q names x h (in_filter p names x m).0)
+
+pub ascending_filtered : (p : Name → Bool) (names : List Name) → is_ascending names ≡ true → is_ascending (filter p names) ≡ true
+unfolding is_ascending
+ascending_filtered p [] h = refl
+ascending_filtered p (n ∷ names) h =
+    let q = and_parts (list_all (comes_before n) names) (is_ascending names) h in
+    by (p n) (and_from (list_all (comes_before n) (filter p names)) (is_ascending (filter p names)) (all_filtered p (comes_before n) names q.0) (ascending_filtered p names q.1)) (ascending_filtered p names q.1)
+  where
+    by : (b : Bool) → is_ascending (n ∷ filter p names) ≡ true → is_ascending (filter p names) ≡ true → is_ascending (cond b (n ∷ filter p names) (filter p names)) ≡ true
+    by true f g = f
+    by false f g = g

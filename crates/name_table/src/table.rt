@@ -1,6 +1,6 @@
 //! A table with one row for each name, sorted by the names: look-up by name takes logarithmic time, look-up by place
 //! constant time.
-ghost use Rattle.std.specs.Prelude.{◌≡◌, ◌∷◌, ◌++◌, [], length, slice_get, IfErr, IfOk, OnErr, OnOk, IsTrue, is_some, Some};
+ghost use Rattle.std.specs.Prelude.{◌≡◌, ◌<◌, ◌∷◌, ◌++◌, [], length, slice_get, IfErr, IfOk, OnErr, OnOk, IsTrue, is_some, Some};
 ghost use Rattle.std.specs.Option.{option_copied, option_map};
 ghost use Rattle.std.specs.Ordering.{nat_cmp};
 ghost use Rattle.std.specs.Cmp.Lexicographic.{slice_cmp};
@@ -50,6 +50,7 @@ impl<V: Drop> NameTable<V> {
     /// would stand.
     pub fn place(&self, name: &Name) -> Result<usize, usize>
         ensures found { IfOk result (λ place. slice_get (row_names self.now) place ≡ Some name.now) }
+        ensures within { IfOk result (λ place. place < length self.now) }
         ensures absent { IfErr result (IsGap (row_names self.now) name.now) }
     {
         self.rows.binary_search_by(
@@ -61,7 +62,8 @@ impl<V: Drop> NameTable<V> {
 
     /// The value under a name. None exactly where the name is not there.
     pub fn get(&self, name: &Name) -> Option<&V>
-        ensures { option_copied result ≡ row_of self.now name.now }
+        ensures value { option_copied result ≡ row_of self.now name.now }
+        ensures ordered { IsTable self.now }
     {
         match self.place(name) {
             Ok(place) => Some(&self.rows[place].1),
@@ -75,6 +77,15 @@ impl<V: Drop> NameTable<V> {
     {
         let row = self.rows.get(place)?;
         Some((&row.0, &row.1))
+    }
+
+    /// The row at a place that is not past the end.
+    pub fn row_at(&self, place: usize) -> (&Name, &V)
+        requires { place < length self.now }
+        ensures { slice_get self.now place ≡ Some (result.0.now, result.1.now) }
+    {
+        let row = &self.rows[place];
+        (&row.0, &row.1)
     }
 
     /// Puts a value under a name, in place of the one that was there; or hands both back for want of memory, and changes
@@ -98,7 +109,7 @@ impl<V: Drop> NameTable<V> {
 
     /// Puts a value under a name that is above all others; or hands both back for want of memory, and changes nothing.
     pub fn push(&mut self, name: Name, value: V) -> Result<(), (Name, V)>
-        requires { IsGap (row_names self.old) name (length self.old) }
+        requires { IsTable (self.old ++ (name, value) ∷ []) }
         ensures ok { OnOk result (self.new ≡ self.old ++ (name, value) ∷ []) }
         ensures err { OnErr result (self.new ≡ self.old) }
         ensures back { IfErr result (λ back. back ≡ (name, value)) }

@@ -1,3 +1,4 @@
 pub mod Agreement
 pub mod Reaching
 pub mod Walking
+pub mod Graphs

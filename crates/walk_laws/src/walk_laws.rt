@@ -1,6 +1,7 @@
 //! Walks, grounded names and the reach.
 
 ghost use Rattle.walk_laws.specs.WalkLaws.{WalkingListsWalks, UngroundedIsDecided, UngroundedWalksOn, GroundedRestsOnGrounded, UngroundedRestsOnUngrounded, ReachIsReached, ReachIsAscending, ReachDecidesItself, ReachDecidesGrounds};
+ghost use Rattle.walk_laws.specs.GraphLaws.{GraphReaches, GraphGrounds, GraphIsUngrounded, EditedGraphHolds, EmptyGraphHolds};
 
 /// Walks are counted, and a walk with more names than the library goes on for ever.
 pub fn law_walks()
@@ -25,4 +26,13 @@ pub fn law_reach()
 pub fn law_agreement()
     ensures reach { ReachDecidesItself }
     ensures grounds { ReachDecidesGrounds }
+{}
+
+/// A graph that holds the dependencies of a library reaches and grounds as the library does, and can be kept up with edits.
+pub fn law_graphs()
+    ensures reach { GraphReaches }
+    ensures grounds { GraphGrounds }
+    ensures ungrounded { GraphIsUngrounded }
+    ensures edited { EditedGraphHolds }
+    ensures empty { EmptyGraphHolds }
 {}

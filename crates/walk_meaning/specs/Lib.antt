@@ -1,3 +1,4 @@
 pub mod Walks
 pub mod Reach
 pub mod Subject
+pub mod Graphs

@@ -1,7 +1,7 @@
 use Rattle.std.proofs.Common.{◌∙◌}
 use Rattle.std.proofs.Common.{sym}
 use Rattle.name_laws.proofs.Rows.{table_with, with_row_gap}
-use Rattle.name_table.proofs.Searching.{row_set}
+use Rattle.name_table.proofs.Places.{row_set}
 use Rattle.name_table.proofs.table.NameTable.insert.Goals as goal
 use Rattle.name_table.proofs.table.NameTable.insert.Goals.{in-Ok-insert, in-Err-insert}
 

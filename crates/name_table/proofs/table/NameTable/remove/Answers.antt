@@ -1,6 +1,6 @@
 use Rattle.std.proofs.Common.{sym, ap, ◌∙◌, is_some}
 use Rattle.name_laws.proofs.Rows.{table_without}
-use Rattle.name_table.proofs.Searching.{row_removed, row_not_removed, row_not_found, row_found}
+use Rattle.name_table.proofs.Places.{row_removed, row_not_removed, row_not_found, row_found}
 use Rattle.name_table.proofs.table.NameTable.remove.Goals as goal
 
 pub invariant_of-self : goal.invariant_of-self

@@ -1,0 +1,5 @@
+mod GroundedNames
+mod Firsts
+mod Reached
+mod Writes
+mod Peeled

@@ -1,0 +1,57 @@
+//! What a name reaches in a graph.
+ghost use Rattle.std.specs.Prelude.{◌≡◌, IfOk, OnOk, slice_get};
+ghost use Rattle.std.specs.Option.{option_copied, option_and_then};
+ghost use Rattle.indexmap.specs.IndexSet.{IsUnique, insert_all};
+ghost use Rattle.name_meaning.specs.Names.{same_name};
+ghost use Rattle.name_meaning.specs.Rows.{row_of};
+ghost use Rattle.walk_meaning.specs.Graphs.{graph_reach};
+
+use crate::Graph;
+use indexmap::IndexSet;
+use lf_terms::{Memory, Name, Names};
+use std::alloc::Global;
+
+/// The name and all names on walks from it, present or not, in byte order. Time grows with what is reached.
+pub fn reach(alloc: Global, graph: &Graph, name: &Name) -> Result<Names, Memory>
+    ensures { IfOk result (λ names. names ≡ graph_reach graph.now name.now) }
+{
+    let mut reached = IndexSet::new(alloc);
+    reached.insert(name.copy(alloc)?)?;
+    let mut next = 0;
+    while next < reached.len() {
+        let row = dependencies_at(graph, &reached, next);
+        next += 1;
+        if let Some(dependencies) = row {
+            reach_all(alloc, &mut reached, dependencies.as_slice())?;
+        }
+    }
+    reached.sort_unstable()?;
+    let names = reached.into_iter().collect(alloc)?;
+    Ok(Names::from_vec(names))
+}
+
+/// The direct dependencies of the name at a place. None where there is no such place, and where the graph lacks the name.
+fn dependencies_at<'a>(
+    graph: &'a Graph,
+    reached: &IndexSet<Name>,
+    place: usize,
+) -> Option<&'a Names>
+    ensures { option_copied result ≡ option_and_then (row_of graph.now) (slice_get reached.now.keys place) }
+{
+    match reached.get_index(place) {
+        Some(own) => graph.row(own),
+        None => None,
+    }
+}
+
+/// Adds the names that are not reached yet, at the end.
+fn reach_all(alloc: Global, reached: &mut IndexSet<Name>, names: &[Name]) -> Result<(), Memory>
+    requires { IsUnique same_name reached.old }
+    ensures added { OnOk result (reached.new.keys ≡ insert_all same_name reached.old.keys names.now) }
+    ensures unique { OnOk result (IsUnique same_name reached.new) }
+{
+    for name in names {
+        reached.insert(name.copy(alloc)?)?;
+    }
+    Ok(())
+}
