@@ -3,4 +3,4 @@
 //! law of typed faces.
 #![tactic(auto)]
 
-pub mod link_laws;
+pub mod typing_laws;

@@ -1,4 +1,4 @@
 //! Translation along typed maps. There is no code: each function here does nothing, and its contract is a law.
 #![tactic(auto)]
 
-pub mod translation_laws;
+pub mod typing_laws;

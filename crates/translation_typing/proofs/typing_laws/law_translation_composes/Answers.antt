@@ -1,5 +1,5 @@
 use Rattle.translation_typing.proofs.Composed.{objects_are_composed, families_are_composed, kinds_are_composed, classes_are_composed, values_are_composed, composition_is_typed, composition_is_proper}
-use Rattle.translation_typing.proofs.translation_laws.law_translation_composes.Goals as goal
+use Rattle.translation_typing.proofs.typing_laws.law_translation_composes.Goals as goal
 
 pub returns-clause-object : goal.returns-clause-object
 returns-clause-object c = objects_are_composed

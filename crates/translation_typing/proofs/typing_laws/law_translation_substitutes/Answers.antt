@@ -1,5 +1,5 @@
 use Rattle.translation_typing.proofs.Laws.{substituted_objects_are_translated, substituted_families_are_translated, substituted_kinds_are_translated}
-use Rattle.translation_typing.proofs.translation_laws.law_translation_substitutes.Goals as goal
+use Rattle.translation_typing.proofs.typing_laws.law_translation_substitutes.Goals as goal
 
 pub returns-clause-object : goal.returns-clause-object
 returns-clause-object c = substituted_objects_are_translated

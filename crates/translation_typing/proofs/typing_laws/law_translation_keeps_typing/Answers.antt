@@ -1,5 +1,5 @@
 use Rattle.translation_typing.proofs.Laws.{typing_is_carried, contexts_are_carried, families_are_carried, kinds_are_carried, classes_are_carried, values_are_carried}
-use Rattle.translation_typing.proofs.translation_laws.law_translation_keeps_typing.Goals as goal
+use Rattle.translation_typing.proofs.typing_laws.law_translation_keeps_typing.Goals as goal
 
 pub returns-clause-typing : goal.returns-clause-typing
 returns-clause-typing c = typing_is_carried

@@ -1,5 +1,5 @@
 use Rattle.translation_typing.proofs.Laws.{raised_objects_are_translated, raised_families_are_translated, raised_kinds_are_translated}
-use Rattle.translation_typing.proofs.translation_laws.law_translation_raises.Goals as goal
+use Rattle.translation_typing.proofs.typing_laws.law_translation_raises.Goals as goal
 
 pub returns-clause-object : goal.returns-clause-object
 returns-clause-object c = raised_objects_are_translated
