@@ -5,5 +5,4 @@ pub mod AtomicFamilies
 pub mod ProperValues
 pub mod Differ
 pub mod TypedMaps
-pub mod SuitedImages
 pub mod FirstUnmapped

@@ -1,0 +1,5 @@
+pub mod Faults
+pub mod TranslatedObjects
+pub mod TranslatedFamilies
+pub mod BareValues
+pub mod ListsLeft

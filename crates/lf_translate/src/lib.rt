@@ -1,0 +1,16 @@
+//! Translation along maps of constants (Rabe and Kohlhase 2013, section 4), as `translation_meaning` defines it, over terms
+//! in memory.
+#![tactic(auto)]
+
+mod families;
+mod fault;
+mod images;
+mod maps;
+mod objects;
+mod values;
+
+pub use families::{translate_fam, translate_kind};
+pub use fault::TranslateFault;
+pub use maps::{compose, differ};
+pub use objects::translate_obj;
+pub use values::{translate_class, translate_value};
