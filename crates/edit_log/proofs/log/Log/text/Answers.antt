@@ -7,7 +7,7 @@ use Rattle.edit_log.proofs.log.Log.text.Goals.{After-as_slice}
 
 found : (c : After-as_slice) → Some c.as_slice.result.now ≡ text_of (library_of c.args.self.now) c.args.name.now
 found c =
-    rw (← c.self.view_is) (ap Some (c.as_slice.ensures ∙ c.get-in-Some.ensures) ∙ c.in-Some.ensures
+    rw (← c.self.view_is) (ap Some (c.as_slice.ensures ∙ c.get-in-Some.ensures) ∙ c.in-Some.ensures.value
     ∙ sym (text_read c.self.inside.texts c.args.name.now) ∙ ap (λ library. text_of library c.args.name.now) c.self.invariant.library)
 
 pub returns-in-Some-clause-text : goal.returns-in-Some-clause-text
@@ -18,4 +18,4 @@ returns-in-Some-clause-short c = texts_short c.args.self.now c.args.name.now c.a
 
 pub returns-in-None-clause-text : goal.returns-in-None-clause-text
 returns-in-None-clause-text c =
-    rw (← c.self.view_is) (c.in-None.ensures ∙ sym (text_read c.self.inside.texts c.args.name.now) ∙ ap (λ library. text_of library c.args.name.now) c.self.invariant.library)
+    rw (← c.self.view_is) (c.in-None.ensures.value ∙ sym (text_read c.self.inside.texts c.args.name.now) ∙ ap (λ library. text_of library c.args.name.now) c.self.invariant.library)

@@ -1,0 +1,10 @@
+//! Tests of the log and of graphs: the log's limits, reach and grounded names, and a small subject that meets its law.
+#![tactic(auto)]
+
+#[cfg(test)]
+mod graph_tests;
+#[cfg(test)]
+mod log_tests;
+mod sizes;
+#[cfg(test)]
+mod subject_tests;
