@@ -1,6 +1,10 @@
 -- Worked cases: whole scripts, a folder and the generator, with the verdicts of the rules.
 use Rattle.std.specs.Prelude.{◌≡◌, ℕ, List, [], ◌∷◌, ◌++◌, codes}
+use Rattle.log_meaning.specs.Log.{library_of}
 use Rattle.run_meaning.specs.Files.{File}
+use Rattle.run_meaning.specs.Generator.{declarations_of}
+use Rattle.run_meaning.specs.ScriptLogs.{script_log}
+use Rattle.judged_meaning.specs.JudgingByRules.{rules}
 use Rattle.judged_meaning.specs.Outputs.{play_output, check_output, generate_output}
 
 abbrev pub put_numbers : List ℕ
@@ -74,3 +78,7 @@ Generator =
 
 abbrev pub GeneratorWithWorkers : Type 0
 GeneratorWithWorkers = generate_output 1 5 3 4 ≡ codes "gen modules 5 edits 3 version 8 accepted 5 refused 0 declarations 32\n"
+
+-- Two theories of four and three constants, and a view of four images.
+abbrev pub ImagesAreCounted : Type 0
+ImagesAreCounted = declarations_of rules (library_of (script_log (put_view []))) ≡ 11

@@ -1,6 +1,6 @@
 //! Worked cases: each function does nothing, and its contract is proved by computing.
 
-ghost use Rattle.judged_laws.specs.Examples.{NaturalNumbers, MisspelledName, Monoid, AssignedStructure, Ring, CarriedJudgement, ChangedPrefix, Cycle, AFolder, MisspelledInFolder, Generator, GeneratorWithWorkers};
+ghost use Rattle.judged_laws.specs.Examples.{NaturalNumbers, MisspelledName, Monoid, AssignedStructure, Ring, CarriedJudgement, ChangedPrefix, Cycle, AFolder, MisspelledInFolder, Generator, GeneratorWithWorkers, ImagesAreCounted};
 
 /// Whole scripts.
 pub fn scripts()
@@ -24,8 +24,9 @@ pub fn folders()
     ensures misspelled_in_folder { MisspelledInFolder }
 {}
 
-/// The generator: five modules and three edits.
+/// The generator: five modules and three edits; and what it counts of a view.
 pub fn generator()
     ensures generator { Generator }
     ensures generator_with_workers { GeneratorWithWorkers }
+    ensures images_are_counted { ImagesAreCounted }
 {}

@@ -3,19 +3,21 @@ use Rattle.std.proofs.Common.{refl}
 use Rattle.std.specs.Str.{is_utf8, chars}
 use Rattle.std.specs.Fmt.{digits}
 use lib.Utf8.{encode}
-use Rattle.name_meaning.specs.Names.{is_among}
+use Rattle.name_meaning.specs.Names.{is_among, with_name, with_names}
+use Rattle.walk_meaning.specs.Walks.{direct, walking, is_ungrounded, ungrounded_names}
+use Rattle.walk_meaning.specs.Reach.{reach_within, reach}
 use Rattle.log_meaning.specs.Log.{with_module, without_module, library_of, text_of}
 use Rattle.log_meaning.specs.Append.{append_answer, appended}
 use Rattle.text_meaning.specs.Cutting.{cut_on, lex}
 use Rattle.text_meaning.specs.Dividing.{divide_on, divide}
 use Rattle.printing_meaning.specs.Constants.{path_text}
 use Rattle.run_meaning.specs.Files.{with_file, module_files, pieces_answer, file_answer, load}
-use Rattle.run_meaning.specs.Folders.{folder_output}
-use Rattle.run_meaning.specs.Generator.{number_after, first_puts, later_puts, generated}
-use Rattle.run_examples.specs.FolderExamples.{EmptyFolder, OtherFiles, BadFiles, PlacesAreInFiles, SecondOfName, SecondInFile, EndingAlone, DrawsAreMade, ParentsAreDrawn, EditsAreDrawn, TextsAreMade, FirstHasNoParent, EditsStandInOrder}
+use Rattle.run_meaning.specs.Folders.{folder_output, has_refusal}
+use Rattle.run_meaning.specs.Generator.{number_after, first_puts, later_puts, generated, asked_after}
+use Rattle.run_examples.specs.FolderExamples.{EmptyFolder, OtherFiles, BadFiles, PlacesAreInFiles, SecondOfName, SecondInFile, EndingAlone, DrawsAreMade, ParentsAreDrawn, EditsAreDrawn, TextsAreMade, FirstHasNoParent, EditsStandInOrder, FirstOfName, RefusalsAreSeen, UngroundedAreNotInstalled, UngroundedAreLeftOut}
 
 abbrev computing : Unit {0}
-unfolding is_utf8 chars digits encode is_among with_module without_module library_of text_of append_answer appended lex cut_on divide_on divide path_text with_file module_files pieces_answer file_answer load folder_output number_after first_puts later_puts generated
+unfolding is_utf8 chars digits encode is_among with_name with_names direct walking is_ungrounded ungrounded_names reach_within reach with_module without_module library_of text_of append_answer appended lex cut_on divide_on divide path_text with_file module_files pieces_answer file_answer load folder_output has_refusal number_after first_puts later_puts generated asked_after
 computing = tt
 
 pub empty_folder : EmptyFolder
@@ -69,3 +71,19 @@ first_has_no_parent = refl
 pub edits_stand_in_order : EditsStandInOrder
 unfolding computing
 edits_stand_in_order = refl
+
+pub first_of_name : FirstOfName
+unfolding computing
+first_of_name judging = refl
+
+pub refusals_are_seen : RefusalsAreSeen
+unfolding computing
+refusals_are_seen = refl
+
+pub ungrounded_are_not_installed : UngroundedAreNotInstalled
+unfolding computing
+ungrounded_are_not_installed = refl
+
+pub ungrounded_are_left_out : UngroundedAreLeftOut
+unfolding computing
+ungrounded_are_left_out = refl

@@ -1,16 +1,17 @@
 -- Worked examples of folders, and of the generator's draws.
-use Rattle.std.specs.Prelude.{◌≡◌, ℕ, List, [], ◌∷◌, None, map, codes, if◌then◌else◌}
+use Rattle.std.specs.Prelude.{◌≡◌, ℕ, Bool, true, false, List, [], ◌∷◌, None, map, codes, if◌then◌else◌}
 use Rattle.lf_meaning.specs.Terms.{Ty}
 use Rattle.lf_meaning.specs.Signatures.{KindClass, Declaration}
 use Rattle.name_meaning.specs.Names.{same_name, Name, Text}
-use Rattle.log_meaning.specs.Log.{Library, edited_name}
+use Rattle.log_meaning.specs.Log.{Put, Drop, Library, edited_name, library_of}
+use Rattle.walk_meaning.specs.Walks.{Dependencies}
 use Rattle.library_meaning.specs.Faces.{TheoryFace}
 use Rattle.printing_meaning.specs.VerdictLines.{Judged, Refused, AcceptedTheory}
 use Rattle.printing_meaning.specs.CarriedLines.{NoView}
 use Rattle.run_meaning.specs.Judging.{Judging}
 use Rattle.run_meaning.specs.Files.{File}
-use Rattle.run_meaning.specs.Folders.{folder_output}
-use Rattle.run_meaning.specs.Generator.{upper_bits, parent_of, edited_module, module_text, generated}
+use Rattle.run_meaning.specs.Folders.{folder_output, has_refusal}
+use Rattle.run_meaning.specs.Generator.{upper_bits, parent_of, edited_module, module_text, generated, grounded_names, asked_after}
 
 abbrev pub file : List ℕ → List ℕ → File
 file name bytes = record { name = name; bytes = bytes }
@@ -78,6 +79,18 @@ SecondInFile =
 abbrev pub EndingAlone : Type 0
 EndingAlone = PrintsFolder (file (codes ".elf") [] ∷ []) (codes "files 1 modules 0 accepted 0 refused 0\n")
 
+-- Of two files with one name the first counts.
+abbrev pub FirstOfName : Type 0
+FirstOfName =
+    PrintsFolder (file (codes "a.elf") (codes "foo") ∷ file (codes "a.elf") (codes "% nothing\n") ∷ [])
+    (codes "a.elf refused 1:1 syntax\nfiles 1 modules 0 accepted 0 refused 0\n")
+
+-- A refused module is a refusal, and so is a refused file; an accepted module is none.
+abbrev pub RefusalsAreSeen : Type 0
+RefusalsAreSeen =
+    map (has_refusal judging_so) ((numbers_file ∷ []) ∷ (file (codes "bad.elf") (codes "foo") ∷ []) ∷ (file (codes "a.elf") (codes "%sig Nat = { }.") ∷ []) ∷ [])
+    ≡ true ∷ true ∷ false ∷ []
+
 -- The draws of `gen 1 5 3`: four parents and three edited modules.
 abbrev pub DrawsAreMade : Type 0
 DrawsAreMade = map (upper_bits 1) (1 ∷ 2 ∷ 3 ∷ 4 ∷ 5 ∷ 6 ∷ 7 ∷ []) ≡ 16838 ∷ 5758 ∷ 10113 ∷ 17515 ∷ 31051 ∷ 5627 ∷ 23010 ∷ []
@@ -98,3 +111,16 @@ abbrev pub EditsStandInOrder : Type 0
 EditsStandInOrder =
     map edited_name (generated 1 5 3)
     ≡ codes "G0" ∷ codes "G1" ∷ codes "G2" ∷ codes "G3" ∷ codes "G4" ∷ codes "G1" ∷ codes "G2" ∷ codes "G0" ∷ []
+
+-- Where each byte of a text names a dependency: A names B, then B names A, so that both are ungrounded, and then B is
+-- dropped. The first and the last edit ask for the verdict of A, and the second for none.
+abbrev pub letters : Dependencies
+letters name text = map (λ (byte : ℕ). byte ∷ []) text
+
+abbrev pub UngroundedAreNotInstalled : Type 0
+UngroundedAreNotInstalled =
+    asked_after letters [] (Put (codes "A") (codes "B") ∷ Put (codes "B") (codes "A") ∷ Drop (codes "B") ∷ []) ≡ 2
+
+abbrev pub UngroundedAreLeftOut : Type 0
+UngroundedAreLeftOut =
+    grounded_names letters (library_of (Put (codes "A") (codes "B") ∷ Put (codes "B") (codes "A") ∷ Put (codes "C") [] ∷ [])) ≡ codes "C" ∷ []

@@ -1,7 +1,7 @@
 //! Worked examples: each function does nothing, and its contract is proved by computing.
 
 ghost use Rattle.run_examples.specs.ScriptExamples.{NothingIsPrinted, PutTwiceDroppedTwice, LogIsPrinted, UnendedText, BadCommand, LongComment, TooLongComment, CutInCommand, CutBehindCommand, CutInEndLine, CutBehindEndLine, CutInName, NoJudgement, LastReturnCounts, LastReturnIsBlank, CommentOfBytes, OtherLines, LogIsLeft, TellsGrounded};
-ghost use Rattle.run_examples.specs.FolderExamples.{EmptyFolder, OtherFiles, BadFiles, PlacesAreInFiles, SecondOfName, SecondInFile, EndingAlone, DrawsAreMade, ParentsAreDrawn, EditsAreDrawn, TextsAreMade, FirstHasNoParent, EditsStandInOrder};
+ghost use Rattle.run_examples.specs.FolderExamples.{EmptyFolder, OtherFiles, BadFiles, PlacesAreInFiles, SecondOfName, SecondInFile, EndingAlone, DrawsAreMade, ParentsAreDrawn, EditsAreDrawn, TextsAreMade, FirstHasNoParent, EditsStandInOrder, FirstOfName, RefusalsAreSeen, UngroundedAreNotInstalled, UngroundedAreLeftOut};
 ghost use Rattle.run_examples.specs.WordExamples.{PlaysAreAccepted, ChecksAreAccepted, GeneratorsAreAccepted, OthersAreNot, OthersAreAnswered};
 
 /// Scripts, for any judging: what is printed, and faults; the log that a script leaves, and of what it tells.
@@ -36,6 +36,8 @@ pub fn folders()
     ensures second_of_name { SecondOfName }
     ensures second_in_file { SecondInFile }
     ensures ending_alone { EndingAlone }
+    ensures first_of_name { FirstOfName }
+    ensures refusals_are_seen { RefusalsAreSeen }
 {}
 
 /// What the generator draws, and the texts that it makes.
@@ -46,6 +48,12 @@ pub fn draws()
     ensures texts_are_made { TextsAreMade }
     ensures first_has_no_parent { FirstHasNoParent }
     ensures edits_stand_in_order { EditsStandInOrder }
+{}
+
+/// Which verdicts edits ask for.
+pub fn installs()
+    ensures not_installed { UngroundedAreNotInstalled }
+    ensures left_out { UngroundedAreLeftOut }
 {}
 
 /// Which lists of words are accepted, and how others are answered.
