@@ -1,47 +1,83 @@
-//! How fast the text of a file is cut into tokens, or read as a module. The words are `tokens` or `read`, and the file.
+//! How fast the text of a file is gone through, cut into tokens, or read as a module, and let go again. The words are
+//! `pass`, `tokens` or `read`, and the file.
 #![tactic(auto)]
+
+ghost use Rattle.std.specs.Prelude.{◌≤◌, length};
 
 use std::alloc::Global;
 use std::time::CpuClock;
 use std::{env, fs, io};
-use twelf_lexer::{LexFault, tokens};
-use twelf_reader::{ReadFault, read_module};
+use twelf_lexer::{TokenList, open_comment, tokens};
+use twelf_reader::read_module;
+use mmt_syntax::Module;
 
-/// What the text was, in a word.
-fn worked(alloc: Global, read: bool, text: &[u8]) -> &'static str {
-    if text.len() > 67108864 {
-        return "too long";
+/// The longest text that is read.
+const LONGEST: usize = 67_108_864;
+
+/// What came of a text, and has to be let go.
+#[derive(Drop)]
+enum Work {
+    Passed(Option<u32>),
+    Cut(TokenList),
+    Read(Module),
+    Fault,
+}
+
+impl Work {
+    fn word(&self) -> &'static str {
+        match self {
+            Work::Passed(_) => "passed",
+            Work::Cut(_) => "cut",
+            Work::Read(_) => "read",
+            Work::Fault => "a fault",
+        }
     }
-    if read {
+}
+
+fn worked(alloc: Global, word: &str, text: &[u8]) -> Work {
+    if text.len() > LONGEST {
+        return Work::Fault;
+    }
+    if word == "read" {
         return match read_module(alloc, text) {
-            Ok(_) => "read",
-            Err(ReadFault::Memory) => "want of memory",
-            Err(_) => "a fault",
+            Ok(module) => Work::Read(module),
+            Err(_) => Work::Fault,
         };
     }
-    match tokens(alloc, text) {
-        Ok(_) => "cut",
-        Err(LexFault::Memory) => "want of memory",
-        Err(_) => "a fault",
+    if word == "tokens" {
+        return match tokens(alloc, text) {
+            Ok(tokens) => Work::Cut(tokens),
+            Err(_) => Work::Fault,
+        };
+    }
+    pass(text)
+}
+
+fn pass(text: &[u8]) -> Work
+    requires { length text.now ≤ 67108864 }
+{
+    match str::from_utf8(text) {
+        Ok(text) => Work::Passed(open_comment(text)),
+        Err(_) => Work::Fault,
     }
 }
 
 fn main(rt: HostRuntime) -> io::Result<()> {
-    let alloc = rt.alloc();
     let mut words = env::args(&rt)?;
     let _ = words.next();
-    let read = match words.next() {
-        Some(word) => word.as_str() == "read",
-        None => false,
+    let Some(word) = words.next() else {
+        return Ok(());
     };
-    let text = match words.next() {
-        Some(file) => fs::read(&rt, file.as_str())?,
-        None => Vec::new(alloc),
+    let Some(file) = words.next() else {
+        return Ok(());
     };
-    let before = rt.thread_cpu_time()?;
-    let word = worked(alloc, read, text.as_slice());
-    let after = rt.thread_cpu_time()?;
-    let took = after.as_micros().saturating_sub(before.as_micros());
-    println!(rt; "{word}: {} bytes in {took} microseconds", text.len())?;
+    let text = fs::read(&rt, file.as_str())?;
+    let start = rt.thread_cpu_time()?.as_micros();
+    let work = worked(rt.alloc(), word.as_str(), text.as_slice());
+    let took = rt.thread_cpu_time()?.as_micros().saturating_sub(start);
+    println!(rt; "{}: {} bytes in {took} microseconds", work.word(), text.len())?;
+    drop(work);
+    let all = rt.thread_cpu_time()?.as_micros().saturating_sub(start);
+    println!(rt; "and let go: {all} microseconds")?;
     Ok(())
 }
