@@ -19,7 +19,10 @@ pub fn is_white_space(byte: u8) -> bool
 pub fn is_special(byte: u8) -> bool
     ensures { result ≡ characters.is_special byte }
 {
-    b":.()[]{}%\"".contains(&byte)
+    matches!(
+        byte,
+        b':' | b'.' | b'(' | b')' | b'[' | b']' | b'{' | b'}' | b'%' | b'"'
+    )
 }
 
 /// Whether the byte can stand in an identifier.

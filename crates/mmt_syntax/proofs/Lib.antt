@@ -1,1 +1,2 @@
 pub mod ReadingEquations
+pub mod Unlabelled

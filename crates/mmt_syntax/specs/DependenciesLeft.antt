@@ -1,15 +1,45 @@
 -- Which dependencies an iterator has still to give.
-use Rattle.std.specs.Prelude.{ℕ, List, [], ◌∷◌, ◌++◌, Option, Some, None, flat_map}
+use Rattle.std.specs.Prelude.{ℕ, List, [], ◌∷◌, ◌++◌, Option, Some, None, filter, flat_map, map, not}
 use Rattle.std.specs.Option.{option_map}
 use Rattle.std.specs.Borrow.{Bor}
 use Rattle.name_meaning.specs.Names.{Name}
+use Rattle.text_meaning.specs.Trees as trees
+use Rattle.text_meaning.specs.Trees.{first_name}
+use Rattle.text_meaning.specs.Dependencies.{is_own_word}
 use Rattle.lf_terms.specs.declared.span.Span.{Span}
 use Rattle.mmt_syntax.specs.Readings.{read_span, read_written, read_words, read_assigns, read_decls}
-use Rattle.mmt_syntax.specs.Dependencies.{Dependency, dependency, word_dependencies, assign_dependencies, decl_dependencies}
+use Rattle.mmt_syntax.specs.Dependencies.{Dependency}
 use Rattle.mmt_syntax.specs.declared.written.Written.{Written}
 use Rattle.mmt_syntax.specs.declared.decl.Decl.{Decl}
 use Rattle.mmt_syntax.specs.declared.dep_iter.Links.{Links}
 use Rattle.mmt_syntax.specs.declared.dep_iter.DepIter.{DepIter}
+
+-- what a written path names first
+abbrev pub dependency : trees.Written → Dependency
+dependency w = record { span = w.span; name = first_name w.path }
+
+-- the first names of words, but for those about structures of the theory itself
+abbrev pub word_dependencies : Option Name → List trees.Written → List Dependency
+word_dependencies own ws = map dependency (filter (λ w. not (is_own_word own w.path)) ws)
+
+-- the words of an assignment's morphism; a value has none
+abbrev pub words_of : trees.Assign → List trees.Written
+words_of (trees.IncludeAssign ws) = ws
+words_of (trees.StructAssign target ws) = ws
+words_of (trees.ConstAssign target value) = []
+
+abbrev pub assign_dependencies : Option Name → List trees.Assign → List Dependency
+assign_dependencies own xs = flat_map (λ x. word_dependencies own (words_of x)) xs
+
+abbrev pub decl_dependencies : Option Name → trees.Decl → List Dependency
+decl_dependencies own (trees.IncludeDecl theory) = dependency theory ∷ []
+decl_dependencies own (trees.StructDecl name domain xs) = dependency domain ∷ assign_dependencies own xs
+decl_dependencies own (trees.ConstDecl name class value) = []
+
+-- all of a module, before the first is given
+abbrev pub left_of_module : trees.Module → List Dependency
+left_of_module (trees.SigModule name ds) = flat_map (decl_dependencies (Some (first_name name.path))) ds
+left_of_module (trees.ViewModule name domain codomain xs) = dependency domain ∷ dependency codomain ∷ assign_dependencies None xs
 
 -- the theory's own name, where there is one
 abbrev pub own_name : Option (Bor (List ℕ)) → Option Name

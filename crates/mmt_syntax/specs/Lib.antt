@@ -1,6 +1,5 @@
 -- What modules are, as they are written.
 pub mod Readings
-pub mod Labels
 pub mod Places
 pub mod Dependencies
 pub mod DependenciesLeft

@@ -2,7 +2,10 @@
 ghost use Rattle.std.specs.Prelude.{◌≡◌, ◌∷◌, [], MatchOption};
 ghost use Rattle.std.specs.Iterator.{YieldsFirstBy, item_count};
 ghost use Rattle.mmt_syntax.specs.Readings.{read_assign, read_module, read_words, read_written};
+ghost use Rattle.text_meaning.specs.Trees as trees;
+ghost use Rattle.text_meaning.specs.Dependencies.{is_own_word};
 ghost use Rattle.mmt_syntax.specs.Dependencies as meaning;
+ghost use Rattle.mmt_syntax.specs.DependenciesLeft as leaving;
 ghost use Rattle.mmt_syntax.specs.DependenciesLeft.{item_dependency, left, left_of_links, own_name};
 
 use crate::{Assign, Decl, Module, Written};
@@ -32,6 +35,13 @@ pub struct DepIter<'a> {
 pub fn deps(module: &Module) -> DepIter<'_>
     ensures { left result ≡ meaning.dependencies (read_module «module».now) }
 {
+    all_deps(module)
+}
+
+/// The same, link by link.
+fn all_deps(module: &Module) -> DepIter<'_>
+    ensures { left result ≡ leaving.left_of_module (read_module «module».now) }
+{
     match module {
         Module::Sig { name, decls } => DepIter {
             first: None,
@@ -57,26 +67,26 @@ pub fn deps(module: &Module) -> DepIter<'_>
 }
 
 fn first_name(written: &Written) -> &Name
-    ensures { result.now ≡ meaning.first_name written.now.path }
+    ensures { result.now ≡ trees.first_name written.now.path }
 {
     &written.path.as_slice()[0]
 }
 
 /// Whether a word is about a structure of the theory itself.
 fn is_own_word(own: Option<&Name>, word: &Written) -> bool
-    ensures { result ≡ meaning.is_own_word (own_name own.entry) (read_written word.now) }
+    ensures { result ≡ is_own_word (own_name own.entry) (read_written word.now).path }
 {
     match own {
-        Some(own) => word.path.len() > 1 && *first_name(word) == *own,
+        Some(own) => word.path.len() > 1 && *own == *first_name(word),
         None => false,
     }
 }
 
 /// The first word that is not, and the words behind it.
 fn first_word<'a>(own: Option<&Name>, words: &'a [Written]) -> Option<(&'a Written, &'a [Written])>
-    ensures { MatchOption result (meaning.word_dependencies (own_name own.entry) (read_words words.now) ≡ [])
-        (λ found. meaning.word_dependencies (own_name own.entry) (read_words words.now)
-        ≡ meaning.dependency (read_written found.0.now) ∷ meaning.word_dependencies (own_name own.entry) (read_words found.1.now)) }
+    ensures { MatchOption result (leaving.word_dependencies (own_name own.entry) (read_words words.now) ≡ [])
+        (λ found. leaving.word_dependencies (own_name own.entry) (read_words words.now)
+        ≡ leaving.dependency (read_written found.0.now) ∷ leaving.word_dependencies (own_name own.entry) (read_words found.1.now)) }
 {
     let mut words = words;
     while let Some((word, rest)) = words.split_first() {
@@ -90,7 +100,7 @@ fn first_word<'a>(own: Option<&Name>, words: &'a [Written]) -> Option<(&'a Writt
 
 /// The words of an assignment.
 fn words_of(assign: &Assign) -> &[Written]
-    ensures { read_words result.now ≡ meaning.words_of (read_assign assign.now) }
+    ensures { read_words result.now ≡ leaving.words_of (read_assign assign.now) }
 {
     match assign {
         Assign::Include(morph) => morph.words.as_slice(),
@@ -102,7 +112,7 @@ fn words_of(assign: &Assign) -> &[Written]
 impl<'a> Links<'a> {
     fn next(&mut self) -> Option<&'a Written>
         ensures left { MatchOption result ((left_of_links self.old ≡ []) × (left_of_links self.new ≡ []))
-            (λ word. left_of_links self.old ≡ meaning.dependency (read_written word.now) ∷ left_of_links self.new) }
+            (λ word. left_of_links self.old ≡ leaving.dependency (read_written word.now) ∷ left_of_links self.new) }
         ensures own { self.new.own ≡ self.old.own }
     {
         'assigns: loop {
@@ -120,7 +130,7 @@ impl<'a> Links<'a> {
 impl<'a> DepIter<'a> {
     fn next_written(&mut self) -> Option<&'a Written>
         ensures { MatchOption result ((left self.old ≡ []) × (left self.new ≡ []))
-            (λ written. left self.old ≡ meaning.dependency (read_written written.now) ∷ left self.new) }
+            (λ written. left self.old ≡ leaving.dependency (read_written written.now) ∷ left self.new) }
     {
         if let Some(first) = self.first.take() {
             return Some(first);
@@ -136,7 +146,7 @@ impl<'a> DepIter<'a> {
         requires first { self.old.first ≡ None }
         requires second { self.old.second ≡ None }
         ensures { MatchOption result ((left self.old ≡ []) × (left self.new ≡ []))
-            (λ written. left self.old ≡ meaning.dependency (read_written written.now) ∷ left self.new) }
+            (λ written. left self.old ≡ leaving.dependency (read_written written.now) ∷ left self.new) }
     {
         'decls: loop {
             if let Some(word) = self.links.next() {

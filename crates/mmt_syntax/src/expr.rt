@@ -76,7 +76,19 @@ impl Exprs {
         ensures ok { OnOk result (expressions_of self.new ≡ expressions_of self.old ++ item ∷ []) }
         ensures err { OnErr result (expressions_of self.new ≡ expressions_of self.old) }
     {
+        self.make_room()?;
         self.items.push(item)?;
+        Ok(())
+    }
+
+    /// Makes room for one more where there is none, and for as many as there are: most applications have few arguments.
+    fn make_room(&mut self) -> Result<(), Memory>
+        ensures { expressions_of self.new ≡ expressions_of self.old }
+    {
+        let len = self.items.len();
+        if len == self.items.capacity() {
+            self.items.reserve_exact(len.max(1))?;
+        }
         Ok(())
     }
 

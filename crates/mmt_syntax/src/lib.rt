@@ -22,6 +22,3 @@ pub use morph::Morph;
 pub use origin::{Origin, Origins};
 pub use place::{Place, place_of};
 pub use written::{Words, Written};
-
-#[cfg(test)]
-mod tests;

@@ -22,6 +22,3 @@ pub use names::NameTable;
 pub use path::path_of;
 pub use sign::{Lexeme, Sign};
 pub use token::{Token, TokenKind};
-
-#[cfg(test)]
-mod tests;

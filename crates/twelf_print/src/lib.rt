@@ -7,8 +7,5 @@ mod expressions;
 mod modules;
 mod paths;
 mod places;
-#[cfg(test)]
-mod tests;
-
 pub use expressions::print_expr;
 pub use modules::print_module;

@@ -2,10 +2,9 @@
 use Rattle.std.proofs.Common.{◌≡◌, ℕ, true, false, List, [], ◌∷◌, refl, sym, ap, eqb-true, true≢false}
 use Rattle.text_meaning.specs.Tokens.{Span, Sign, Kind, Mark, Ident, SigWord, ViewWord, IncludeWord, StructWord, OtherWord, Stray, AssignSign, ColonSign, LeftParen, RightParen, LeftBracket, RightBracket, LeftBrace, RightBrace, DotSign, TypeWord, ArrowSign, BackSign, EqualSign, BlankSign, EndSign}
 use Rattle.name_meaning.specs.Names.{Path}
-use Rattle.text_meaning.specs.Trees.{Binder, Expr, Written, Assign, Decl}
+use Rattle.text_meaning.specs.Trees.{first_name, Binder, Expr, Written, Assign, Decl}
 use Rattle.text_meaning.specs.Parsing.{Simple, Atoms, NoAtoms, Row, Brace, Curly, Square, Owner, Waiting, State, code, expect, at_module, at_decl, after_domain, at_assign, more_words, class_ends, operand_ends, at_operand, at_variable, after_variable, expect_name, expect_path, is_refused, begins_operand}
 use Rattle.text_laws.proofs.Sound.{code_injective}
-use Rattle.mmt_syntax.specs.Dependencies.{first_name}
 use Rattle.twelf_reader.specs.Signs.{is_sign, is_path, is_name}
 use Rattle.twelf_reader.specs.Going.{left_out_at}
 use Rattle.twelf_reader.specs.declared.refusing.Spot.{Spot}

@@ -4,7 +4,7 @@ use Rattle.text_meaning.specs.Tokens.{Kind, Mark, Token, SigWord, ViewWord, Othe
 use Rattle.text_meaning.specs.Reading.{Answer, Syntax, TooDeep, Unsupported}
 use Rattle.text_meaning.specs.Parsing.{Simple, State, Refused, answer_on, fault, is_refused}
 use Rattle.mmt_syntax.specs.Readings.{read_span}
-use Rattle.mmt_syntax.specs.Dependencies.{first_name}
+use Rattle.text_meaning.specs.Trees.{first_name}
 use Rattle.mmt_syntax.specs.declared.written.Written.{Written}
 use Rattle.twelf_reader.specs.declared.fault.ReadFault.{ReadFault}
 use Rattle.twelf_reader.specs.declared.fault.ReadFault.TheVariants as faults

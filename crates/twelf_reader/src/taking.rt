@@ -4,7 +4,7 @@ ghost use Rattle.text_meaning.specs.Tokens as tokens;
 ghost use Rattle.text_meaning.specs.Tokens.{Mark, EndSign, ident, sign};
 ghost use Rattle.text_meaning.specs.Parsing.{as_written};
 ghost use Rattle.twelf_lexer.specs.Lexemes.{mark_of};
-ghost use Rattle.mmt_syntax.specs.Dependencies.{first_name};
+ghost use Rattle.text_meaning.specs.Trees.{first_name};
 ghost use Rattle.mmt_syntax.specs.Readings.{read_span, read_written};
 ghost use Rattle.twelf_reader.specs.Signs.{is_name, is_path, is_plain, is_sign};
 ghost use Rattle.twelf_reader.specs.Going.{simple_of};

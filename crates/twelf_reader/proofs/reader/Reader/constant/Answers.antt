@@ -2,9 +2,8 @@ use Rattle.std.proofs.Common.{◌++◌, [], ◌∷◌, refl, sym, ap, ap₂, ◌
 use Rattle.std.specs.Option.{option_map}
 use Rattle.std.proofs.lemmas.Result.{err_from_is_err_and}
 use Rattle.text_meaning.specs.Tokens.{ColonSign, ident}
-use Rattle.text_meaning.specs.Trees.{ConstDecl}
+use Rattle.text_meaning.specs.Trees.{first_name, ConstDecl}
 use Rattle.text_meaning.specs.Parsing.{AtDecl, ClassOf, Ends, Expect, answer_on, at_expr}
-use Rattle.mmt_syntax.specs.Dependencies.{first_name}
 use Rattle.mmt_syntax.specs.Readings.{read_expr, read_span, read_written}
 use Rattle.twelf_reader.specs.Left.{left}
 use Rattle.twelf_reader.specs.Going.{simple_of}

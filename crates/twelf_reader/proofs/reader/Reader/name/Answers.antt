@@ -1,7 +1,7 @@
 use Rattle.std.proofs.Common.{[], ◌∷◌, refl}
 use Rattle.text_meaning.specs.Tokens.{ident}
 use Rattle.text_meaning.specs.Parsing.{ExpectName}
-use Rattle.mmt_syntax.specs.Dependencies.{first_name}
+use Rattle.text_meaning.specs.Trees.{first_name}
 use Rattle.mmt_syntax.specs.Readings.{read_span}
 use Rattle.twelf_reader.specs.Left.{left}
 use Rattle.twelf_reader.specs.Going.{simple_of}

@@ -1,31 +1,33 @@
-//! The table of tokens, row by row, with ample memory.
+//! The table of tokens, row by row.
 
-use super::*;
 use std::alloc::{AllocError, Global};
 use std::test::Fail;
+use twelf_lexer::{LexFault, TokenKind, TokenList, lex, tokens};
 
-// The tokens of a text, each as its kind and span, or the fault.
-fn shown(alloc: Global, text: &[u8]) -> Result<String, AllocError> {
+/// The tokens of a text, each as its kind and span, and its end; or the fault.
+fn cut(alloc: Global, text: &[u8]) -> Result<String, AllocError> {
     if text.len() > 1000 {
-        return String::from_str(alloc, "too long for this test");
+        return String::from_str(alloc, "a long text");
     }
     match lex(alloc, text) {
         Ok(cut) => {
             let mut line = String::new(alloc);
-            for token in cut.tokens.as_slice() {
-                push_kind(&mut line, &token.kind)?;
-                line.push_str(format!(in alloc;
-                    " {}-{} ",
-                    token.span.from, token.span.to
-                )?.as_str())?;
-            }
-            line.push_str(format!(in alloc; "end {}", cut.end)?.as_str())?;
+            push_tokens(&mut line, &cut.tokens)?;
+            write!(line, "end {}", cut.end)?;
             Ok(line)
         }
         Err(LexFault::NotUtf8 { at }) => format!(in alloc; "not UTF-8 at {at}"),
         Err(LexFault::OpenComment { at }) => format!(in alloc; "open comment at {at}"),
         Err(LexFault::Memory) => String::from_str(alloc, "want of memory"),
     }
+}
+
+fn push_tokens(line: &mut String, tokens: &TokenList) -> Result<(), AllocError> {
+    for token in tokens.as_slice() {
+        push_kind(line, &token.kind)?;
+        write!(line, " {}-{} ", token.span.from, token.span.to)?;
+    }
+    Ok(())
 }
 
 fn push_kind(line: &mut String, kind: &TokenKind) -> Result<(), AllocError> {
@@ -99,7 +101,7 @@ fn the_table_of_tokens(rt: HostRuntime) -> Result<(), Fail> {
             "ident/\u{0}\u{1} 1-3 ident/\u{7f} 4-5 end 5",
         ),
     ] {
-        let line = shown(alloc, text.as_bytes())?;
+        let line = cut(alloc, text.as_bytes())?;
         assert_eq!(rt; line.as_str(), want, "{text}");
     }
     Ok(())
@@ -108,22 +110,17 @@ fn the_table_of_tokens(rt: HostRuntime) -> Result<(), Fail> {
 #[test]
 fn bytes_that_are_no_text(rt: HostRuntime) -> Result<(), Fail> {
     let alloc = rt.alloc();
-    let line = shown(alloc, b"a %. \xff")?;
+    let line = cut(alloc, b"a %. \xff")?;
     assert_eq!(rt; line.as_str(), "not UTF-8 at 5");
-    let line = shown(alloc, b"%{ \xc3")?;
+    let line = cut(alloc, b"%{ \xc3")?;
     assert_eq!(rt; line.as_str(), "not UTF-8 at 3");
     Ok(())
 }
 
 #[test]
 fn tokens_alone(rt: HostRuntime) -> Result<(), Fail> {
-    let alloc = rt.alloc();
-    match tokens(alloc, b"a : b.") {
-        Ok(list) => {
-            assert_eq!(rt; list.len(), 4);
-            assert!(rt; list.get(3).is_some());
-            assert!(rt; list.get(4).is_none());
-        }
+    match tokens(rt.alloc(), b"a : b.") {
+        Ok(list) => assert_eq!(rt; list.len(), 4),
         Err(_) => assert!(rt; false, "a text without a fault"),
     }
     Ok(())
