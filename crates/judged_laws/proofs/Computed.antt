@@ -38,7 +38,7 @@ use Rattle.printing_meaning.specs.PrintedTerms.{object_uses, family_uses, kind_u
 use Rattle.printing_meaning.specs.EditLines.{entry_lines}
 use Rattle.run_meaning.specs.ScriptCommands.{parted_at_space}
 use Rattle.run_meaning.specs.ScriptItems.{items_within, script_of}
-use Rattle.run_meaning.specs.ScriptOutput.{report_text, flat_text, carry_text, command_text, log_after, output_from, output_of}
+use Rattle.run_meaning.specs.ScriptOutput.{report_text, flat_text, carry_text, command_parts, log_after, output_from, output_of}
 use Rattle.run_meaning.specs.ScriptLogs.{script_log}
 use Rattle.run_meaning.specs.Files.{with_file, module_files, pieces_answer, file_answer, load}
 use Rattle.run_meaning.specs.Folders.{folder_output}
@@ -47,7 +47,7 @@ use Rattle.judged_meaning.specs.Carrying.{carry}
 use Rattle.judged_laws.specs.Examples.{NaturalNumbers, MisspelledName, Monoid, AssignedStructure, Ring, CarriedJudgement, ChangedPrefix, Cycle, AFolder, MisspelledInFolder, Generator, GeneratorWithWorkers, ImagesAreCounted}
 
 abbrev computing : Unit {0}
-unfolding is_utf8 chars utf8_valid_len is_among with_name with_names with_module without_module text_of direct walking reach_within reach image_of translate_object translate_head translate_family translate_kind translate_value compose differ_from structure_of with_all with_inclusion variable_from resolve structures_link row_from row_meaning cut_on lex resume answer_on parse read name_head expand_object expand_head expand_arguments expand_family expand_kind ends_in_type expand_class expand_family_value expand_value is_beginning read_assigns covered_tests rest_behind reached_by map_all assigned_map link_map dependencies declare_all judge verdict_under others_reached ungrounded_names rounds verdicts verdict_of digits encode lines_of text_before behind_end is_ascending library_of append_answer appended appended_all divide_on divide is_ungrounded marks free_from prefix_of path_text object_uses family_uses kind_uses object_text atomic_family_text family_text kind_text binders_text entry_lines parted_at_space items_within script_of report_text flat_text carry_text command_text log_after output_from output_of with_file module_files pieces_answer file_answer load folder_output number_after first_puts later_puts generated asked_after installs_of generator_output script_log carry
+unfolding is_utf8 chars utf8_valid_len is_among with_name with_names with_module without_module text_of direct walking reach_within reach image_of translate_object translate_head translate_family translate_kind translate_value compose differ_from structure_of with_all with_inclusion variable_from resolve structures_link row_from row_meaning cut_on lex resume answer_on parse read name_head expand_object expand_head expand_arguments expand_family expand_kind ends_in_type expand_class expand_family_value expand_value is_beginning read_assigns covered_tests rest_behind reached_by map_all assigned_map link_map dependencies declare_all judge verdict_under others_reached ungrounded_names rounds verdicts verdict_of digits encode lines_of text_before behind_end is_ascending library_of append_answer appended appended_all divide_on divide is_ungrounded marks free_from prefix_of path_text object_uses family_uses kind_uses object_text atomic_family_text family_text kind_text binders_text entry_lines parted_at_space items_within script_of report_text flat_text carry_text command_parts log_after output_from output_of with_file module_files pieces_answer file_answer load folder_output number_after first_puts later_puts generated asked_after installs_of generator_output script_log carry
 computing = tt
 
 pub natural_numbers : NaturalNumbers

@@ -11,13 +11,13 @@ use Rattle.log_meaning.specs.Append.{append_answer, appended}
 use Rattle.printing_meaning.specs.EditLines.{entry_lines}
 use Rattle.run_meaning.specs.ScriptCommands.{parted_at_space}
 use Rattle.run_meaning.specs.ScriptItems.{items_within, script_of}
-use Rattle.run_meaning.specs.ScriptOutput.{report_text, flat_text, carry_text, command_text, log_after, output_from, output_of}
+use Rattle.run_meaning.specs.ScriptOutput.{report_text, flat_text, carry_text, command_parts, log_after, output_from, output_of}
 use Rattle.walk_meaning.specs.Walks.{direct, walking, is_ungrounded, ungrounded_names}
-use Rattle.run_meaning.specs.ScriptLogs.{script_log, command_told, told_from, script_told}
+use Rattle.run_meaning.specs.ScriptLogs.{script_log, told_from, script_told}
 use Rattle.run_examples.specs.ScriptExamples.{NothingIsPrinted, PutTwiceDroppedTwice, LogIsPrinted, UnendedText, BadCommand, LongComment, TooLongComment, CutInCommand, CutBehindCommand, CutInEndLine, CutBehindEndLine, CutInName, NoJudgement, LastReturnCounts, LastReturnIsBlank, CommentOfBytes, OtherLines, LogIsLeft, TellsGrounded}
 
 abbrev computing : Unit {0}
-unfolding is_utf8 chars digits encode lines_of text_before behind_end is_among with_module without_module library_of text_of append_answer appended entry_lines parted_at_space items_within script_of report_text flat_text carry_text command_text log_after output_from output_of is_ascending with_name with_names direct walking is_ungrounded ungrounded_names script_log command_told told_from script_told
+unfolding is_utf8 chars digits encode lines_of text_before behind_end is_among with_module without_module library_of text_of append_answer appended entry_lines parted_at_space items_within script_of report_text flat_text carry_text command_parts log_after output_from output_of is_ascending with_name with_names direct walking is_ungrounded ungrounded_names script_log told_from script_told
 computing = tt
 
 pub nothing_is_printed : NothingIsPrinted

@@ -1,5 +1,5 @@
 -- Worked examples of folders, and of the generator's draws.
-use Rattle.std.specs.Prelude.{◌≡◌, ℕ, Bool, true, false, List, [], ◌∷◌, None, map, codes, if◌then◌else◌}
+use Rattle.std.specs.Prelude.{◌≡◌, ℕ, true, false, List, [], ◌∷◌, None, map, codes, if◌then◌else◌}
 use Rattle.lf_meaning.specs.Terms.{Ty}
 use Rattle.lf_meaning.specs.Signatures.{KindClass, Declaration}
 use Rattle.name_meaning.specs.Names.{same_name, Name, Text}

@@ -1,7 +1,9 @@
 -- Worked examples of scripts, for any judging.
 use Rattle.std.specs.Prelude.{◌≡◌, ℕ, List, [], ◌∷◌, ◌++◌, take, replicate, codes}
 use Rattle.name_meaning.specs.Names.{Name, Text}
-use Rattle.log_meaning.specs.Log.{Put, Drop}
+use Rattle.log_meaning.specs.Log.{Put, Drop, Library}
+use Rattle.printing_meaning.specs.VerdictLines.{Refused}
+use Rattle.printing_meaning.specs.CarriedLines.{NoView}
 use Rattle.run_meaning.specs.Judging.{Judging}
 use Rattle.run_meaning.specs.ScriptOutput.{output_of}
 use Rattle.run_meaning.specs.ScriptLogs.{script_log, script_told}
@@ -81,7 +83,14 @@ LogIsLeft =
 abbrev pub first_byte : Name → Text → List Name
 first_byte name text = take 1 text ∷ []
 
+abbrev pub telling_first : Judging
+telling_first = record {
+  dependencies = first_byte;
+  judged = λ (library : Library) (name : Name). Refused (record { at = 0; rule = []; label = [] });
+  carried = λ (library : Library) (name : Name) (text : Text). NoView;
+}
+
 abbrev pub TellsGrounded : Type 0
 TellsGrounded =
-    script_told first_byte (codes "put A\nA\n%%end\nput B\nD\n%%end\ncheck\nput C\nB\n%%end\nreport A\nreport C\nreport D\nflat B\ncarry C z : t\nlog\n")
+    script_told telling_first (codes "put A\nA\n%%end\nput B\nD\n%%end\ncheck\nput C\nB\n%%end\nreport A\nreport C\nreport D\nflat B\ncarry C z : t\nlog\n")
     ≡ record { name = codes "B"; version = 2 } ∷ record { name = codes "C"; version = 3 } ∷ record { name = codes "B"; version = 3 } ∷ record { name = codes "C"; version = 3 } ∷ []

@@ -36,7 +36,7 @@ output_is_in_order judging bytes =
       script = shape.is;
       output = ap (λ (items : List Item). output_from judging [] items) shape.is ∙ spoken_output judging [] shape.commands shape.fault;
       log = log_of_edits bytes shape.commands shape.fault shape.is;
-      told = told_of_commands bytes shape.commands shape.fault shape.is;
+      told = told_of_commands bytes shape.commands shape.fault shape.is judging;
     }
 
 -- without a fault, what follows prints behind

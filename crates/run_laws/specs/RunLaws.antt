@@ -1,18 +1,19 @@
 -- Laws of what a script prints (this profile).
-use Rattle.std.specs.Prelude.{◌≡◌, ℕ, ◌≤◌, Bool, true, false, List, [], ◌∷◌, ◌++◌, ◌==◌, length, map, Option, Some, None}
+use Rattle.std.specs.Prelude.{◌≡◌, ℕ, ◌<◌, ◌≤◌, Bool, true, false, List, [], ◌∷◌, ◌++◌, ◌-◌, ◌==◌, length, map, Option, Some, None, option_to_list}
 use Rattle.std.specs.List.{list_all}
 use Rattle.name_meaning.specs.Names.{Name, Text}
-use Rattle.log_meaning.specs.Log.{Put, Log}
+use Rattle.log_meaning.specs.Log.{Put, Log, library_of, version_of}
 use Rattle.name_meaning.specs.Limits.{text_limit}
 use Rattle.log_meaning.specs.Append.{append_answer, appended, appended_all}
-use Rattle.walk_meaning.specs.Walks.{Dependencies}
 use Rattle.output_meaning.specs.Printed.{bad_line, unended_line}
 use Rattle.run_meaning.specs.Judging.{Judging}
 use Rattle.printing_meaning.specs.EditLines.{edited_line}
-use Rattle.run_meaning.specs.ScriptCommands.{kept, Command}
+use Rattle.run_meaning.specs.ScriptCommands.{kept, Command, ReportCommand, CheckCommand, FlatCommand, CarryCommand}
+use Rattle.run_meaning.specs.Parts.{Telling, telling_of}
+use Rattle.run_meaning.specs.Generator.{grounded_names}
 use Rattle.run_meaning.specs.ScriptItems.{Item, Spoken, BadAt, UnendedAt, script_of}
-use Rattle.run_meaning.specs.ScriptOutput.{command_text, log_after, output_of, has_fault}
-use Rattle.run_meaning.specs.ScriptLogs.{edits_of, script_log, told_from, script_told, is_told_of}
+use Rattle.run_meaning.specs.ScriptOutput.{command_text, command_told, log_after, output_of, has_fault}
+use Rattle.run_meaning.specs.ScriptLogs.{edits_of, log_through, script_log, told_from, told_within, script_told, is_told_of}
 use Rattle.run_meaning.specs.Files.{File, load}
 use Rattle.run_meaning.specs.Folders.{folder_told}
 
@@ -45,7 +46,7 @@ pub record IsPlayed (judging : Judging) (bytes : List ℕ) : Type 0 where
   pub script : script_of bytes ≡ map Spoken commands ++ fault_items fault
   pub output : output_of judging bytes ≡ spoken_text judging [] commands ++ fault_text fault
   pub log : script_log bytes ≡ appended_all [] (edits_of commands)
-  pub told : (dependencies : Dependencies) → script_told dependencies bytes ≡ told_from dependencies [] commands
+  pub told : script_told judging bytes ≡ told_from judging [] commands
 
 abbrev pub OutputIsInOrder : Type 0
 OutputIsInOrder = (judging : Judging) (bytes : List ℕ) → IsPlayed judging bytes
@@ -75,12 +76,44 @@ LongerBeginsWithIt =
 -- of that version.
 abbrev pub TellingsAreGrounded : Type 0
 TellingsAreGrounded =
-    (dependencies : Dependencies) (bytes : List ℕ) → list_all (is_told_of dependencies (script_log bytes)) (script_told dependencies bytes) ≡ true
+    (judging : Judging) (bytes : List ℕ) → list_all (is_told_of judging.dependencies (script_log bytes)) (script_told judging bytes) ≡ true
 
 -- The same of what the lines of a folder tell.
 abbrev pub FolderTellingsAreGrounded : Type 0
 FolderTellingsAreGrounded =
-    (dependencies : Dependencies) (files : List File) → list_all (is_told_of dependencies (load files).log) (folder_told dependencies files) ≡ true
+    (judging : Judging) (files : List File) → list_all (is_told_of judging.dependencies (load files).log) (folder_told judging files) ≡ true
+
+-- The grounded modules over a log, in byte order, each at the version of the log.
+abbrev pub all_grounded : Judging → Log → List Telling
+all_grounded judging log =
+    map (λ (name : Name). record { name = name; version = version_of log }) (grounded_names judging.dependencies (library_of log))
+
+-- A report, a flat text and a carrying of a grounded name tell it, and of another name nothing; a check tells all grounded
+-- modules.
+pub record TellsAll (judging : Judging) (log : Log) : Type 0 where
+  pub report : (name : Name) → command_told judging log (ReportCommand name) ≡ option_to_list (telling_of judging.dependencies log name)
+  pub flat : (name : Name) → command_told judging log (FlatCommand name) ≡ option_to_list (telling_of judging.dependencies log name)
+  pub carry : (view : Name) (judgement : Text) → command_told judging log (CarryCommand view judgement) ≡ option_to_list (telling_of judging.dependencies log view)
+  pub check : command_told judging log CheckCommand ≡ all_grounded judging log
+
+abbrev pub CommandsTellAll : Type 0
+CommandsTellAll = (judging : Judging) (log : Log) → TellsAll judging log
+
+-- A checked folder tells all grounded modules.
+abbrev pub FoldersTellAll : Type 0
+FoldersTellAll = (judging : Judging) (files : List File) → folder_told judging files ≡ all_grounded judging (load files).log
+
+-- Where the bytes written go past the lines of some commands, all that these tell is told, and then what is told by those
+-- behind them; where they do not, what is behind these commands tells nothing.
+pub record IsToldWithin (judging : Judging) (count : ℕ) (log : Log) (commands more : List Command) : Type 0 where
+  pub past : length (spoken_text judging log commands) < count
+      → told_within judging count log (commands ++ more)
+      ≡ told_from judging log commands ++ told_within judging (count - length (spoken_text judging log commands)) (log_through log commands) more
+  pub within : count ≤ length (spoken_text judging log commands)
+      → told_within judging count log (commands ++ more) ≡ told_within judging count log commands
+
+abbrev pub BeginningsTellTheirs : Type 0
+BeginningsTellTheirs = (judging : Judging) (count : ℕ) (log : Log) (commands more : List Command) → IsToldWithin judging count log commands more
 
 -- The log answers to a kept text what it answers to the text, and is left as by the text; and the same is printed.
 pub record IsKeptAlike (log : Log) (name : Name) (text : Text) : Type 0 where

@@ -1,13 +1,12 @@
 -- What checking a folder prints (this profile).
-use Rattle.std.specs.Prelude.{ℕ, Bool, true, false, find, List, ◌++◌, ◌+◌, ◌||◌, not, length, filter, flat_map, nat_eq, Option, Some, None}
+use Rattle.std.specs.Prelude.{ℕ, Bool, true, false, find, List, [], ◌∷◌, ◌++◌, ◌+◌, ◌||◌, not, length, map, filter, nat_eq, Option, Some, None}
 use Rattle.name_meaning.specs.Names.{Name, same_name}
 use Rattle.log_meaning.specs.Log.{Log, Library, names_of, library_of, version_of}
 use Rattle.output_meaning.specs.Printed.{absent_line}
 use Rattle.printing_meaning.specs.VerdictLines.{Judged, Refused, AcceptedTheory, AcceptedView, judged_line}
 use Rattle.printing_meaning.specs.FolderLines.{file_line, place_in_file, files_line}
 use Rattle.run_meaning.specs.Judging.{Judging, environment_of}
-use Rattle.walk_meaning.specs.Walks.{Dependencies}
-use Rattle.run_meaning.specs.ScriptLogs.{Telling, told_of_all}
+use Rattle.run_meaning.specs.Parts.{Telling, Part, silent_part, part_about, parts_text, parts_told}
 use Rattle.run_meaning.specs.Files.{File, module_files, Origin, Damaged, Loading, load}
 
 -- The origin of a loaded module.
@@ -40,19 +39,23 @@ abbrev pub accepted_count : Judging → Library → ℕ
 accepted_count judging library = length (filter (λ (name : Name). not (is_refused (judging.judged library name))) (names_of library))
 
 -- The faults of files in order, the verdict lines of all modules in byte order, and the line of the counts.
-abbrev pub loading_text : Judging → ℕ → Loading → List ℕ
-loading_text judging files loading =
-    flat_map damaged_line loading.damaged
-    ++ flat_map (module_line judging loading) (names_of (library_of loading.log))
-    ++ files_line files (length (library_of loading.log)) (accepted_count judging (library_of loading.log)) (refused_count judging (library_of loading.log))
+abbrev pub loading_parts : Judging → ℕ → Loading → List Part
+loading_parts judging files loading =
+    map (λ (damaged : Damaged). silent_part (damaged_line damaged)) loading.damaged
+    ++ map (λ (name : Name). part_about judging.dependencies loading.log name (module_line judging loading name)) (names_of (library_of loading.log))
+    ++ silent_part (files_line files (length (library_of loading.log)) (accepted_count judging (library_of loading.log)) (refused_count judging (library_of loading.log)))
+    ∷ []
 
--- The output of a checked folder with these files.
+-- What checking a folder with these files prints.
+abbrev pub folder_parts : Judging → List File → List Part
+folder_parts judging files = loading_parts judging (length (module_files files)) (load files)
+
+-- The output of a checked folder with these files, and what its lines tell.
 unfoldable pub folder_output : Judging → List File → List ℕ
-folder_output judging files = loading_text judging (length (module_files files)) (load files)
+folder_output judging files = parts_text (folder_parts judging files)
 
--- What the lines of a checked folder tell.
-abbrev pub folder_told : Dependencies → List File → List Telling
-folder_told dependencies files = told_of_all dependencies (load files).log
+unfoldable pub folder_told : Judging → List File → List Telling
+folder_told judging files = parts_told (folder_parts judging files)
 
 -- A module or a file is refused.
 unfoldable pub has_refusal : Judging → List File → Bool

@@ -10,6 +10,7 @@ use Rattle.library_meaning.specs.Faces.{Environment, flat_signature, flat_of}
 use Rattle.printing_meaning.specs.VerdictLines.{Judged, Refused, AcceptedTheory, AcceptedView}
 use Rattle.printing_meaning.specs.GeneratorLines.{Counts, generator_line, installs_line}
 use Rattle.run_meaning.specs.Judging.{Judging, environment_of}
+use Rattle.run_meaning.specs.Parts.{Telling, told_of_all}
 use Rattle.run_meaning.specs.Folders.{accepted_count, refused_count}
 
 -- The number after a draw.
@@ -123,3 +124,14 @@ unfoldable pub generator_output : Judging → ℕ → ℕ → ℕ → ℕ → Li
 generator_output judging start modules edits workers =
     generator_line (counts_of judging modules edits (appended_all [] (generated start modules edits)))
     ++ (if nat_eq workers 0 then installs_line (installs_of judging.dependencies start modules edits) else [])
+
+-- What the generator tells where it is done: every grounded module has its verdict in the first full library, and again
+-- after each later edit.
+unfoldable pub told_after_each : Dependencies → Log → List Edit → List Telling
+told_after_each dependencies log [] = []
+told_after_each dependencies log (edit ∷ edits) = told_of_all dependencies (appended log edit) ++ told_after_each dependencies (appended log edit) edits
+
+unfoldable pub generator_told : Dependencies → ℕ → ℕ → ℕ → List Telling
+generator_told dependencies start modules edits =
+    told_of_all dependencies (appended_all [] (first_puts start modules))
+    ++ told_after_each dependencies (appended_all [] (first_puts start modules)) (later_puts start modules edits)

@@ -1,4 +1,5 @@
 pub mod Judging
+pub mod Parts
 pub mod ScriptCommands
 pub mod ScriptItems
 pub mod ScriptOutput

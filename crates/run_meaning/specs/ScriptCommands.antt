@@ -1,6 +1,6 @@
 -- How the lines of a script are cut into commands, all of them (this profile).
 use Rattle.name_meaning.specs.Limits.{put_limit, line_limit, text_limit}
-use Rattle.std.specs.Prelude.{ℕ, suc, List, [], ◌∷◌, ◌==◌, ◌^◌, length, take, drop, nat_eq, nat_lt, Option, Some, None, option_map, if◌then◌else◌, codes}
+use Rattle.std.specs.Prelude.{ℕ, suc, List, [], ◌∷◌, ◌==◌, length, take, drop, nat_eq, nat_lt, Option, Some, None, option_map, if◌then◌else◌, codes}
 use Rattle.std.specs.List.{starts_with}
 use Rattle.std.specs.Str.{bytes_eq}
 use Rattle.output_meaning.specs.Lines.{content_of}

@@ -1,11 +1,12 @@
 -- The log that a script leaves, and of which modules its lines tell (this profile).
-use Rattle.std.specs.Prelude.{ℕ, Bool, List, [], ◌∷◌, ◌++◌, ◌&&◌, take, fold, flat_map, filter_map, nat_le, Option, Some, None, if◌then◌else◌}
-use Rattle.name_meaning.specs.Names.{Name}
-use Rattle.log_meaning.specs.Log.{Edit, Log, names_of, library_of, version_of}
+use Rattle.std.specs.Prelude.{ℕ, Bool, List, [], ◌∷◌, ◌++◌, ◌-◌, ◌&&◌, length, take, fold, filter_map, nat_eq, nat_le, Option, Some, None, if◌then◌else◌}
+use Rattle.log_meaning.specs.Log.{Edit, Log, library_of, version_of}
 use Rattle.walk_meaning.specs.Walks.{Dependencies, is_grounded}
 use Rattle.run_meaning.specs.ScriptCommands.{Command, EditCommand, ReportCommand, CheckCommand, FlatCommand, CarryCommand, LogCommand, BlankCommand}
 use Rattle.run_meaning.specs.ScriptItems.{Item, Spoken, BadAt, UnendedAt, script_of}
-use Rattle.run_meaning.specs.ScriptOutput.{log_after}
+use Rattle.run_meaning.specs.ScriptOutput.{log_after, command_text, command_told}
+use Rattle.run_meaning.specs.Judging.{Judging}
+use Rattle.run_meaning.specs.Parts.{Telling}
 
 -- The command of an item, if it is no fault.
 abbrev pub command_of : Item → Option Command
@@ -39,40 +40,25 @@ log_through log commands = fold log_after log commands
 unfoldable pub script_log : List ℕ → Log
 script_log bytes = log_through [] (commands_of (script_of bytes))
 
--- The verdict, the flat text or the carrying of this name is told at this version.
-pub record Telling : Type 0 where
-  pub name : Name
-  pub version : ℕ
-
--- What the lines of a name over a log tell of a module that is present and grounded. Of an absent name there is nothing
--- to tell, and an ungrounded one has its verdict without an install.
-abbrev pub told_of : Dependencies → Log → Name → List Telling
-told_of dependencies log name =
-    if is_grounded dependencies (library_of log) name then record { name = name; version = version_of log } ∷ [] else []
-
--- What the lines of all modules tell.
-abbrev pub told_of_all : Dependencies → Log → List Telling
-told_of_all dependencies log = flat_map (told_of dependencies log) (names_of (library_of log))
-
--- What the lines of a command over the log before it tell.
-unfoldable pub command_told : Dependencies → Log → Command → List Telling
-command_told dependencies log (EditCommand edit) = []
-command_told dependencies log (ReportCommand name) = told_of dependencies log name
-command_told dependencies log CheckCommand = told_of_all dependencies log
-command_told dependencies log (FlatCommand name) = told_of dependencies log name
-command_told dependencies log (CarryCommand view judgement) = told_of dependencies log view
-command_told dependencies log LogCommand = []
-command_told dependencies log BlankCommand = []
-
 -- What the lines of these commands tell, over this log.
-unfoldable pub told_from : Dependencies → Log → List Command → List Telling
-told_from dependencies log [] = []
-told_from dependencies log (command ∷ commands) =
-    command_told dependencies log command ++ told_from dependencies (log_after log command) commands
+unfoldable pub told_from : Judging → Log → List Command → List Telling
+told_from judging log [] = []
+told_from judging log (command ∷ commands) = command_told judging log command ++ told_from judging (log_after log command) commands
 
 -- What the lines of a script tell, in order.
-unfoldable pub script_told : Dependencies → List ℕ → List Telling
-script_told dependencies bytes = told_from dependencies [] (commands_of (script_of bytes))
+unfoldable pub script_told : Judging → List ℕ → List Telling
+script_told judging bytes = told_from judging [] (commands_of (script_of bytes))
+
+-- What those of these commands tell whose lines begin within the first so many bytes.
+unfoldable pub told_within : Judging → ℕ → Log → List Command → List Telling
+told_within judging count log [] = []
+told_within judging count log (command ∷ commands) =
+    if nat_eq count 0 then []
+    else command_told judging log command ++ told_within judging (count - length (command_text judging log command)) (log_after log command) commands
+
+-- What is told of a script where so many bytes of its output are written.
+abbrev pub told_by : Judging → ℕ → List ℕ → List Telling
+told_by judging count bytes = told_within judging count [] (commands_of (script_of bytes))
 
 -- The version is one of the log, and the name is present and grounded in the library of that version.
 abbrev pub is_told_of : Dependencies → Log → Telling → Bool

@@ -1,5 +1,5 @@
 -- What a script prints (this profile).
-use Rattle.std.specs.Prelude.{ℕ, Bool, true, false, List, [], ◌∷◌, ◌++◌, flat_map, Option, Some, None}
+use Rattle.std.specs.Prelude.{ℕ, Bool, true, false, List, [], ◌∷◌, ◌++◌, map, Option, Some, None}
 use Rattle.output_meaning.specs.Printed.{absent_line, bad_line, unended_line}
 use Rattle.name_meaning.specs.Names.{Name, Text}
 use Rattle.log_meaning.specs.Log.{Log, Library, names_of, library_of, text_of, version_of}
@@ -10,6 +10,7 @@ use Rattle.printing_meaning.specs.EditLines.{edited_line, log_text}
 use Rattle.printing_meaning.specs.VerdictLines.{Judged, Refused, AcceptedTheory, AcceptedView, place_text, refused_line, judged_line}
 use Rattle.printing_meaning.specs.CarriedLines.{carried_line}
 use Rattle.run_meaning.specs.Judging.{Judging, environment_of, seen_along}
+use Rattle.run_meaning.specs.Parts.{Telling, Part, silent_part, part_about, parts_text, parts_told}
 use Rattle.run_meaning.specs.ScriptCommands.{Command, EditCommand, ReportCommand, CheckCommand, FlatCommand, CarryCommand, LogCommand, BlankCommand}
 use Rattle.run_meaning.specs.ScriptItems.{Item, Spoken, BadAt, UnendedAt, script_of}
 
@@ -37,23 +38,30 @@ flat_by judging library version name (Some text) =
 unfoldable pub flat_text : Judging → Log → Name → List ℕ
 flat_text judging log name = flat_by judging (library_of log) (version_of log) name (text_of (library_of log) name)
 
--- The verdict line of every module, in byte order of names.
-abbrev pub check_text : Judging → Log → List ℕ
-check_text judging log = flat_map (report_text judging log) (names_of (library_of log))
-
 unfoldable pub carry_text : Judging → Log → Name → Text → List ℕ
 carry_text judging log view judgement =
     carried_line view (version_of log) (seen_along (environment_of judging (library_of log)) view) (judging.carried (library_of log) view judgement)
 
--- The lines of a command over the log before it.
-unfoldable pub command_text : Judging → Log → Command → List ℕ
-command_text judging log (EditCommand edit) = edited_line log edit
-command_text judging log (ReportCommand name) = report_text judging log name
-command_text judging log CheckCommand = check_text judging log
-command_text judging log (FlatCommand name) = flat_text judging log name
-command_text judging log (CarryCommand view judgement) = carry_text judging log view judgement
-command_text judging log LogCommand = log_text log
-command_text judging log BlankCommand = []
+-- The verdict line of a name, as a part.
+abbrev pub report_part : Judging → Log → Name → Part
+report_part judging log name = part_about judging.dependencies log name (report_text judging log name)
+
+-- What a command prints over the log before it. A check prints the verdict line of every module, in byte order of names.
+unfoldable pub command_parts : Judging → Log → Command → List Part
+command_parts judging log (EditCommand edit) = silent_part (edited_line log edit) ∷ []
+command_parts judging log (ReportCommand name) = report_part judging log name ∷ []
+command_parts judging log CheckCommand = map (report_part judging log) (names_of (library_of log))
+command_parts judging log (FlatCommand name) = part_about judging.dependencies log name (flat_text judging log name) ∷ []
+command_parts judging log (CarryCommand view judgement) = part_about judging.dependencies log view (carry_text judging log view judgement) ∷ []
+command_parts judging log LogCommand = silent_part (log_text log) ∷ []
+command_parts judging log BlankCommand = []
+
+-- The lines of a command over the log before it, and what they tell.
+abbrev pub command_text : Judging → Log → Command → List ℕ
+command_text judging log command = parts_text (command_parts judging log command)
+
+abbrev pub command_told : Judging → Log → Command → List Telling
+command_told judging log command = parts_told (command_parts judging log command)
 
 -- The log after a command. Edits alone change it.
 unfoldable pub log_after : Log → Command → Log

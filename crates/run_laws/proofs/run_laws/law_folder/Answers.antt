@@ -1,6 +1,8 @@
-use Rattle.run_meaning.specs.Files.{load}
-use Rattle.run_laws.proofs.Logs.{all_told_at}
+use Rattle.run_laws.proofs.Logs.{folders_tell_all, folder_tellings_are_grounded}
 use Rattle.run_laws.proofs.run_laws.law_folder.Goals as goal
 
-pub returns : goal.returns
-returns c = λ dependencies files. all_told_at dependencies (load files).log
+pub returns-clause-grounded : goal.returns-clause-grounded
+returns-clause-grounded c = folder_tellings_are_grounded
+
+pub returns-clause-all : goal.returns-clause-all
+returns-clause-all c = folders_tell_all

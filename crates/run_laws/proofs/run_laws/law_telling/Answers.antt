@@ -1,0 +1,8 @@
+use Rattle.run_laws.proofs.Logs.{commands_tell_all, beginnings_tell}
+use Rattle.run_laws.proofs.run_laws.law_telling.Goals as goal
+
+pub returns-clause-all : goal.returns-clause-all
+returns-clause-all c = commands_tell_all
+
+pub returns-clause-beginnings : goal.returns-clause-beginnings
+returns-clause-beginnings c = beginnings_tell
