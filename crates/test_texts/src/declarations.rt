@@ -18,8 +18,8 @@ fn defined(alloc: Global, text: &str) -> Result<(Box<Class>, Option<Box<Value>>)
 }
 
 /// The declarations of a text: `c : CLASS` or `c : CLASS = VALUE`.
-pub fn signature(alloc: Global, text: &str) -> Result<FlatSig, Fail> {
-    let mut sig = FlatSig::new(alloc);
+pub fn signature(alloc: Global, text: &str) -> Result<Box<FlatSig>, Fail> {
+    let mut sig = Box::new(alloc, FlatSig::new(alloc))?;
     for line in text.lines() {
         let (name, rest) = line.split_once(" : ").ok_or("no class")?;
         declare(alloc, &mut sig, name, rest)?;
@@ -28,16 +28,21 @@ pub fn signature(alloc: Global, text: &str) -> Result<FlatSig, Fail> {
 }
 
 fn declare(alloc: Global, sig: &mut FlatSig, name: &str, rest: &str) -> Result<(), Fail> {
+    let decl = declaration(alloc, name, rest)?;
+    Ok(sig.push(Box::into_inner(decl))?)
+}
+
+fn declaration(alloc: Global, name: &str, rest: &str) -> Result<Box<FlatDecl>, Fail> {
     let (class, value) = defined(alloc, rest)?;
     let name = constant(alloc, name)?;
     let class = Box::into_inner(class);
     let value = value.map(|value| Box::into_inner(value));
-    Ok(sig.push(FlatDecl { name, class, value })?)
+    Ok(Box::new(alloc, FlatDecl { name, class, value })?)
 }
 
 /// The map of a text: `c : CLASS = VALUE` gives c that image.
-pub fn map(alloc: Global, text: &str) -> Result<HeadMap, Fail> {
-    let mut map = HeadMap::new(alloc);
+pub fn map(alloc: Global, text: &str) -> Result<Box<HeadMap>, Fail> {
+    let mut map = Box::new(alloc, HeadMap::new(alloc))?;
     for line in text.lines() {
         let (name, rest) = line.split_once(" : ").ok_or("no class")?;
         let (written, given) = rest.split_once(" = ").ok_or("no value")?;
@@ -62,13 +67,12 @@ fn add_image(
 }
 
 /// The context of a text: `x : A` is a variable with its family, among the variables before it.
-pub fn context(alloc: Global, text: &str) -> Result<Ctx, Fail> {
-    let mut ctx = Ctx::new(alloc);
+pub fn context(alloc: Global, text: &str) -> Result<Box<Ctx>, Fail> {
+    let mut ctx = Box::new(alloc, Ctx::new(alloc))?;
     let mut names = String::new(alloc);
     for line in text.lines() {
         let (name, written) = line.split_once(" : ").ok_or("no family")?;
-        let family = family(alloc, names.as_str(), written)?;
-        ctx.add(Box::into_inner(family))?;
+        ctx.add(Box::into_inner(family(alloc, names.as_str(), written)?))?;
         names.push_str(" ")?;
         names.push_str(name)?;
     }

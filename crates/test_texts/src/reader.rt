@@ -6,11 +6,19 @@ use std::alloc::Global;
 use std::mem;
 use std::test::Fail;
 
-/// A term that has been read whole. A head with its arguments is an object or a family, as its place wants.
+/// A head with the arguments so far. It is an object or a family, as its place wants.
+#[derive(Drop)]
+pub(crate) struct Headed {
+    pub(crate) head: Head,
+    pub(crate) spine: Spine,
+}
+
+/// A term that has been read whole. What it holds is boxed: a box is let go by a call, and a term by cases, which makes
+/// proofs long.
 #[derive(Drop)]
 pub(crate) enum Term {
     Lambda(Box<Obj>),
-    Headed { head: Head, spine: Spine },
+    Headed(Box<Headed>),
     Product(Box<Fam>),
     Kind(Box<Kind>),
 }
@@ -19,7 +27,10 @@ impl Term {
     pub(crate) fn into_object(self, alloc: Global) -> Result<Box<Obj>, Fail> {
         match self {
             Term::Lambda(object) => Ok(object),
-            Term::Headed { head, spine } => Ok(Box::new(alloc, Obj::At { head, spine })?),
+            Term::Headed(headed) => {
+                let Headed { head, spine } = Box::into_inner(headed);
+                Ok(Box::new(alloc, Obj::At { head, spine })?)
+            }
             _ => Err(Fail::from("no object")),
         }
     }
@@ -27,10 +38,7 @@ impl Term {
     pub(crate) fn into_family(self, alloc: Global) -> Result<Box<Fam>, Fail> {
         match self {
             Term::Product(family) => Ok(family),
-            Term::Headed { head, spine } => match head {
-                Head::Con(head) => Ok(Box::new(alloc, Fam::At { head, spine })?),
-                Head::Var(_) => Err(Fail::from("a variable is no family")),
-            },
+            Term::Headed(headed) => headed_family(alloc, headed),
             _ => Err(Fail::from("no family")),
         }
     }
@@ -43,19 +51,27 @@ impl Term {
     }
 }
 
+fn headed_family(alloc: Global, headed: Box<Headed>) -> Result<Box<Fam>, Fail> {
+    let Headed { head, spine } = Box::into_inner(headed);
+    match head {
+        Head::Con(head) => Ok(Box::new(alloc, Fam::At { head, spine })?),
+        Head::Var(_) => Err(Fail::from("a variable is no family")),
+    }
+}
+
 /// What is not whole yet.
 #[derive(Drop)]
-enum Frame {
+pub(crate) enum Frame {
     /// A λ whose body is read.
     Lambda,
     /// A product whose domain is read, with the name of its variable.
-    Domain(String),
+    Domain(Box<String>),
     /// A product whose body is read.
     Product(Box<Fam>),
     /// An opening parenthesis.
     Open,
     /// A term that is whole up to further arguments.
-    Term(Term),
+    Term(Box<Term>),
 }
 
 /// What a name is read as.
@@ -79,18 +95,24 @@ pub(crate) struct Reader {
 
 impl Reader {
     /// Nothing yet, in the scope of free variables whose names the text has, the innermost last.
-    pub(crate) fn new(alloc: Global, free: &str) -> Result<Reader, Fail> {
-        let mut scope = Vec::new(alloc);
-        for name in free.split_whitespace() {
-            scope.push(String::from_str(alloc, name)?)?;
-        }
-        Ok(Reader {
+    pub(crate) fn new(alloc: Global, free: &str) -> Result<Box<Reader>, Fail> {
+        let empty = Reader {
             alloc,
             frames: Vec::new(alloc),
-            scope,
+            scope: Vec::new(alloc),
             word: String::new(alloc),
             place: Place::Term,
-        })
+        };
+        let mut reader = Box::new(alloc, empty)?;
+        for name in free.split_whitespace() {
+            reader.enter(name)?;
+        }
+        Ok(reader)
+    }
+
+    /// A variable of that name is the innermost from here on.
+    fn enter(&mut self, name: &str) -> Result<(), Fail> {
+        Ok(self.scope.push(String::from_str(self.alloc, name)?)?)
     }
 
     pub(crate) fn take(&mut self, sign: char) -> Result<(), Fail> {
@@ -105,12 +127,13 @@ impl Reader {
     }
 
     /// The term that all signs together make.
-    pub(crate) fn finish(&mut self) -> Result<Term, Fail> {
+    pub(crate) fn finish(&mut self) -> Result<Box<Term>, Fail> {
         self.end_word()?;
-        let (term, opened_by) = self.close()?;
-        match opened_by {
-            None => Ok(term),
-            Some(_) => Err(Fail::from("an open bracket")),
+        let term = self.close()?;
+        if self.frames.is_empty() {
+            Ok(term)
+        } else {
+            Err(Fail::from("an open bracket"))
         }
     }
 
@@ -126,8 +149,8 @@ impl Reader {
                 Ok(())
             }
             _ => {
-                let (term, opened_by) = self.close()?;
-                self.closed(term, opened_by)
+                let term = self.close()?;
+                self.closed(term)
             }
         }
     }
@@ -144,7 +167,10 @@ impl Reader {
                 self.scope.push(word)?;
                 Ok(self.frames.push(Frame::Lambda)?)
             }
-            Place::ProductName => Ok(self.frames.push(Frame::Domain(word))?),
+            Place::ProductName => {
+                let word = Box::new(self.alloc, word)?;
+                Ok(self.frames.push(Frame::Domain(word))?)
+            }
         }
     }
 
@@ -152,13 +178,15 @@ impl Reader {
         if word == "->" {
             return self.take_arrow();
         }
+        let alloc = self.alloc;
         if word == "type" {
-            let kind = Term::Kind(Box::new(self.alloc, Kind::Ty)?);
-            return self.take_term(kind);
+            let kind = Box::new(alloc, Kind::Ty)?;
+            return self.take_term(Box::new(alloc, Term::Kind(kind))?);
         }
         let head = self.head(word)?;
-        let spine = Spine::new(self.alloc);
-        self.take_term(Term::Headed { head, spine })
+        let spine = Spine::new(alloc);
+        let headed = Box::new(alloc, Headed { head, spine })?;
+        self.take_term(Box::new(alloc, Term::Headed(headed))?)
     }
 
     /// The head that a word names.
@@ -179,22 +207,24 @@ impl Reader {
     /// The family before an arrow becomes the domain of a product.
     fn take_arrow(&mut self) -> Result<(), Fail> {
         match self.frames.pop() {
-            Some(Frame::Term(term)) => {
-                let domain = term.into_family(self.alloc)?;
-                self.scope.push(String::from_str(self.alloc, "->")?)?;
-                Ok(self.frames.push(Frame::Product(domain))?)
-            }
+            Some(Frame::Term(term)) => self.open_product("->", term),
             _ => Err(Fail::from("an arrow without a domain")),
         }
     }
 
+    /// The body of a product with that domain is read from here on.
+    fn open_product(&mut self, name: &str, domain: Box<Term>) -> Result<(), Fail> {
+        let domain = Box::into_inner(domain).into_family(self.alloc)?;
+        self.frames.push(Frame::Product(domain))?;
+        self.enter(name)
+    }
+
     /// A whole term is an argument where a head stands before it.
-    fn take_term(&mut self, term: Term) -> Result<(), Fail> {
+    fn take_term(&mut self, term: Box<Term>) -> Result<(), Fail> {
         match self.frames.pop() {
-            Some(Frame::Term(Term::Headed { head, mut spine })) => {
-                let argument = term.into_object(self.alloc)?;
-                spine.add(Box::into_inner(argument))?;
-                Ok(self.frames.push(Frame::Term(Term::Headed { head, spine }))?)
+            Some(Frame::Term(before)) => {
+                let applied = apply(self.alloc, before, term)?;
+                Ok(self.frames.push(Frame::Term(applied))?)
             }
             Some(frame) => {
                 self.frames.push(frame)?;
@@ -204,49 +234,66 @@ impl Reader {
         }
     }
 
-    /// The term behind the last opening bracket, and that bracket.
-    fn close(&mut self) -> Result<(Term, Option<Frame>), Fail> {
+    /// The term behind the last opening bracket, which stays.
+    fn close(&mut self) -> Result<Box<Term>, Fail> {
         let Some(Frame::Term(last)) = self.frames.pop() else {
             return Err(Fail::from("no term"));
         };
         let mut term = last;
         while let Some(frame) = self.frames.pop() {
-            term = match frame {
-                Frame::Lambda => lambda(self.alloc, term)?,
-                Frame::Product(domain) => product(self.alloc, domain, term)?,
-                other => return Ok((term, Some(other))),
-            };
+            match frame {
+                Frame::Lambda => term = lambda(self.alloc, term)?,
+                Frame::Product(domain) => term = product(self.alloc, domain, term)?,
+                opening => {
+                    self.frames.push(opening)?;
+                    return Ok(term);
+                }
+            }
             let left = self.scope.pop();
             drop(left);
         }
-        Ok((term, None))
+        Ok(term)
     }
 
-    /// What stood in a pair of brackets.
-    fn closed(&mut self, term: Term, opened_by: Option<Frame>) -> Result<(), Fail> {
-        match opened_by {
+    /// A term stood in a pair of brackets.
+    fn closed(&mut self, term: Box<Term>) -> Result<(), Fail> {
+        match self.frames.pop() {
             Some(Frame::Open) => self.take_term(term),
-            Some(Frame::Domain(name)) => {
-                let domain = term.into_family(self.alloc)?;
-                self.scope.push(name)?;
-                Ok(self.frames.push(Frame::Product(domain))?)
-            }
+            Some(Frame::Domain(name)) => self.open_product(name.as_str(), term),
             _ => Err(Fail::from("a closing bracket alone")),
         }
     }
 }
 
-fn lambda(alloc: Global, body: Term) -> Result<Term, Fail> {
-    let body = body.into_object(alloc)?;
-    Ok(Term::Lambda(Box::new(alloc, Obj::Lam(body))?))
+/// A head with one argument more.
+fn apply(alloc: Global, before: Box<Term>, argument: Box<Term>) -> Result<Box<Term>, Fail> {
+    match Box::into_inner(before) {
+        Term::Headed(headed) => {
+            let mut headed = headed;
+            let argument = Box::into_inner(argument).into_object(alloc)?;
+            headed.spine.add(Box::into_inner(argument))?;
+            Ok(Box::new(alloc, Term::Headed(headed))?)
+        }
+        _ => Err(Fail::from("an argument behind no head")),
+    }
 }
 
-fn product(alloc: Global, domain: Box<Fam>, body: Term) -> Result<Term, Fail> {
-    match body {
-        Term::Kind(kind) => Ok(Term::Kind(Box::new(alloc, Kind::Pi(domain, kind))?)),
+fn lambda(alloc: Global, body: Box<Term>) -> Result<Box<Term>, Fail> {
+    let body = Box::into_inner(body).into_object(alloc)?;
+    let object = Box::new(alloc, Obj::Lam(body))?;
+    Ok(Box::new(alloc, Term::Lambda(object))?)
+}
+
+fn product(alloc: Global, domain: Box<Fam>, body: Box<Term>) -> Result<Box<Term>, Fail> {
+    match Box::into_inner(body) {
+        Term::Kind(kind) => {
+            let kind = Box::new(alloc, Kind::Pi(domain, kind))?;
+            Ok(Box::new(alloc, Term::Kind(kind))?)
+        }
         body => {
             let body = body.into_family(alloc)?;
-            Ok(Term::Product(Box::new(alloc, Fam::Pi(domain, body))?))
+            let family = Box::new(alloc, Fam::Pi(domain, body))?;
+            Ok(Box::new(alloc, Term::Product(family))?)
         }
     }
 }

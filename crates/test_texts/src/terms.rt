@@ -1,12 +1,12 @@
 //! Terms, classifiers and values.
 
 use crate::names::constant;
-use crate::reader::{Reader, Term};
+use crate::reader::{Headed, Reader, Term};
 use lf_terms::{Class, Fam, Kind, Obj, Simple, Spine, Value, erase};
 use std::alloc::Global;
 use std::test::Fail;
 
-fn read(alloc: Global, free: &str, text: &str) -> Result<Term, Fail> {
+fn read(alloc: Global, free: &str, text: &str) -> Result<Box<Term>, Fail> {
     let mut reader = Reader::new(alloc, free)?;
     for sign in text.chars() {
         reader.take(sign)?;
@@ -16,24 +16,28 @@ fn read(alloc: Global, free: &str, text: &str) -> Result<Term, Fail> {
 
 /// The object of a text, among free variables whose names `free` has, the innermost last.
 pub fn object(alloc: Global, free: &str, text: &str) -> Result<Box<Obj>, Fail> {
-    read(alloc, free, text)?.into_object(alloc)
+    Box::into_inner(read(alloc, free, text)?).into_object(alloc)
 }
 
 /// The family of a text, among free variables.
 pub fn family(alloc: Global, free: &str, text: &str) -> Result<Box<Fam>, Fail> {
-    read(alloc, free, text)?.into_family(alloc)
+    Box::into_inner(read(alloc, free, text)?).into_family(alloc)
 }
 
 /// The kind of a text, among free variables.
 pub fn kind(alloc: Global, free: &str, text: &str) -> Result<Box<Kind>, Fail> {
-    read(alloc, free, text)?.into_kind()
+    Box::into_inner(read(alloc, free, text)?).into_kind()
 }
 
 /// The arguments of a text, among free variables: none of an empty text.
-pub fn spine(alloc: Global, free: &str, text: &str) -> Result<Spine, Fail> {
+pub fn spine(alloc: Global, free: &str, text: &str) -> Result<Box<Spine>, Fail> {
     let headed = format!(in alloc; "h {text}")?;
-    match read(alloc, free, headed.as_str())? {
-        Term::Headed { head: _, spine } => Ok(spine),
+    match Box::into_inner(read(alloc, free, headed.as_str())?) {
+        Term::Headed(headed) => {
+            let Headed { head, spine } = Box::into_inner(headed);
+            drop(head);
+            Ok(Box::new(alloc, spine)?)
+        }
         _ => Err(Fail::from("no arguments")),
     }
 }
@@ -46,7 +50,7 @@ pub fn simple(alloc: Global, text: &str) -> Result<Box<Simple>, Fail> {
 
 /// The kind of a text, or its family where it is none.
 pub fn class(alloc: Global, text: &str) -> Result<Box<Class>, Fail> {
-    match read(alloc, "", text)? {
+    match Box::into_inner(read(alloc, "", text)?) {
         Term::Kind(kind) => Ok(Box::new(alloc, Class::Kind(Box::into_inner(kind)))?),
         term => {
             let family = term.into_family(alloc)?;
