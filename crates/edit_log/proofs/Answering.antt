@@ -118,9 +118,6 @@ pub made_appended : (log : Log) (e : Edit) (v : ℕ) → append_answer log e ≡
 unfolding appended
 made_appended log e v h = ap (log_after log e) h
 
-pub made_within : (log : Log) (e : Edit) (v : ℕ) → append_answer log e ≡ Made v → IsWithinLimits log → IsWithinLimits (log ++ e ∷ [])
-made_within log e v h w = subst IsWithinLimits (made_appended log e v h) (limits_kept log e w)
-
 -- an edit that is not made leaves the log
 pub same_appended : (log : Log) (e : Edit) (v : ℕ) → append_answer log e ≡ Same v → appended log e ≡ log
 unfolding appended
@@ -129,6 +126,3 @@ same_appended log e v h = ap (log_after log e) h
 pub absent_appended : (log : Log) (e : Edit) (v : ℕ) → append_answer log e ≡ Absent v → appended log e ≡ log
 unfolding appended
 absent_appended log e v h = ap (log_after log e) h
-
-pub size_after : (log : Log) (e : Edit) → total_size (log ++ e ∷ []) ≡ total_size log + size_of e
-size_after log e = let h = sum_by-append size_of log (e ∷ []) in omega (arith, h)

@@ -15,6 +15,7 @@ use Rattle.lf_terms.specs.declared.obj.Head.TheVariants as head
 use Rattle.lf_terms.specs.declared.obj.Obj.{Obj}
 use Rattle.lf_check.specs.Stops.{stopped_by, Stops}
 use Rattle.lf_check.specs.declared.stops.Stop.{Stop}
+use Rattle.lf_terms.proofs.SpineSameness.{no_arguments}
 
 -- no argument is taken at an atomic family
 pub no_function : (s : Stop) (a : Family) (p : AtomicFamily) (step : ℕ) (m : Object) (check : Family → Option Fault) → a ≡ AtFamily p → Stops s (Some (record { kind = NotAFunction; at = step ∷ [] }))
@@ -33,10 +34,6 @@ no_kind_function s k step m check e = by (stopped_by s)
     by : (o : Option Fault) → IfSome o (λ f. Some (record { kind = NotAFunction; at = step ∷ [] }) ≡ Some f) → IfSome o (λ f. family_application_answer (Ok k) step m check ≡ Err f)
     by None g = g
     by (Some f) g = let is : record { kind = NotAFunction; at = step ∷ [] } ≡ f = cc in ap (λ l. family_application_answer (Ok l) step m check) e ∙ ap Err is
-
-no_arguments : (h : Head) → argument_count (read_head h) ≡ 0
-no_arguments (head.Var i) = refl
-no_arguments (head.Con q) = refl
 
 module _ (sig : Signature) (context : Context) where
   pub spine_begins : (h : Head) (ms : List Object) (answer : Result Family Fault) → synthesised sig context (read_head h) ≡ answer

@@ -105,6 +105,7 @@ impl<'a> Environment<'a> {
     {
         match self.sig.place(name) {
             Some(place) if place < self.count => self.sig.at(place),
+            // two arms: each leaves its own fact for the proof
             Some(_) => None,
             None => None,
         }

@@ -72,7 +72,7 @@ fn synthesise_kind(
     Ok(kind)
 }
 
-/// The kind so far takes an argument, which the number enters.
+/// The kind so far takes an argument. The number is that of the argument in a path.
 fn take_argument(
     alloc: Global,
     environment: &Environment<'_>,

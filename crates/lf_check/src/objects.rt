@@ -56,7 +56,7 @@ pub(crate) fn synthesise(
     Ok(classifier)
 }
 
-/// The classifier so far takes an argument, which the number enters.
+/// The classifier so far takes an argument. The number is that of the argument in a path.
 #[cycle(objects)]
 fn take_argument(
     alloc: Global,

@@ -58,7 +58,7 @@ impl Stop {
         }
     }
 
-    /// The fault of a part which the number enters.
+    /// The fault of a part, which has this number in a path.
     pub(crate) fn inside(self, step: usize) -> Stop
         ensures { (first : Option Fault) → Stops self first → Stops result (meant.inside step first) }
     {

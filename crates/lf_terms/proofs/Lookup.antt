@@ -67,11 +67,6 @@ declared_read (d ∷ decls) q =
 pub contained_declared : (q : QName) (es : List (QName × FlatDecl)) → keys_of es ≡ map (λ d. d.name) (values_of es) → is_some (lookup (same_qname q) es) ≡ is_some (declared (values_of es) q)
 contained_declared q es keyed = ap is_some (found_by_key (λ (d : FlatDecl). d.name) (same_qname q) es keyed)
 
--- What is not found is nothing.
-pub found_nothing : {X : Type 0} (found : Option X) → is_some found ≡ false → found ≡ None
-found_nothing None h = refl
-found_nothing (Some x) h = absurd (cc)
-
 names_read : (decls : List FlatDecl) → map read_constant (map (λ d. d.name) decls) ≡ declared_names decls
 names_read [] = refl
 names_read (d ∷ decls) = ap (λ names. read_constant d.name ∷ names) (names_read decls)

@@ -7,6 +7,7 @@ use Rattle.lf_meaning.specs.Signatures.{same_constant}
 use Rattle.lf_term_laws.proofs.Equality.{same_constant_sound, same_constant_itself}
 use Rattle.lf_terms.specs.Readings.{read_constant}
 use Rattle.lf_terms.specs.declared.qname.QName.{QName}
+use Rattle.list_laws.proofs.Booleans.{both_ways}
 
 -- Whether two names are the same.
 abbrev pub same_qname : QName → QName → Bool
@@ -18,14 +19,9 @@ same_qname_sound q r h = ap (λ (c : Constant). record { theory = c.theory; path
 same_turned : (c d : Constant) → same_constant c d ≡ true → same_constant d c ≡ true
 same_turned c d h = rw (same_constant_sound c d h) (same_constant_itself d)
 
-equal_tests : (b c : Bool) → (b ≡ true → c ≡ true) → (c ≡ true → b ≡ true) → b ≡ c
-equal_tests true c f g = sym (f refl)
-equal_tests false true f g = g refl
-equal_tests false false f g = refl
-
 pub same_qname_equiv : IsEquivalence same_qname
 same_qname_equiv = record {
   refl = λ q. same_constant_itself (read_constant q);
-  symm = λ q r. equal_tests (same_qname q r) (same_qname r q) (same_turned (read_constant q) (read_constant r)) (same_turned (read_constant r) (read_constant q));
+  symm = λ q r. both_ways (same_qname q r) (same_qname r q) (same_turned (read_constant q) (read_constant r)) (same_turned (read_constant r) (read_constant q));
   congr = λ q r s h. ap (λ x. same_qname x s) (same_qname_sound q r h);
 }

@@ -6,7 +6,7 @@ use Rattle.lf_meaning.specs.Terms.{Constant, Object, Atomic, App, AtomicFamily, 
 use Rattle.lf_meaning.specs.Signatures.{same_constant}
 use Rattle.lf_meaning.specs.Equality.{same_object, same_atomic, same_family, same_atomic_family}
 use Rattle.lf_term_laws.proofs.Equality.{pointwise_sound, same_object_sound, same_atomic_sound, same_atomic_family_sound}
-use Rattle.lf_term_laws.proofs.Spines.{argument_count_applied}
+use Rattle.lf_term_laws.proofs.Spines.{argument_count_applied, family_argument_count_applied}
 use Rattle.lf_terms.specs.Readings.{read_constant, read_head, read_object, read_arguments, read_family}
 use Rattle.lf_terms.specs.declared.qname.QName.{QName}
 use Rattle.lf_terms.specs.declared.obj.Head.{Head}
@@ -17,12 +17,7 @@ use Rattle.lf_terms.specs.declared.obj.Spine.{Spine}
 use Rattle.lf_terms.specs.declared.fam.Fam.{Fam}
 use Rattle.lf_terms.specs.declared.fam.Fam.TheVariants as fams
 use Rattle.lf_terms.proofs.ReadingEquations.{read_object_at, read_family_at}
-
--- Two tests that are true together are equal.
-both_ways : (x y : Bool) → (x ≡ true → y ≡ true) → (y ≡ true → x ≡ true) → x ≡ y
-both_ways true y f g = sym (f refl)
-both_ways false true f g = g refl
-both_ways false false f g = refl
+use Rattle.list_laws.proofs.Booleans.{both_ways}
 
 and_right : (x : Bool) → x ≡ x && true
 and_right true = refl
@@ -39,7 +34,7 @@ same_applied r s (m ∷ ms) [] h = absurd (omega arith)
 same_applied r s (m ∷ ms) (n ∷ ns) h =
     same_applied (App r m) (App s n) ms ns (omega arith) ∙ and_grouped (same_atomic r s) (same_object m n) (pointwise same_object ms ns)
 
-no_arguments : (h : Head) → argument_count (read_head h) ≡ 0
+pub no_arguments : (h : Head) → argument_count (read_head h) ≡ 0
 no_arguments (heads.Var i) = refl
 no_arguments (heads.Con q) = refl
 
@@ -61,10 +56,6 @@ same_family_applied p q [] (n ∷ ns) h = absurd (omega arith)
 same_family_applied p q (m ∷ ms) [] h = absurd (omega arith)
 same_family_applied p q (m ∷ ms) (n ∷ ns) h =
     same_family_applied (FamilyApp p m) (FamilyApp q n) ms ns (omega arith) ∙ and_grouped (same_atomic_family p q) (same_object m n) (pointwise same_object ms ns)
-
-family_argument_count_applied : (p : AtomicFamily) (ms : List Object) → family_argument_count (family_apply_all p ms) ≡ family_argument_count p + length ms
-family_argument_count_applied p [] = omega arith
-family_argument_count_applied p (m ∷ ms) = family_argument_count_applied (FamilyApp p m) ms ∙ omega arith
 
 same_family_lengths : (c d : Constant) (ms ns : List Object) → family_apply_all (FamilyCon c) ms ≡ family_apply_all (FamilyCon d) ns → length ms ≡ length ns
 same_family_lengths c d ms ns e =

@@ -1,18 +1,13 @@
 -- The inclusion closure lists each theory once, and behind what it includes.
 use Rattle.std.proofs.Common.{◌≡◌, ℕ, zero, suc, Bool, true, false, cond, List, [], ◌∷◌, ◌++◌, length, take, slice_get, fold, Some, ◌⊎◌, inl, inr, ⊎_elim, refl, sym, ap, ◌∙◌, subst, true≢false, arith, append_assoc}
 use Rattle.name_meaning.specs.Names.{Name}
-use Rattle.list_laws.proofs.Members.{Member, in_append}
+use Rattle.list_laws.proofs.Members.{Member, in_append, place_member}
 use Rattle.name_laws.proofs.Order.{among_member, member_among}
 use Rattle.list_laws.proofs.Places.{place_within, get_more, take_front, take_length}
 use Rattle.library_meaning.specs.Faces.{Environment, theory_of, includes_of}
 use Rattle.library_meaning.specs.Closure.{sees, with_once, with_all, with_inclusion, closure_of}
 use Rattle.library_meaning.specs.Coherence.{IsClosure}
 use Rattle.library_laws.proofs.ClosureMembers.{with_once_old, with_once_new}
-
-place_member : (names : List Name) (i : ℕ) (name : Name) → slice_get names i ≡ Some name → Member name names
-place_member [] i name h = absurd (cc)
-place_member (other ∷ names) zero name h = let e : other ≡ name = cc in inl (sym e)
-place_member (other ∷ names) (suc i) name h = inr (place_member names i name h)
 
 module _ (environment : Environment) where
   included : Name → List Name

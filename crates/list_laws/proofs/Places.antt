@@ -1,5 +1,5 @@
 -- Places in lists.
-use Rattle.std.proofs.Common.{◌≡◌, ℕ, zero, suc, ◌+◌, ◌<◌, ◌≤◌, List, [], ◌∷◌, ◌++◌, length, take, drop, slice_get, Some, None, ◌⊎◌, inl, inr, refl, ap, arith}
+use Rattle.std.proofs.Common.{◌≡◌, ℕ, zero, suc, ◌+◌, ◌<◌, ◌≤◌, List, [], ◌∷◌, ◌++◌, length, take, drop, slice_get, get_or, Some, None, ◌⊎◌, inl, inr, refl, ap, ◌∙◌, arith, drop-cons}
 
 module _ {A : Type 0} where
   pub place_within : (xs : List A) (i : ℕ) (x : A) → slice_get xs i ≡ Some x → i < length xs
@@ -103,3 +103,7 @@ module _ {A : Type 0} where
   take_drop xs zero = refl
   take_drop [] (suc i) = refl
   take_drop (x ∷ xs) (suc i) = ap (λ z. x ∷ z) (take_drop xs i)
+
+-- what stands at a place of a text, and what stands behind it
+pub here_and_on : (text : List ℕ) (at : ℕ) → at < length text → drop at text ≡ get_or text at 0 ∷ drop (at + 1) text
+here_and_on text at h = let n : suc at ≡ at + 1 = omega arith in drop-cons text at 0 h ∙ ap (λ n. get_or text at 0 ∷ drop n text) n

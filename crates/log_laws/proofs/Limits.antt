@@ -92,7 +92,7 @@ room_after log (Put n t) v h g =
     (λ p. let q = length_with n t (library_of log) in omega (arith, q, p)) (made_put log n t v h)
 room_after log (Drop n) v h g = let q = length_filter (λ (own : Module). not (same_name n own.name)) (library_of log) in omega (arith, q, g)
 
-total_last : (log : Log) (e : Edit) → total_size (log ++ e ∷ []) ≡ total_size log + size_of e
+pub total_last : (log : Log) (e : Edit) → total_size (log ++ e ∷ []) ≡ total_size log + size_of e
 total_last log e = fold_last (λ (total : ℕ) (x : Edit). total + size_of x) 0 log e
 
 pub made_within : (log : Log) (e : Edit) (v : ℕ) → append_answer log e ≡ Made v → IsWithinLimits log → IsWithinLimits (log ++ e ∷ [])

@@ -10,10 +10,10 @@ use Rattle.name_meaning.specs.Rows.{row_names, row_of, IsTable, IsGap}
 use Rattle.log_meaning.specs.Log.{is_present}
 use Rattle.walk_meaning.specs.Walks.{is_ungrounded, is_grounded}
 use Rattle.walk_meaning.specs.Graphs.{Graph, row_dependencies, row_library, is_graph_ungrounded, graph_grounded}
-use Rattle.list_laws.proofs.Members.{in_filter, filter_in}
+use Rattle.list_laws.proofs.Members.{in_filter, filter_in, place_member}
 use Rattle.name_laws.proofs.Order.{among_member, ascending_filtered}
 use Rattle.name_laws.proofs.Searching.{searched}
-use Rattle.name_laws.proofs.Rows.{member_at, gap_absent, row_among}
+use Rattle.name_laws.proofs.Rows.{gap_absent, row_among}
 use Rattle.walk_laws.proofs.Graphs.{row_present}
 use Rattle.walk_laws.proofs.Walking.{walking_present, in_present, ungrounded_in}
 
@@ -30,7 +30,7 @@ module _ (graph : Graph) where
   pub ungrounded_found : (n : Name) (i : ℕ) → slice_get (graph_grounded graph) i ≡ Some n → is_graph_ungrounded graph n ≡ false
   unfolding graph_grounded is_graph_ungrounded
   ungrounded_found n i h =
-      let g = (in_filter (is_grounded (row_dependencies graph) (row_library graph)) (row_names graph) n (member_at (graph_grounded graph) i n h)).1 in
+      let g = (in_filter (is_grounded (row_dependencies graph) (row_library graph)) (row_names graph) n (place_member (graph_grounded graph) i n h)).1 in
       is_false (is_ungrounded (row_dependencies graph) (row_library graph) n)
       (not_both (is_ungrounded (row_dependencies graph) (row_library graph) n) (and_parts (is_present (row_library graph) n) (not (is_ungrounded (row_dependencies graph) (row_library graph) n)) g).1)
 

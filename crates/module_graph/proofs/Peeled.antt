@@ -11,7 +11,7 @@ use Rattle.walk_meaning.specs.Graphs.{Graph, row_dependencies, row_library}
 use Rattle.list_laws.proofs.Members.{Member, place_member, in_append, append_left, append_right}
 use Rattle.list_laws.proofs.Places.{place_within}
 use Rattle.name_laws.proofs.Order.{not_before_itself}
-use Rattle.name_laws.proofs.Rows.{member_at, gap_absent, row_at, place_of_member}
+use Rattle.name_laws.proofs.Rows.{gap_absent, row_at, place_of_member}
 use Rattle.walk_laws.proofs.Graphs.{row_direct, row_present, row_library_names, peeled_grounded, left_ungrounded}
 use Rattle.walk_laws.proofs.Walking.{present_in}
 use Rattle.module_graph.specs.Peeling.{IsPassed, IsWaiting, IsPeeling, TellsGrounded, IsOpenAt, AllPassed}
@@ -59,7 +59,7 @@ pub passed_taken : (graph : Graph) (taken : List Bool) (name : Name) (other : �
 passed_taken graph taken name other t h e place g = subst (λ k. slice_get taken k ≡ Some true) (one_place (row_names graph) other place name t h g) e
 
 pub passed_absent : (graph : Graph) (taken : List Bool) (name : Name) (place : ℕ) → IsGap (row_names graph) name place → IsPassed graph taken name
-passed_absent graph taken name place gap other h = absurd (gap_absent name (row_names graph) place gap (member_at (row_names graph) other name h))
+passed_absent graph taken name place gap other h = absurd (gap_absent name (row_names graph) place gap (place_member (row_names graph) other name h))
 
 passed_later : (graph : Graph) (taken : List Bool) (i : ℕ) (name : Name) → IsPassed graph taken name → IsPassed graph (set taken i true) name
 passed_later graph taken i name h place g = set_stays taken i true place (h place g)

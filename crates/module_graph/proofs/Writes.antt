@@ -72,11 +72,6 @@ more_new items lists count list so_far empty = record {
 
 -- ---- what is left of a list from a place on
 
-pub drop_next : (xs : List ℕ) (i : ℕ) → i < length xs → drop i xs ≡ get_or xs i 0 ∷ drop (i + 1) xs
-drop_next xs i h =
-    let e : suc i ≡ i + 1 = omega arith in
-    drop_here xs i (get_or xs i 0) (slice_get-get_or xs i 0 h) ∙ ap (λ k. get_or xs i 0 ∷ drop k xs) e
-
 pub drop_past : {X : Type 0} (xs : List X) (i : ℕ) → length xs ≤ i → drop i xs ≡ []
 drop_past [] zero h = refl
 drop_past [] (suc i) h = refl

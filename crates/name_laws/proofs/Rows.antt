@@ -4,7 +4,7 @@ use Rattle.std.specs.List.{list_all, insert}
 use Rattle.std.proofs.lemmas.Bool.{cases_Bool, and_parts, and_from}
 use Rattle.name_meaning.specs.Names.{Name, same_name, comes_before, is_among, is_ascending, with_name}
 use Rattle.name_meaning.specs.Rows.{Rows, row_names, IsTable, row_of, with_row, without_row, IsGap}
-use Rattle.list_laws.proofs.Members.{Member, in_map, map_in, in_filter, all_at, all_of}
+use Rattle.list_laws.proofs.Members.{Member, in_map, map_in, in_filter, all_at, all_of, place_member}
 use Rattle.name_laws.proofs.Order.{same_sound, same_of, before_trans, not_before_itself, with_ascending}
 
 -- ---- choices by a test
@@ -40,11 +40,6 @@ different n m h = ⊎_elim (λ e. absurd (not_before_itself n (subst (λ z. come
 
 pub not_before : (n m : Name) → comes_before n m ≡ true → comes_before m n ≡ false
 not_before n m h = ⊎_elim (λ e. absurd (not_before_itself n (before_trans n m n h e))) (λ e. e) (cases_Bool (comes_before m n))
-
-pub member_at : (names : List Name) (i : ℕ) (n : Name) → slice_get names i ≡ Some n → Member n names
-member_at [] i n h = absurd (cc)
-member_at (x ∷ names) zero n h = let e : x ≡ n = cc in inl (sym e)
-member_at (x ∷ names) (suc i) n h = inr (member_at names i n h)
 
 gap_behind : (x : Name) (names : List Name) (n : Name) (i : ℕ) → IsGap (x ∷ names) n (suc i) → IsGap names n i
 gap_behind x names n i g = record { within = let w = g.within in omega (arith, w); before = λ j o lt e. g.before (suc j) o (omega (arith, lt)) e; behind = λ j o le e. g.behind (suc j) o (omega (arith, le)) e }
@@ -158,7 +153,7 @@ module _ {A : Type 0} where
       here false e = absurd (true≢false (sym e))
   with_row_at n v (o ∷ rows) (suc i) t h =
       let p = and_parts (list_all (comes_before o.0) (row_names rows)) (is_ascending (row_names rows)) t in
-      let b = all_at (comes_before o.0) (row_names rows) n p.0 (member_at (row_names rows) i n h) in
+      let b = all_at (comes_before o.0) (row_names rows) n p.0 (place_member (row_names rows) i n h) in
       past n v o rows (with_row n v rows) (same_name n o.0) (comes_before n o.0) (different o.0 n b) (not_before o.0 n b)
       ∙ ap (λ z. o ∷ z) (with_row_at n v rows i p.1 h)
 
@@ -190,7 +185,7 @@ module _ {A : Type 0} where
       here false e f = absurd (true≢false (sym e))
   row_at n v (o ∷ rows) (suc i) t h =
       let p = and_parts (list_all (comes_before o.0) (row_names rows)) (is_ascending (row_names rows)) t in
-      let b = all_at (comes_before o.0) (row_names rows) n p.0 (member_at (row_names rows) i n (name_there rows i h)) in
+      let b = all_at (comes_before o.0) (row_names rows) n p.0 (place_member (row_names rows) i n (name_there rows i h)) in
       there (same_name n o.0) (different o.0 n b) (row_at n v rows i p.1 h)
     where
       name_there : (rows : Rows A) (i : ℕ) → slice_get rows i ≡ Some (n, v) → slice_get (row_names rows) i ≡ Some n
@@ -236,7 +231,7 @@ module _ {A : Type 0} where
       here false e f = absurd (true≢false (sym e))
   without_row_at n (o ∷ rows) (suc i) t h =
       let p = and_parts (list_all (comes_before o.0) (row_names rows)) (is_ascending (row_names rows)) t in
-      let b = all_at (comes_before o.0) (row_names rows) n p.0 (member_at (row_names rows) i n h) in
+      let b = all_at (comes_before o.0) (row_names rows) n p.0 (place_member (row_names rows) i n h) in
       there (same_name n o.0) (different o.0 n b) (without_row_at n rows i p.1 h)
     where
       there : (b : Bool) → b ≡ false → without_row n rows ≡ take i rows ++ drop (suc i) rows → cond (not b) (o ∷ without_row n rows) (without_row n rows) ≡ o ∷ (take i rows ++ drop (suc i) rows)

@@ -8,9 +8,9 @@ use Rattle.std.proofs.lemmas.Bool.{and_parts}
 use Rattle.std.proofs.lemmas.List.Sorted.{searchable_from_sorted}
 use Rattle.name_meaning.specs.Names.{Name, comes_before, is_ascending}
 use Rattle.name_meaning.specs.Rows.{IsGap}
-use Rattle.list_laws.proofs.Members.{all_at}
+use Rattle.list_laws.proofs.Members.{all_at, place_member}
 use Rattle.name_laws.proofs.Order.{same_sound}
-use Rattle.name_laws.proofs.Rows.{member_at, not_before}
+use Rattle.name_laws.proofs.Rows.{not_before}
 
 module _ {X : Type 0} (name_of : X → Name) where
   -- the item at a place
@@ -41,7 +41,7 @@ module _ {X : Type 0} (name_of : X → Name) where
       let p = and_parts (list_all (comes_before (name_of x)) (map name_of xs)) (is_ascending (map name_of xs)) t in
       let q = item_got xs 0 (omega (arith, h)) in
       all_at (comes_before (name_of x)) (map name_of xs) (name_of (get_or xs 0 d)) p.0
-      (member_at (map name_of xs) 0 (name_of (get_or xs 0 d)) (name_got xs 0 (get_or xs 0 d) (q.1 ∙ ap Some (sym (q.2 d)))))
+      (place_member (map name_of xs) 0 (name_of (get_or xs 0 d)) (name_got xs 0 (get_or xs 0 d) (q.1 ∙ ap Some (sym (q.2 d)))))
   next_above (x ∷ xs) (suc i) d t h =
       let p = and_parts (list_all (comes_before (name_of x)) (map name_of xs)) (is_ascending (map name_of xs)) t in
       next_above xs i d p.1 (omega (arith, h))

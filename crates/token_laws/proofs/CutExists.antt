@@ -7,9 +7,9 @@ use Rattle.text_meaning.specs.Bytes.{line_feed, percent, dot, colon, equal, left
 use Rattle.text_meaning.specs.Tokens.{Sign, Token, dotted, spelled}
 use Rattle.text_meaning.specs.Cut.{Ending, Finished, Unclosed, NeverCloses, begins_line_comment, ends_line, begins_nothing, is_row, ends_row, bracket_sign, Cut, at_end, at_mark, white_space, line_comment, nested_comment, unclosed_comment, percent_word, stray_percent, stray_quote, assign, lone_colon, bracket, lone_dot, row}
 use Rattle.text_meaning.specs.Cutting.{InComment, Between, Cutting, cut_on}
-use Rattle.token_laws.proofs.CutFollows.{and_front, one_of, closing, Closing, closed, open', comment_goes}
+use Rattle.token_laws.proofs.CutFollows.{one_of, closing, Closing, closed, open', comment_goes}
 use Rattle.std.proofs.lemmas.Bool.{not-false}
-use Rattle.list_laws.proofs.Booleans.{and_second}
+use Rattle.list_laws.proofs.Booleans.{and_second, and_first}
 
 -- a front of identifier bytes, as long as it goes
 record Run (bs : List ℕ) : Type 0 where
@@ -53,7 +53,7 @@ row_of (b ∷ bs) = go (is_identifier_byte b) (b == dot && begins is_identifier_
     go true u e f r =
         record { word = b ∷ r.word; words = r.words; rest = r.rest; parts = ap (λ l. b ∷ l) r.parts; ids = rw (e, r.ids) refl; runs = r.runs; ends = r.ends; starts = refl }
     go false true e f r =
-        let is_dot : b ≡ dot = eqb-true b dot (and_front _ _ f) in
+        let is_dot : b ≡ dot = eqb-true b dot (and_first _ _ f) in
         let next : begins is_identifier_byte r.word ≡ true = sym r.starts ∙ and_second (b == dot) _ f in
         let here : b ∷ bs ≡ dotted (r.word ∷ r.words) ++ r.rest = rw is_dot (ap (λ l. dot ∷ l) (r.parts ∙ sym (append_assoc r.word (dotted r.words) r.rest))) in
         record { word = []; words = r.word ∷ r.words; rest = r.rest; parts = here; ids = refl; runs = rw (begins_run r.word r.ids next, r.runs) refl; ends = r.ends; starts = e }

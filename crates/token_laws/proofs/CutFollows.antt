@@ -9,13 +9,9 @@ use Rattle.text_meaning.specs.Tokens.{Sign, Mark, Token, token, percent_sign, ro
 use Rattle.text_meaning.specs.Cut.{Ending, Finished, Unclosed, is_comment_mark, Closes, all_closed, opens, closes, passes, NeverCloses, begins_line_comment, ends_line, begins_nothing, is_row, ends_row, sign_in, brackets, bracket_sign, Cut, at_end, at_mark, white_space, line_comment, nested_comment, unclosed_comment, percent_word, stray_percent, stray_quote, assign, lone_colon, bracket, lone_dot, row}
 use Rattle.text_meaning.specs.Cutting.{Place, Between, Second, InLine, InComment, InWord, InRow, Move, GoOn, Stop, Cutting, ahead, token_first, percent_move, between_move, closed_place, move, follow, cut_on}
 use Rattle.std.proofs.lemmas.Bool.{not-true}
-use Rattle.list_laws.proofs.Booleans.{and_second}
+use Rattle.list_laws.proofs.Booleans.{and_second, and_first}
 
 -- ---- tests
-
-pub and_front : (a b : Bool) → (a && b) ≡ true → a ≡ true
-and_front true b h = refl
-and_front false b h = h
 
 pub or_front : (a b : Bool) → (a || b) ≡ false → a ≡ false
 or_front true b h = h
@@ -88,7 +84,7 @@ pub line_goes : (at : ℕ) (comment rest : List ℕ) → list_all (λ b. not (b 
     → cut_on InLine at (comment ++ rest) ≡ cut_on Between (at + length comment) rest
 line_goes at [] rest h e = line_ends at rest e ∙ ap (λ n. cut_on Between n rest) (omega arith)
 line_goes at (b ∷ comment) rest h e =
-    let no : (b == line_feed) ≡ false = not-true (b == line_feed) (and_front (not (b == line_feed)) _ h) in
+    let no : (b == line_feed) ≡ false = not-true (b == line_feed) (and_first (not (b == line_feed)) _ h) in
     step_is InLine at b (comment ++ rest) (GoOn [] InLine) (rw no refl)
     ∙ line_goes (at + 1) comment rest (and_second (not (b == line_feed)) _ h) e
     ∙ ap (λ n. cut_on Between n rest) (omega arith)
@@ -143,10 +139,10 @@ passes_over n b c cs h (open' g) =
 
 -- the mark that stands here, if one does
 pub mark_front : (b c : ℕ) (t : Bool) → (b == percent && c == left_brace) ≡ true → (b ≡ percent) × (c ≡ left_brace)
-mark_front b c t h = (eqb-true b percent (and_front _ _ h), eqb-true c left_brace (and_second (b == percent) _ h))
+mark_front b c t h = (eqb-true b percent (and_first _ _ h), eqb-true c left_brace (and_second (b == percent) _ h))
 
 pub mark_back : (b c : ℕ) → (b == right_brace && c == percent) ≡ true → (b ≡ right_brace) × (c ≡ percent)
-mark_back b c h = (eqb-true b right_brace (and_front _ _ h), eqb-true c percent (and_second (b == right_brace) _ h))
+mark_back b c h = (eqb-true b right_brace (and_first _ _ h), eqb-true c percent (and_second (b == right_brace) _ h))
 
 opens_over : (n : ℕ) (cs : List ℕ) → Closing (suc n) cs → Closing n (percent ∷ left_brace ∷ cs)
 unfolding cut_on
@@ -205,7 +201,7 @@ word_goes from at w [] (b ∷ bs) h e =
 word_goes from at w (b ∷ word) rest h e =
     let m : at + 1 + length word ≡ at + length (b ∷ word) = omega arith in
     let l : (w ++ b ∷ []) ++ word ≡ w ++ b ∷ word = append_assoc w (b ∷ []) word in
-    step_is (InWord from w) at b (word ++ rest) (GoOn [] (InWord from (w ++ (b ∷ [])))) (rw (and_front (is_identifier_byte b) _ h) refl)
+    step_is (InWord from w) at b (word ++ rest) (GoOn [] (InWord from (w ++ (b ∷ [])))) (rw (and_first (is_identifier_byte b) _ h) refl)
     ∙ word_goes from (at + 1) (w ++ (b ∷ [])) word rest (and_second (is_identifier_byte b) _ h) e
     ∙ rw (m, l) refl
 
@@ -217,7 +213,7 @@ run_goes from at ws w [] rest h = rw (append-nil w) (ap (λ n. cut_on (InRow fro
 run_goes from at ws w (b ∷ run) rest h =
     let m : at + 1 + length run ≡ at + length (b ∷ run) = omega arith in
     let l : (w ++ b ∷ []) ++ run ≡ w ++ b ∷ run = append_assoc w (b ∷ []) run in
-    step_is (InRow from ws w) at b (run ++ rest) (GoOn [] (InRow from ws (w ++ (b ∷ [])))) (rw (and_front (is_identifier_byte b) _ h) refl)
+    step_is (InRow from ws w) at b (run ++ rest) (GoOn [] (InRow from ws (w ++ (b ∷ [])))) (rw (and_first (is_identifier_byte b) _ h) refl)
     ∙ run_goes from (at + 1) ws (w ++ (b ∷ [])) run rest (and_second (is_identifier_byte b) _ h)
     ∙ rw (m, l) refl
 
@@ -238,7 +234,7 @@ run_front w h = and_second (not (length w == 0)) _ h
 
 pub run_begins : (w rest : List ℕ) → is_run w ≡ true → begins is_identifier_byte (w ++ rest) ≡ true
 run_begins [] rest h = absurd (true≢false (sym h))
-run_begins (b ∷ w) rest h = and_front (is_identifier_byte b) _ (run_front (b ∷ w) h)
+run_begins (b ∷ w) rest h = and_first (is_identifier_byte b) _ (run_front (b ∷ w) h)
 
 row_goes : (from at : ℕ) (ws : List (List ℕ)) (w : List ℕ) (vs : List (List ℕ)) (rest : List ℕ) → list_all is_run vs ≡ true → ends_row rest ≡ true
     → cut_on (InRow from ws w) at (dotted vs ++ rest)
@@ -248,7 +244,7 @@ row_goes from at ws w [] rest h e =
     let now : at ≡ at + 0 = omega arith in
     row_ends from at ws w rest e ∙ ap (λ n. ahead (token from n (row_kind (ws ++ (w ∷ []))) ∷ []) (cut_on Between n rest)) now
 row_goes from at ws w (v ∷ vs) rest h e =
-    let run = and_front (is_run v) _ h in
+    let run = and_first (is_run v) _ h in
     let m : at + 1 + length v + length (dotted vs) ≡ at + length (dotted (v ∷ vs)) = omega (arith, length-append v (dotted vs)) in
     let l : (ws ++ w ∷ []) ++ v ∷ vs ≡ ws ++ w ∷ v ∷ vs = append_assoc ws (w ∷ []) (v ∷ vs) in
     let a : (v ++ dotted vs) ++ rest ≡ v ++ (dotted vs ++ rest) = append_assoc v (dotted vs) rest in
@@ -295,7 +291,7 @@ identifier_byte_move at b bs h =
 
 pub percent_word_move : (at : ℕ) (word rest : List ℕ) → is_run word ≡ true → percent_move at (word ++ rest) ≡ GoOn [] (InWord at [])
 percent_word_move at [] rest h = absurd (true≢false (sym h))
-percent_word_move at (b ∷ word) rest h = identifier_byte_move at b (word ++ rest) (and_front (is_identifier_byte b) _ (run_front (b ∷ word) h))
+percent_word_move at (b ∷ word) rest h = identifier_byte_move at b (word ++ rest) (and_first (is_identifier_byte b) _ (run_front (b ∷ word) h))
 
 pub row_first : (at : ℕ) (words : List (List ℕ)) (rest : List ℕ) → is_row words ≡ true → ends_row rest ≡ true
     → cut_on Between at (spelled words ++ rest) ≡ ahead (token at (at + length (spelled words)) (row_kind words) ∷ []) (cut_on Between (at + length (spelled words)) rest)
@@ -303,10 +299,10 @@ unfolding cut_on
 row_first at [] rest h e = absurd (true≢false (sym h))
 row_first at ([] ∷ ws) rest h e = absurd (true≢false (sym h))
 row_first at ((b ∷ w) ∷ ws) rest h e =
-    let run = run_front (b ∷ w) (and_front (is_run (b ∷ w)) _ h) in
+    let run = run_front (b ∷ w) (and_first (is_run (b ∷ w)) _ h) in
     let a : (w ++ dotted ws) ++ rest ≡ w ++ (dotted ws ++ rest) = append_assoc w (dotted ws) rest in
     let m : at + 1 + length w + length (dotted ws) ≡ at + length (spelled ((b ∷ w) ∷ ws)) = omega (arith, length-append w (dotted ws)) in
-    step_is Between at b ((w ++ dotted ws) ++ rest) (GoOn [] (InRow at [] (b ∷ []))) (rw (and_front (is_identifier_byte b) _ run) refl)
+    step_is Between at b ((w ++ dotted ws) ++ rest) (GoOn [] (InRow at [] (b ∷ []))) (rw (and_first (is_identifier_byte b) _ run) refl)
     ∙ ap (cut_on (InRow at [] (b ∷ [])) (at + 1)) a
     ∙ run_goes at (at + 1) [] (b ∷ []) w (dotted ws ++ rest) (and_second (is_identifier_byte b) _ run)
     ∙ row_goes at (at + 1 + length w) [] (b ∷ w) ws rest (and_second (is_run (b ∷ w)) _ h) e

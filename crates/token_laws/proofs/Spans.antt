@@ -5,7 +5,7 @@ use Rattle.text_meaning.specs.Bytes.{percent, left_brace, colon, equal, quote, d
 use Rattle.text_meaning.specs.Tokens.{Kind, Mark, Token, token, Stray, AssignSign, ColonSign, DotSign, percent_sign, row_kind, dotted, spelled}
 use Rattle.text_meaning.specs.Cut.{Ending, Finished, Unclosed, is_row, Cut, at_end, at_mark, white_space, line_comment, nested_comment, unclosed_comment, percent_word, stray_percent, stray_quote, assign, lone_colon, bracket, lone_dot, row}
 use Rattle.token_laws.specs.SpanLaws.{slice, InOrder, IsTokenText, percent_text, stray_percent_text, quote_text, assign_text, colon_text, dot_text, bracket_text, row_text, HoldBytes, TokensStandWell}
-use Rattle.token_laws.proofs.CutFollows.{and_front}
+use Rattle.list_laws.proofs.Booleans.{and_first}
 
 place_of : Ending → ℕ
 place_of (Finished at) = at
@@ -62,9 +62,9 @@ run_some : (w : List ℕ) → is_run w ≡ true → 0 < length w
 run_some [] h = absurd (true≢false (sym h))
 run_some (b ∷ w) h = omega arith
 
-row_some : (ws : List (List ℕ)) → is_row ws ≡ true → 0 < length (spelled ws)
+pub row_some : (ws : List (List ℕ)) → is_row ws ≡ true → 0 < length (spelled ws)
 row_some [] h = absurd (true≢false (sym h))
-row_some (w ∷ ws) h = omega (arith, run_some w (and_front (is_run w) _ h), length-append w (dotted ws))
+row_some (w ∷ ws) h = omega (arith, run_some w (and_first (is_run w) _ h), length-append w (dotted ws))
 
 cut_stands : {at : ℕ} {bytes : List ℕ} {ts : List Token} {e : Ending} → Cut at bytes ts e → Behind bytes at ts e
 unfolding place_of

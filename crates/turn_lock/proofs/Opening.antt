@@ -12,8 +12,9 @@ use Rattle.turn_meaning.specs.Numbers.{are_of, are_below}
 use Rattle.turn_lock.specs.declared.view.View.{View}
 use Rattle.turn_lock.specs.Views.{first_view}
 use Rattle.turn_lock.specs.Rule.{times_in, Fits, IsKept}
-use Rattle.turn_lock.proofs.Entries.{both, left_of, right_of}
+use Rattle.turn_lock.proofs.Entries.{both}
 use Rattle.turn_lock.proofs.Keeping.{one_if}
+use Rattle.list_laws.proofs.Booleans.{and_second, and_first}
 
 zero_below : (n : ℕ) → nat_eq 0 n ≡ true → nat_lt n 1 ≡ true
 zero_below n h = grind (arith, nat_tests)
@@ -21,7 +22,7 @@ zero_below n h = grind (arith, nat_tests)
 module _ {E : Type 0} (number_of : E → ℕ) where
   zeros_below : (entries : List E) → are_of number_of 0 entries ≡ true → are_below number_of 1 entries ≡ true
   zeros_below [] h = refl
-  zeros_below (e ∷ es) h = both _ _ (zero_below (number_of e) (left_of _ _ h)) (zeros_below es (right_of _ _ h))
+  zeros_below (e ∷ es) h = both _ _ (zero_below (number_of e) (and_first _ _ h)) (zeros_below es (and_second _ _ h))
 
   first_fits : (entries : List E) → Fits number_of 0 0 1 entries (first_view entries)
   first_fits entries = record {

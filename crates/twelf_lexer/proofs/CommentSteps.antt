@@ -4,8 +4,8 @@ use Rattle.text_meaning.specs.Cut.{Unclosed}
 use Rattle.text_meaning.specs.Cutting.{InComment, closed_place, cut_on}
 use Rattle.token_laws.proofs.Steps.{pair_opens, pair_closes, pair_passes, comment_ends, one_left}
 use Rattle.twelf_lexer.specs.Scans.{Closes, StaysOpen}
-use Rattle.twelf_lexer.proofs.Fronts.{here_and_on}
 use Rattle.list_laws.proofs.Booleans.{and_second}
+use Rattle.list_laws.proofs.Places.{here_and_on}
 
 -- so far the comment goes on as from its beginning
 pub record InnerTo (text : List ℕ) (at to inner : ℕ) : Type 0 where

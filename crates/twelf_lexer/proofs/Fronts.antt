@@ -4,6 +4,7 @@ use Rattle.std.specs.List.{list_all, slice_range}
 use Rattle.std.proofs.lemmas.List.Folds.{list_all_more}
 use Rattle.text_meaning.specs.Bytes.{begins}
 use Rattle.twelf_lexer.specs.Scans.{IsFront}
+use Rattle.list_laws.proofs.Places.{here_and_on}
 
 pub record PassesTo (test : ℕ → Bool) (text : List ℕ) (at to : ℕ) : Type 0 where
   pub forward : at ≤ to
@@ -31,10 +32,6 @@ one_more test text at to p h t =
   where
     both : {a b : Bool} → a ≡ true → b ≡ true → (a && b) ≡ true
     both e f = rw (e, f) refl
-
--- the bytes from a place on
-pub here_and_on : (text : List ℕ) (at : ℕ) → at < length text → drop at text ≡ get_or text at 0 ∷ drop (at + 1) text
-here_and_on text at h = let n : suc at ≡ at + 1 = omega arith in drop-cons text at 0 h ∙ ap (λ n. get_or text at 0 ∷ drop n text) n
 
 pub none_left : (text : List ℕ) (at : ℕ) → length text ≤ at → drop at text ≡ []
 none_left text at h = drop_of_length-le text h

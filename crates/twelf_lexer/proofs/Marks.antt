@@ -12,7 +12,7 @@ use Rattle.twelf_lexer.specs.declared.sign.Sign as lexer
 use Rattle.twelf_lexer.specs.declared.sign.Sign.TheVariants as signs
 use Rattle.twelf_lexer.proofs.RowSteps.{row_advances, row_runs, stray_row, free_row, free_run, single_row}
 use Rattle.twelf_lexer.proofs.RowLoops.{an_identifier}
-use Rattle.token_laws.proofs.CutFollows.{and_front}
+use Rattle.list_laws.proofs.Booleans.{and_first}
 
 pub is_token : (text : List ℕ) (at to : ℕ) (sign : lexer.Sign) (m : Sign) → IsMark sign m → Advances text at to (token at to (Mark m) ∷ []) → IsToken text at to sign
 is_token text at to sign m k a =
@@ -93,7 +93,7 @@ pub name_is : (text : List ℕ) (at : ℕ) (r : RowEnd) → IsCharBoundary text 
 name_is text at r b l s f =
     let w = slice_range text at r.to in
     let one = single_row text at r.to l.words l.is_row (sym l.several ∙ s) in
-    let run : is_run w ≡ true = and_front (is_run w) true (ap is_row (sym one) ∙ l.is_row.runs) in
+    let run : is_run w ≡ true = and_first (is_run w) true (ap is_row (sym one) ∙ l.is_row.runs) in
     record {
       advances = subst (λ kind. Advances text at r.to (token at r.to kind ∷ [])) (free_run w f) (one_is text at r l s);
       parts = record { start = b; identifier = an_identifier w run f };

@@ -6,8 +6,9 @@ use Rattle.std.proofs.lemmas.List.Folds.{drop_split}
 use Rattle.std.proofs.lemmas.Str.{IsCharBoundary-end, IsCharBoundary-before_ascii, IsCharBoundary-after_ascii}
 use Rattle.name_meaning.specs.Characters.{is_identifier_byte}
 use Rattle.text_meaning.specs.Bytes.{begins}
-use Rattle.twelf_lexer.proofs.Fronts.{here_and_on, none_left}
+use Rattle.twelf_lexer.proofs.Fronts.{none_left}
 use Rattle.token_laws.proofs.Bytes.{low_byte}
+use Rattle.list_laws.proofs.Places.{here_and_on}
 
 pub begins_in : (test : ℕ → Bool) (text : List ℕ) (at : ℕ) → at < length text → begins test (drop at text) ≡ test (get_or text at 0)
 begins_in test text at h = ap (begins test) (here_and_on text at h)

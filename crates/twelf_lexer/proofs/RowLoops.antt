@@ -7,14 +7,15 @@ use Rattle.name_meaning.specs.Identifiers.{is_run, is_reserved, is_identifier}
 use Rattle.text_meaning.specs.Bytes.{dot, begins}
 use Rattle.text_meaning.specs.Tokens.{dotted}
 use Rattle.text_meaning.specs.Cut.{is_row, ends_row}
-use Rattle.token_laws.proofs.CutFollows.{and_front, or_front, or_back}
+use Rattle.token_laws.proofs.CutFollows.{or_front, or_back}
 use Rattle.twelf_lexer.specs.Scans.{IsFront}
 use Rattle.twelf_lexer.specs.Rows.{IsRow, IsLongestRow, row_goes_on}
-use Rattle.twelf_lexer.proofs.Fronts.{here_and_on}
 use Rattle.twelf_lexer.proofs.Places.{Stands, begins_at, begins_in, front_length, front_parts}
 use Rattle.twelf_lexer.proofs.RowSteps.{row_is_over, one_run, row_begins, row_grows}
-use Rattle.list_laws.proofs.Booleans.{and_second}
+use Rattle.list_laws.proofs.Booleans.{and_second, and_first}
 use Rattle.token_laws.proofs.Bytes.{ends_row_begins}
+use Rattle.std.proofs.Math.Bool.{or-false}
+use Rattle.list_laws.proofs.Places.{here_and_on}
 
 -- ---- to the end of the row
 
@@ -24,10 +25,6 @@ pub record RowSoFar (text : List ℕ) (at to : ℕ) (several reserved : Bool) : 
   pub ends : begins is_identifier_byte (drop to text) ≡ false
   pub several_is : several ≡ nat_lt 1 (length words)
   pub reserved_is : reserved ≡ list_any is_reserved words
-
-or_none : (a : Bool) → (a || false) ≡ a
-or_none true = refl
-or_none false = refl
 
 run_stands : (text : List ℕ) (at : ℕ) → at < length text → is_identifier_byte (get_or text at 0) ≡ true → begins is_identifier_byte (drop at text) ≡ true
 run_stands text at h e = begins_in is_identifier_byte text at h ∙ e
@@ -40,7 +37,7 @@ row_so_far text at to reserved h e f r =
       is_row = row_begins text at to f (run_stands text at h e);
       ends = f.ends;
       several_is = refl;
-      reserved_is = r ∙ sym (or_none (is_reserved (slice_range text at to)));
+      reserved_is = r ∙ sym (or-false (is_reserved (slice_range text at to)));
     }
 
 -- what it is for a row to go on
@@ -55,13 +52,13 @@ goes_on_is text to h =
   where
     first : (bs : List ℕ) → row_goes_on bs ≡ true → begins (λ b. b == 46) bs ≡ true
     first [] h = absurd (true≢false (sym h))
-    first (b ∷ bs) h = and_front (b == dot) _ h
+    first (b ∷ bs) h = and_first (b == dot) _ h
 
     second : (bs : List ℕ) (b : ℕ) (cs : List ℕ) → bs ≡ b ∷ cs → row_goes_on bs ≡ true → begins is_identifier_byte cs ≡ true
     second bs b cs e h = and_second (b == dot) _ (sym (ap row_goes_on e) ∙ h)
 
 any-snoc : (ws : List (List ℕ)) (w : List ℕ) → list_any is_reserved (ws ++ (w ∷ [])) ≡ (list_any is_reserved ws || is_reserved w)
-any-snoc [] w = or_none (is_reserved w)
+any-snoc [] w = or-false (is_reserved w)
 any-snoc (v ∷ vs) w = ap (λ b. is_reserved v || b) (any-snoc vs w) ∙ assoc (is_reserved v) (list_any is_reserved vs) (is_reserved w)
   where
     assoc : (a b c : Bool) → (a || (b || c)) ≡ ((a || b) || c)
@@ -124,7 +121,7 @@ pub path_begins : (text : List ℕ) (at to end : ℕ) (words : List (List ℕ)) 
 path_begins text at to end [] r h e f = absurd (true≢false (sym r.runs))
 path_begins text at to end (w ∷ ws) r h e f =
     let over = ends_row_begins (drop to text) e in
-    let run : is_run w ≡ true = and_front (is_run w) (list_all is_run ws) r.runs in
+    let run : is_run w ≡ true = and_first (is_run w) (list_all is_run ws) r.runs in
     let ids : list_all is_identifier_byte w ≡ true = and_second (not (length w == 0)) (list_all is_identifier_byte w) run in
     let here : drop at text ≡ w ++ (dotted ws ++ drop to text) = r.parts ∙ append_assoc w (dotted ws) (drop to text) in
     let found = first_run text at end w (dotted ws ++ drop to text) f here ids (dotted_begins ws (drop to text) over) in
@@ -136,7 +133,7 @@ path_begins text at to end (w ∷ ws) r h e f =
       so_far = record {
         rest = ws;
         is_row = row_begins text at end f begun;
-        free = ap (λ x. list_any is_reserved (x ∷ [])) found.0 ∙ or_none (is_reserved w) ∙ free_w;
+        free = ap (λ x. list_any is_reserved (x ∷ [])) found.0 ∙ or-false (is_reserved w) ∙ free_w;
         left = found.1;
         length_is = omega (arith, r.length_is, len, length-append w (dotted ws), front_length text at end f.forward f.within, f.forward);
         within = r.within;
@@ -148,7 +145,7 @@ path_begins text at to end (w ∷ ws) r h e f =
   where
     starts : (w rest : List ℕ) → is_run w ≡ true → list_all is_identifier_byte w ≡ true → begins is_identifier_byte (w ++ rest) ≡ true
     starts [] rest h i = absurd (true≢false (sym h))
-    starts (b ∷ w) rest h i = and_front (is_identifier_byte b) _ i
+    starts (b ∷ w) rest h i = and_first (is_identifier_byte b) _ i
 
 -- the next run
 pub record NextRun (text : List ℕ) (at to end next : ℕ) (path : List (List ℕ)) : Type 0 where
@@ -167,7 +164,7 @@ path_goes text at to end next path p h f = go p.rest p.left p.length_is p.runs p
         let is_dot : get_or text end 0 ≡ dot = cc in
         let tail : drop (end + 1) text ≡ (w ++ dotted ws) ++ drop to text = cc in
         let here : drop (end + 1) text ≡ w ++ (dotted ws ++ drop to text) = tail ∙ append_assoc w (dotted ws) (drop to text) in
-        let run : is_run w ≡ true = and_front (is_run w) (list_all is_run ws) r in
+        let run : is_run w ≡ true = and_first (is_run w) (list_all is_run ws) r in
         let ids : list_all is_identifier_byte w ≡ true = and_second (not (length w == 0)) (list_all is_identifier_byte w) run in
         let found = first_run text (end + 1) next w (dotted ws ++ drop to text) f here ids (dotted_begins ws (drop to text) p.over) in
         let free_w : is_reserved w ≡ false = or_front (is_reserved w) (list_any is_reserved ws) g in
@@ -195,7 +192,7 @@ path_goes text at to end next path p h f = go p.rest p.left p.length_is p.runs p
 
         starts : (w rest : List ℕ) → is_run w ≡ true → list_all is_identifier_byte w ≡ true → begins is_identifier_byte (w ++ rest) ≡ true
         starts [] rest h i = absurd (true≢false (sym h))
-        starts (b ∷ w) rest h i = and_front (is_identifier_byte b) _ i
+        starts (b ∷ w) rest h i = and_first (is_identifier_byte b) _ i
 
 pub path_is_whole : (text : List ℕ) (at to end : ℕ) (path : List (List ℕ)) → PathSoFar text at to end path → to ≤ end → IsRow text at to path
 path_is_whole text at to end path p h = let e : end ≡ to = omega (arith, p.length_is, h) in subst (λ n. IsRow text at n path) e p.is_row

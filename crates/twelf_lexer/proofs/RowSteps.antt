@@ -10,15 +10,16 @@ use Rattle.text_meaning.specs.Bytes.{dot, begins}
 use Rattle.text_meaning.specs.Tokens.{Kind, Mark, Ident, token, Stray, run_kind, row_kind, dotted, spelled}
 use Rattle.text_meaning.specs.Cut.{is_row, ends_row}
 use Rattle.text_meaning.specs.Cutting.{Between, ahead, cut_on}
-use Rattle.token_laws.proofs.CutFollows.{and_front, or_front, or_back, row_first}
+use Rattle.token_laws.proofs.CutFollows.{or_front, or_back, row_first, run_front}
 use Rattle.twelf_lexer.specs.Scans.{IsFront}
 use Rattle.twelf_lexer.specs.Rows.{IsRow, row_goes_on}
 use Rattle.twelf_lexer.specs.Advances.{Advances}
 use Rattle.twelf_lexer.specs.Lexemes.{runs, runs_behind}
-use Rattle.twelf_lexer.proofs.Fronts.{here_and_on}
 use Rattle.twelf_lexer.proofs.Places.{Stands, begins_at, front_length, front_parts, boundary_before}
-use Rattle.list_laws.proofs.Booleans.{and_second}
+use Rattle.list_laws.proofs.Booleans.{and_second, and_first}
 use Rattle.token_laws.proofs.Bytes.{ends_row_begins}
+use Rattle.token_laws.proofs.Spans.{row_some}
+use Rattle.list_laws.proofs.Places.{here_and_on}
 
 -- ---- whether a row goes on
 
@@ -44,19 +45,12 @@ front_runs text at to f h = go (slice_range text at to) (front_parts text at to 
     go [] e p = absurd (true≢false (sym h ∙ ap (begins is_identifier_byte) e ∙ f.ends))
     go (b ∷ w) e p = rw (ne_eqb (suc (length w)) 0 (λ e. absurd cc)) p
 
-run_ids : (w : List ℕ) → is_run w ≡ true → list_all is_identifier_byte w ≡ true
-run_ids w h = and_second (not (length w == 0)) _ h
-
-run_first : (w rest : List ℕ) → is_run w ≡ true → begins is_identifier_byte (w ++ rest) ≡ true
-run_first [] rest h = absurd (true≢false (sym h))
-run_first (b ∷ w) rest h = and_front (is_identifier_byte b) _ (run_ids (b ∷ w) h)
-
 -- two longest runs of one text are one
 pub one_run : (v w r s : List ℕ) → v ++ r ≡ w ++ s → list_all is_identifier_byte v ≡ true → list_all is_identifier_byte w ≡ true
     → begins is_identifier_byte r ≡ false → begins is_identifier_byte s ≡ false → (v ≡ w) × (r ≡ s)
 one_run [] [] r s e p q g h = (refl, e)
-one_run [] (b ∷ w) r s e p q g h = absurd (true≢false (sym (and_front (is_identifier_byte b) _ q) ∙ sym (ap (begins is_identifier_byte) e) ∙ g))
-one_run (b ∷ v) [] r s e p q g h = absurd (true≢false (sym (and_front (is_identifier_byte b) _ p) ∙ ap (begins is_identifier_byte) e ∙ h))
+one_run [] (b ∷ w) r s e p q g h = absurd (true≢false (sym (and_first (is_identifier_byte b) _ q) ∙ sym (ap (begins is_identifier_byte) e) ∙ g))
+one_run (b ∷ v) [] r s e p q g h = absurd (true≢false (sym (and_first (is_identifier_byte b) _ p) ∙ ap (begins is_identifier_byte) e ∙ h))
 one_run (b ∷ v) (c ∷ w) r s e p q g h =
     let f : b ≡ c = cc in
     let t : v ++ r ≡ w ++ s = cc in
@@ -104,11 +98,6 @@ row_grows text at to next ws r s f h =
       parts = r.parts ∙ ap (λ l. spelled ws ++ l) here ∙ sym (append_assoc (spelled ws) (dot ∷ w) (drop next text)) ∙ ap (λ l. l ++ drop next text) (sym spell);
       runs = is_row-snoc ws w r.runs (front_runs text (to + 1) next f h);
     }
-
-row_some : (ws : List (List ℕ)) → is_row ws ≡ true → 0 < length (spelled ws)
-row_some [] h = absurd (true≢false (sym h))
-row_some ([] ∷ ws) h = absurd (true≢false (sym h))
-row_some ((b ∷ w) ∷ ws) h = omega arith
 
 -- over the longest row
 pub row_advances : (text : List ℕ) (at to : ℕ) (ws : List (List ℕ)) → IsRow text at to ws → ends_row (drop to text) ≡ true → Advances text at to (token at to (row_kind ws) ∷ [])
@@ -179,16 +168,16 @@ runs_over : (run w rest : List ℕ) → list_all is_identifier_byte w ≡ true �
 runs_over run [] rest h = ap (λ r. runs_behind r rest) (sym (append-nil run))
 runs_over run (b ∷ w) rest h =
     let on = runs_over (run ++ (b ∷ [])) w rest (and_back (is_identifier_byte b) (list_all is_identifier_byte w) h) ∙ ap (λ r. runs_behind r rest) (append_assoc run (b ∷ []) w) in
-    rw (not_dot b (and_front (is_identifier_byte b) _ h)) on
+    rw (not_dot b (and_first (is_identifier_byte b) _ h)) on
 
 runs_dotted : (run : List ℕ) (ws : List (List ℕ)) → list_all is_run ws ≡ true → runs_behind run (dotted ws) ≡ run ∷ ws
 runs_dotted run [] h = refl
 runs_dotted run (w ∷ ws) h =
-    ap (λ l. run ∷ l) (runs_over [] w (dotted ws) (run_ids w (and_front (is_run w) (list_all is_run ws) h)) ∙ runs_dotted w ws (and_back (is_run w) (list_all is_run ws) h))
+    ap (λ l. run ∷ l) (runs_over [] w (dotted ws) (run_front w (and_first (is_run w) (list_all is_run ws) h)) ∙ runs_dotted w ws (and_back (is_run w) (list_all is_run ws) h))
 
 pub runs_spelled : (ws : List (List ℕ)) → is_row ws ≡ true → runs (spelled ws) ≡ ws
 runs_spelled [] h = absurd (true≢false (sym h))
-runs_spelled (w ∷ ws) h = runs_over [] w (dotted ws) (run_ids w (and_front (is_run w) (list_all is_run ws) h)) ∙ runs_dotted w ws (and_back (is_run w) (list_all is_run ws) h)
+runs_spelled (w ∷ ws) h = runs_over [] w (dotted ws) (run_front w (and_first (is_run w) (list_all is_run ws) h)) ∙ runs_dotted w ws (and_back (is_run w) (list_all is_run ws) h)
 
 pub row_runs : (text : List ℕ) (at to : ℕ) (ws : List (List ℕ)) → IsRow text at to ws → runs (slice_range text at to) ≡ ws
 row_runs text at to ws r = ap runs (row_bytes text at to ws r) ∙ runs_spelled ws r.runs

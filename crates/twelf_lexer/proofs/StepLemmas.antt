@@ -10,10 +10,10 @@ use Rattle.token_laws.proofs.CutFollows.{one_of, of_sign_in}
 use Rattle.token_laws.proofs.Steps.{comment_goes_in, line_comment_goes, mark_ends, percent_word_goes, stray_percent_goes, quote_goes, dot_goes, assign_goes, colon_goes, bracket_goes, white_space_goes}
 use Rattle.twelf_lexer.specs.Scans.{IsFront, Closes, StaysOpen}
 use Rattle.twelf_lexer.specs.Advances.{Advances}
-use Rattle.twelf_lexer.proofs.Fronts.{here_and_on}
 use Rattle.twelf_lexer.proofs.Places.{begins_at, front_length, front_parts, boundary_before, boundary_after}
 use Rattle.twelf_lexer.proofs.RowSteps.{front_runs}
 use Rattle.token_laws.proofs.Bytes.{low_byte}
+use Rattle.list_laws.proofs.Places.{here_and_on}
 
 -- the byte at a place, and what follows
 here_is : (text : List ℕ) (at b : ℕ) → at < length text → get_or text at 0 ≡ b → drop at text ≡ b ∷ drop (at + 1) text

@@ -6,11 +6,12 @@ use Rattle.log_meaning.specs.Log.{Log, Edit, edited, version_of}
 use Rattle.log_meaning.specs.Append.{Made, total_size, append_answer}
 use Rattle.log_laws.proofs.Libraries.{library_last}
 use Rattle.edit_log.specs.Readings.{read_edit}
-use Rattle.edit_log.proofs.Answering.{made_fits, made_within, size_after}
+use Rattle.edit_log.proofs.Answering.{made_fits}
 use Rattle.edit_log.proofs.Items.{at_ok}
 use Rattle.edit_log.proofs.Keeping.{kept_by}
 use Rattle.edit_log.proofs.Tables.{stamps_after}
 use Rattle.edit_log.proofs.log.Log.make.Goals as goal
+use Rattle.log_laws.proofs.Limits.{total_last, made_within}
 
 pub overflow_add-self : goal.overflow_add-self
 overflow_add-self c =
@@ -33,5 +34,5 @@ invariant_of-self-2 c =
     (ap (map read_edit) (c.push_reserved.ensures.items ∙ ap (λ xs. xs ++ c.args.edit ∷ []) c.reserve.ensures.items) ∙ map-append read_edit c.self.inside.edits.items (c.args.edit ∷ []))
     (c.in_ok-change_text.ensures.ok ∙ ap (λ l. edited l e) c.self.invariant.library ∙ sym (library_last log e))
     (stamps_after log e c.self.inside.stamps.entries _ c.self.invariant.stamps (λ n. updated.0 n ∙ (λ i. cond (same_name (named i) n) (Some (versioned i)) (lookup (same_name n) (c.reserve-2.ensures.entries i)))))
-    (ap (λ k. k + c.size.result) c.self.invariant.size ∙ ap (λ k. total_size log + k) c.size.ensures ∙ sym (size_after log e))
+    (ap (λ k. k + c.size.result) c.self.invariant.size ∙ ap (λ k. total_size log + k) c.size.ensures ∙ sym (total_last log e))
     (made_within log e _ made c.self.invariant.limits)

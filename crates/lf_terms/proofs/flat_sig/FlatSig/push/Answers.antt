@@ -6,9 +6,10 @@ use Rattle.lf_terms.specs.Tables.{declared}
 use Rattle.lf_terms.specs.declared.qname.QName.{QName}
 use Rattle.lf_terms.specs.declared.flat_decl.FlatDecl.{FlatDecl}
 use Rattle.lf_terms.proofs.KeyedEntries.{keyed_added, keyed_pushed}
-use Rattle.lf_terms.proofs.Lookup.{contained_declared, found_nothing}
+use Rattle.lf_terms.proofs.Lookup.{contained_declared}
 use Rattle.lf_terms.proofs.flat_sig.FlatSig.push.Goals as goal
 use Rattle.lf_terms.proofs.flat_sig.FlatSig.push.Goals.{in-Ok-insert, in-Err-insert}
+use Rattle.list_laws.proofs.Options.{none_of}
 
 pub returns-then-contains_key-clause-twice : goal.returns-then-contains_key-clause-twice
 returns-then-contains_key-clause-twice c =
@@ -18,14 +19,14 @@ returns-then-contains_key-clause-twice c =
 pub invariant_of-self : goal.invariant_of-self
 invariant_of-self c =
     let table = c.self.inside.decls in
-    let absent = found_nothing (lookup (same_qname c.args.decl.name) table.entries) (sym c.contains_key.ensures ∙ c.if-contains_key.false) in
+    let absent = none_of (lookup (same_qname c.args.decl.name) table.entries) (sym c.contains_key.ensures ∙ c.if-contains_key.false) in
     let added = keyed_added (λ (d : FlatDecl). d.name) same_qname table c.in-Ok.name c.args.decl c.in-Ok.ensures absent in
     elim c.match-insert.branch [ in-Ok-insert w ↦ rw (w.in-Ok-insert.ensures.entries ∙ added) (keyed_pushed (λ (d : FlatDecl). d.name) table.entries c.args.decl c.self.invariant) | in-Err-insert w ↦ rw w.in-Err-insert.ensures.err c.self.invariant ]
 
 pub returns-after-insert-clause-ok : goal.returns-after-insert-clause-ok
 returns-after-insert-clause-ok c =
     let table = c.self.inside.decls in
-    let absent = found_nothing (lookup (same_qname c.args.decl.name) table.entries) (sym c.contains_key.ensures ∙ c.if-contains_key.false) in
+    let absent = none_of (lookup (same_qname c.args.decl.name) table.entries) (sym c.contains_key.ensures ∙ c.if-contains_key.false) in
     let added = keyed_added (λ (d : FlatDecl). d.name) same_qname table c.in-Ok.name c.args.decl c.in-Ok.ensures absent in
     let last = map-append (λ (e : QName × FlatDecl). e.1) table.entries ((c.args.decl.name, c.args.decl) ∷ []) in
     elim c.match-insert.branch [ in-Ok-insert w ↦ rw (w.result-is, ← c.self.view_is) (ap values_of (w.in-Ok-insert.ensures.entries ∙ added) ∙ last) | in-Err-insert w ↦ rw w.result-is tt ]

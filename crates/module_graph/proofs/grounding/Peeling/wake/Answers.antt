@@ -1,10 +1,11 @@
 use Rattle.std.proofs.Common.{◌≡◌, ◌+◌, [], ◌∷◌, length, drop, inl, refl, sym, ap, ◌∙◌, subst, arith, rules}
 use Rattle.std.specs.Vec.{vec_len}
 use Rattle.list_laws.proofs.Members.{append_right}
-use Rattle.module_graph.proofs.Writes.{item_read, drop_next, drop_past}
+use Rattle.module_graph.proofs.Writes.{item_read, drop_past}
 use Rattle.module_graph.proofs.Peeled.{step_wake, pending_as}
 use Rattle.module_graph.specs.PeelingState.{IsState}
 use Rattle.module_graph.proofs.grounding.Peeling.wake.Goals as goal
+use Rattle.list_laws.proofs.Places.{here_and_on}
 
 pub index_mut-requires : goal.index_mut-requires
 index_mut-requires c =
@@ -28,7 +29,7 @@ loop-own-init c =
 pub look-requires : goal.look-requires
 look-requires c = (
   drop (c.loop-own.own-index + 1) c.deref-own-items.result.now,
-  subst (IsState c.args.graph.now c.loop-own.self) (drop_next c.deref-own-items.result.now c.loop-own.own-index c.loop-own-test.true) c.loop-own.invariant.0,
+  subst (IsState c.args.graph.now c.loop-own.self) (here_and_on c.deref-own-items.result.now c.loop-own.own-index c.loop-own-test.true) c.loop-own.invariant.0,
 )
 
 pub loop-own-preserved : goal.loop-own-preserved
@@ -36,7 +37,7 @@ loop-own-preserved c =
     let before = c.loop-own.invariant.1 in
     let now = c.in_ok-look.ensures.work in (
       c.in_ok-look.ensures.state (drop (c.loop-own.own-index + 1) c.deref-own-items.result.now)
-          (subst (IsState c.args.graph.now c.loop-own.self) (drop_next c.deref-own-items.result.now c.loop-own.own-index c.loop-own-test.true) c.loop-own.invariant.0),
+          (subst (IsState c.args.graph.now c.loop-own.self) (here_and_on c.deref-own-items.result.now c.loop-own.own-index c.loop-own-test.true) c.loop-own.invariant.0),
       omega (arith, before, now),
     )
 
