@@ -1,7 +1,7 @@
 -- Laws of the log and of the library that it leaves (this profile).
 use Rattle.std.specs.Prelude.{◌≡◌, suc, ◌≤◌, [], ◌∷◌, ◌++◌, Option, Some, None, if◌then◌else◌}
 use Rattle.name_meaning.specs.Names.{Name, Text, same_name, is_among}
-use Rattle.log_meaning.specs.Log.{Edit, Put, Drop, edited_name, Log, Library, names_of, library_of, text_of, is_present, version_of, stamp_of, IsLibrary}
+use Rattle.log_meaning.specs.Log.{Edit, Put, Drop, edited_name, Log, Library, names_of, library_of, text_of, is_present, version_of, stamp_of, edit_at, IsLibrary}
 use Rattle.log_meaning.specs.Append.{appended, IsWithinLimits}
 
 -- What an edit leaves of its name.
@@ -28,6 +28,11 @@ abbrev pub EditDecidesStamp : Type 0
 EditDecidesStamp =
     (log : Log) (edit : Edit) (name : Name)
     → stamp_of (log ++ edit ∷ []) name ≡ (if same_name name (edited_name edit) then suc (version_of log) else stamp_of log name)
+
+-- The edit at the stamp of a present name put its text.
+abbrev pub StampIsOfText : Type 0
+StampIsOfText =
+    (log : Log) (name : Name) (text : Text) → text_of (library_of log) name ≡ Some text → edit_at log (stamp_of log name) ≡ Some (Put name text)
 
 -- No stamp is greater than the version.
 abbrev pub StampsArePast : Type 0
