@@ -1,3 +1,4 @@
 pub mod Libraries
 pub mod Limits
 pub mod Positions
+pub mod Stamped

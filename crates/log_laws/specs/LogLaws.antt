@@ -29,6 +29,11 @@ EditDecidesStamp =
     (log : Log) (edit : Edit) (name : Name)
     → stamp_of (log ++ edit ∷ []) name ≡ (if same_name name (edited_name edit) then suc (version_of log) else stamp_of log name)
 
+-- The edit at the stamp of a present name put its text.
+abbrev pub StampIsOfText : Type 0
+StampIsOfText =
+    (log : Log) (name : Name) (text : Text) → text_of (library_of log) name ≡ Some text → edit_at log (stamp_of log name) ≡ Some (Put name text)
+
 -- No stamp is greater than the version.
 abbrev pub StampsArePast : Type 0
 StampsArePast = (log : Log) (name : Name) → stamp_of log name ≤ version_of log

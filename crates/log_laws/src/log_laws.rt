@@ -1,6 +1,6 @@
 //! The log and the library that it leaves.
 
-ghost use Rattle.log_laws.specs.LogLaws.{LogLeavesLibrary, NamesArePresent, EditDecidesText, EditDecidesStamp, StampsArePast, LimitsAreKept, EditsStandAtVersions, NoEditMadeOthers, NamesStandInOrder, NoNameStandsPastLast};
+ghost use Rattle.log_laws.specs.LogLaws.{LogLeavesLibrary, NamesArePresent, EditDecidesText, EditDecidesStamp, StampIsOfText, StampsArePast, LimitsAreKept, EditsStandAtVersions, NoEditMadeOthers, NamesStandInOrder, NoNameStandsPastLast};
 ghost use Rattle.log_laws.specs.Limits.{LogLimits, InputLimits};
 
 /// A log leaves a library, whose names are the present ones. An edit decides the text of its name alone.
@@ -10,9 +10,11 @@ pub fn law_library()
     ensures text { EditDecidesText }
 {}
 
-/// An edit gives its version to its name alone, and no stamp is greater than the version.
+/// An edit gives its version to its name alone; the edit at the stamp of a present name put its text; and no stamp is greater
+/// than the version.
 pub fn law_stamps()
     ensures stamp { EditDecidesStamp }
+    ensures text { StampIsOfText }
     ensures past { StampsArePast }
 {}
 
