@@ -2,7 +2,7 @@
 
 use crate::signature_tests::VECTORS;
 use lf_check::{LfFault, check_fam, check_kind, check_obj, synth};
-use lf_terms::{Ctx, FlatSig, Head, same_fam};
+use lf_terms::{Ctx, Fam, FlatSig, Head, same_fam};
 use std::alloc::Global;
 use std::test::Fail;
 use test_texts::{constant, context, family, kind, object, signature, spine};
@@ -53,7 +53,7 @@ fn object_answered(
     let (text, class) = judgement.split_once(" : ").ok_or("no family")?;
     let object = object(alloc, NAMES, text)?;
     let family = family(alloc, NAMES, class)?;
-    let checked = check_obj(alloc, sig, ctx, &object, &family);
+    let checked = Box::new(alloc, check_obj(alloc, sig, ctx, &object, &family))?;
     is_answer(&checked, wanted)
 }
 
@@ -86,16 +86,18 @@ fn synthesises(
     (head, arguments): (&str, &str),
     wanted: &str,
 ) -> Result<bool, Fail> {
-    let head = Head::Con(constant(alloc, head)?);
+    let head = Box::new(alloc, Head::Con(constant(alloc, head)?))?;
     let arguments = spine(alloc, NAMES, arguments)?;
-    match synth(alloc, sig, ctx, &head, arguments.as_slice()) {
-        Ok(found) => {
-            let found = Box::new(alloc, found)?;
-            let wanted = family(alloc, NAMES, wanted)?;
-            Ok(same_fam(&found, &wanted))
-        }
-        Err(fault) => is_fault(&fault, wanted),
+    let answer = Box::new(alloc, synth(alloc, sig, ctx, &head, arguments.as_slice()))?;
+    match &*answer {
+        Ok(found) => is_family(alloc, found, wanted),
+        Err(fault) => is_fault(fault, wanted),
     }
+}
+
+fn is_family(alloc: Global, found: &Fam, wanted: &str) -> Result<bool, Fail> {
+    let wanted = family(alloc, NAMES, wanted)?;
+    Ok(same_fam(found, &wanted))
 }
 
 #[test]
@@ -125,7 +127,7 @@ fn family_answered(
     wanted: &str,
 ) -> Result<bool, Fail> {
     let family = family(alloc, NAMES, text)?;
-    let checked = check_fam(alloc, sig, ctx, &family);
+    let checked = Box::new(alloc, check_fam(alloc, sig, ctx, &family))?;
     is_answer(&checked, wanted)
 }
 
@@ -137,7 +139,7 @@ fn kind_answered(
     wanted: &str,
 ) -> Result<bool, Fail> {
     let kind = kind(alloc, NAMES, text)?;
-    let checked = check_kind(alloc, sig, ctx, &kind);
+    let checked = Box::new(alloc, check_kind(alloc, sig, ctx, &kind))?;
     is_answer(&checked, wanted)
 }
 

@@ -1,4 +1,4 @@
-//! Tests of terms, of substitution and of the checker. What a clause says is not tested again: a test shows that a call
+//! Tests of terms, of substitution, of the checker and of translation. What a clause says is not tested again: a test shows that a call
 //! which allocates succeeds with ample memory, on small, wide and deep terms, and that the definitions give what is
 //! wanted in worked cases.
 #![tactic(auto)]
@@ -19,3 +19,5 @@ mod table_tests;
 mod term_tests;
 #[cfg(test)]
 mod thread_tests;
+#[cfg(test)]
+mod translation_tests;

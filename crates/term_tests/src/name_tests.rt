@@ -2,7 +2,6 @@
 
 use lf_terms::{Bytes, Name, NameFault, Path, Texts};
 use std::alloc::Global;
-use std::cmp::Ordering;
 use std::collections::{BTreeSet, HashSet};
 use std::test::Fail;
 
@@ -41,32 +40,36 @@ fn other_texts_are_no_names(rt: HostRuntime) {
     }
 }
 
-fn ordered(alloc: Global) -> Result<String, Fail> {
-    let mut names = BTreeSet::new(alloc);
+fn names(alloc: Global) -> Result<Box<BTreeSet<Name>>, Fail> {
+    let mut names = Box::new(alloc, BTreeSet::new(alloc))?;
     for text in ["b", "a", "Z", "ab", "a"] {
         names.insert(Name::new(alloc, text)?)?;
     }
-    let mut order = String::new(alloc);
+    Ok(names)
+}
+
+/// Names in a row, with a blank behind each.
+fn row(alloc: Global, names: &BTreeSet<Name>) -> Result<String, Fail> {
+    let mut row = String::new(alloc);
     for name in names.iter() {
-        order.push_str(name.as_str())?;
-        order.push_str(" ")?;
+        row.push_str(name.as_str())?;
+        row.push_str(" ")?;
     }
-    Ok(order)
+    Ok(row)
 }
 
 #[test]
 fn names_stand_in_byte_order(rt: HostRuntime) -> Result<(), Fail> {
     let alloc = rt.alloc();
-    assert_eq!(rt; ordered(alloc)?.as_str(), "Z a ab b ");
-    let a = Name::new(alloc, "a")?;
-    let ab = Name::new(alloc, "ab")?;
-    assert_eq!(rt; a.partial_cmp(&ab), Some(Ordering::Less));
+    let names = names(alloc)?;
+    let row = row(alloc, &names)?;
+    assert_eq!(rt; row.as_str(), "Z a ab b ");
     Ok(())
 }
 
 /// The path `m.a.b.c`.
-fn long_path(alloc: Global) -> Result<Path, Fail> {
-    let mut path = Path::new(alloc, Name::new(alloc, "m")?)?;
+fn long_path(alloc: Global) -> Result<Box<Path>, Fail> {
+    let mut path = Box::new(alloc, Path::new(alloc, Name::new(alloc, "m")?)?)?;
     for text in ["a", "b", "c"] {
         path.push(Name::new(alloc, text)?)?;
     }
@@ -75,7 +78,7 @@ fn long_path(alloc: Global) -> Result<Path, Fail> {
 
 /// How many different paths there are in a path, its copy and its first name.
 fn different_paths(alloc: Global, path: &Path) -> Result<usize, Fail> {
-    let mut paths = HashSet::new(alloc);
+    let mut paths = Box::new(alloc, HashSet::new(alloc))?;
     paths.insert(path.copy(alloc)?)?;
     paths.insert(path.copy(alloc)?)?;
     paths.insert(Path::new(alloc, Name::new(alloc, "m")?)?)?;
@@ -91,17 +94,18 @@ fn paths_grow_and_are_copied(rt: HostRuntime) -> Result<(), Fail> {
     Ok(())
 }
 
-fn bytes(alloc: Global) -> Result<Bytes, Fail> {
-    let mut bytes = Bytes::new(alloc);
+fn bytes(alloc: Global) -> Result<Box<Bytes>, Fail> {
+    let mut bytes = Box::new(alloc, Bytes::new(alloc))?;
     bytes.push(7)?;
     bytes.extend(&[8, 9])?;
-    let mut again = Bytes::from_vec(bytes.into_vec());
+    let items = Box::into_inner(bytes).into_vec();
+    let mut again = Box::new(alloc, Bytes::from_vec(items))?;
     again.add(10)?;
     Ok(again)
 }
 
-fn texts(alloc: Global) -> Result<Texts, Fail> {
-    let mut texts = Texts::new(alloc);
+fn texts(alloc: Global) -> Result<Box<Texts>, Fail> {
+    let mut texts = Box::new(alloc, Texts::new(alloc))?;
     texts.push(String::from_str(alloc, "one")?)?;
     texts.push(String::from_str(alloc, "")?)?;
     Ok(texts)

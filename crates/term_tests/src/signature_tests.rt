@@ -18,11 +18,16 @@ cons : {n:nat} nat -> vec n -> vec (s n)";
 /// declaration and its fault, as `2 mismatch 1 2`.
 fn is_answered(alloc: Global, text: &str, wanted: &str) -> Result<bool, Fail> {
     let sig = signature(alloc, text)?;
-    match check_sig(alloc, &sig) {
+    let checked = Box::new(alloc, check_sig(alloc, &sig))?;
+    is_answer(&checked, wanted)
+}
+
+fn is_answer(checked: &Result<(), SigFault>, wanted: &str) -> Result<bool, Fail> {
+    match checked {
         Ok(()) => Ok(wanted == "ok"),
         Err(SigFault::Bad { index, fault }) => {
             let (place, wanted) = wanted.split_once(' ').ok_or("a fault")?;
-            Ok(place.parse::<usize>()? == index && is_fault(&fault, wanted)?)
+            Ok(place.parse::<usize>()? == *index && is_fault(fault, wanted)?)
         }
         Err(SigFault::Memory) => Ok(false),
     }

@@ -2,19 +2,18 @@
 
 use hereditary_subst::{reduce, subst_fam, subst_kind, subst_obj};
 use lf_check::{check_fam, check_kind, check_obj, check_sig};
-use lf_terms::{Ctx, FlatSig, same_fam, same_kind, same_obj, shift_fam, shift_kind, shift_obj};
+use lf_terms::{
+    Ctx, Fam, FlatSig, Kind, Obj, same_fam, same_kind, same_obj, shift_fam, shift_kind, shift_obj,
+};
+use lf_translate::{translate_fam, translate_kind, translate_obj};
 use std::alloc::Global;
 use std::test::Fail;
-use test_texts::{family, kind, object, signature, simple, spine};
+use test_texts::{family, kind, map, object, signature, simple, spine};
 
 /// A front, so many times a part, and a back.
-fn repeated(
-    alloc: Global,
-    front: &str,
-    part: &str,
-    back: &str,
-    count: u32,
-) -> Result<String, Fail> {
+type Pattern<'a> = (&'a str, u32, &'a str, &'a str);
+
+fn text(alloc: Global, (front, count, part, back): Pattern<'_>) -> Result<String, Fail> {
     let mut text = String::from_str(alloc, front)?;
     for _ in 0..count {
         text.push_str(part)?;
@@ -23,164 +22,209 @@ fn repeated(
     Ok(text)
 }
 
-fn wide(alloc: Global, front: &str, part: &str, back: &str) -> Result<String, Fail> {
-    repeated(alloc, front, part, back, 1_000)
+fn object_of(alloc: Global, pattern: Pattern<'_>) -> Result<Box<Obj>, Fail> {
+    let text = text(alloc, pattern)?;
+    object(alloc, "", text.as_str())
 }
 
-fn deep(alloc: Global, front: &str, part: &str, back: &str) -> Result<String, Fail> {
-    repeated(alloc, front, part, back, 500)
+fn family_of(alloc: Global, pattern: Pattern<'_>) -> Result<Box<Fam>, Fail> {
+    let text = text(alloc, pattern)?;
+    family(alloc, "", text.as_str())
 }
 
-/// Whether an object is copied, is raised as is wanted, and is the wanted one where z stands for variable 0.
-fn object_goes(alloc: Global, text: &str, raised: &str, substituted: &str) -> Result<bool, Fail> {
-    let term = object(alloc, "", text)?;
-    let raised = object(alloc, "", raised)?;
-    let substituted = object(alloc, "", substituted)?;
+fn kind_of(alloc: Global, pattern: Pattern<'_>) -> Result<Box<Kind>, Fail> {
+    let text = text(alloc, pattern)?;
+    kind(alloc, "", text.as_str())
+}
+
+const WIDE: u32 = 1_000;
+
+const DEEP: u32 = 500;
+
+/// Whether a copy of the object is raised as is wanted.
+fn object_raised(alloc: Global, from: Pattern<'_>, to: Pattern<'_>) -> Result<bool, Fail> {
+    let copy = Box::new(alloc, object_of(alloc, from)?.copy(alloc)?)?;
+    let wanted = object_of(alloc, to)?;
+    let found = Box::new(alloc, shift_obj(alloc, &copy, 1, 0)?)?;
+    Ok(same_obj(&found, &wanted))
+}
+
+/// Whether the object is the wanted one where z stands for variable 0.
+fn object_substituted(alloc: Global, from: Pattern<'_>, to: Pattern<'_>) -> Result<bool, Fail> {
     let z = object(alloc, "", "z")?;
     let a = simple(alloc, "a")?;
-    let copy = Box::new(alloc, term.copy(alloc)?)?;
-    let up = Box::new(alloc, shift_obj(alloc, &copy, 1, 0)?)?;
-    let found = Box::new(alloc, subst_obj(alloc, &z, &a, 0, &copy)?)?;
-    Ok(same_obj(&up, &raised) && same_obj(&found, &substituted))
+    let into = object_of(alloc, from)?;
+    let wanted = object_of(alloc, to)?;
+    let found = Box::new(alloc, subst_obj(alloc, &z, &a, 0, &into)?)?;
+    Ok(same_obj(&found, &wanted))
 }
 
 #[test]
 fn objects(rt: HostRuntime) -> Result<(), Fail> {
     let alloc = rt.alloc();
-    let text = wide(alloc, "g", " #0", "")?;
-    let raised = wide(alloc, "g", " #1", "")?;
-    let substituted = wide(alloc, "g", " z", "")?;
-    assert!(rt; object_goes(alloc, text.as_str(), raised.as_str(), substituted.as_str())?);
-    let text = deep(alloc, "", "[x] ", "g x #500")?;
-    let raised = deep(alloc, "", "[x] ", "g x #501")?;
-    let substituted = deep(alloc, "", "[x] ", "g x z")?;
-    assert!(rt; object_goes(alloc, text.as_str(), raised.as_str(), substituted.as_str())?);
+    for (from, raised, substituted) in [
+        (
+            ("g", WIDE, " #0", ""),
+            ("g", WIDE, " #1", ""),
+            ("g", WIDE, " z", ""),
+        ),
+        (
+            ("", DEEP, "[x] ", "g x #500"),
+            ("", DEEP, "[x] ", "g x #501"),
+            ("", DEEP, "[x] ", "g x z"),
+        ),
+    ] {
+        assert!(rt; object_raised(alloc, from, raised)?);
+        assert!(rt; object_substituted(alloc, from, substituted)?);
+    }
     Ok(())
 }
 
-fn family_goes(alloc: Global, text: &str, raised: &str, substituted: &str) -> Result<bool, Fail> {
-    let term = family(alloc, "", text)?;
-    let raised = family(alloc, "", raised)?;
-    let substituted = family(alloc, "", substituted)?;
+fn family_raised(alloc: Global, from: Pattern<'_>, to: Pattern<'_>) -> Result<bool, Fail> {
+    let copy = Box::new(alloc, family_of(alloc, from)?.copy(alloc)?)?;
+    let wanted = family_of(alloc, to)?;
+    let found = Box::new(alloc, shift_fam(alloc, &copy, 1, 0)?)?;
+    Ok(same_fam(&found, &wanted))
+}
+
+fn family_substituted(alloc: Global, from: Pattern<'_>, to: Pattern<'_>) -> Result<bool, Fail> {
     let z = object(alloc, "", "z")?;
     let a = simple(alloc, "a")?;
-    let copy = Box::new(alloc, term.copy(alloc)?)?;
-    let up = Box::new(alloc, shift_fam(alloc, &copy, 1, 0)?)?;
-    let found = Box::new(alloc, subst_fam(alloc, &z, &a, 0, &copy)?)?;
-    Ok(same_fam(&up, &raised) && same_fam(&found, &substituted))
+    let into = family_of(alloc, from)?;
+    let wanted = family_of(alloc, to)?;
+    let found = Box::new(alloc, subst_fam(alloc, &z, &a, 0, &into)?)?;
+    Ok(same_fam(&found, &wanted))
 }
 
 #[test]
 fn families(rt: HostRuntime) -> Result<(), Fail> {
     let alloc = rt.alloc();
-    let text = wide(alloc, "b", " #0", "")?;
-    let raised = wide(alloc, "b", " #1", "")?;
-    let substituted = wide(alloc, "b", " z", "")?;
-    assert!(rt; family_goes(alloc, text.as_str(), raised.as_str(), substituted.as_str())?);
-    let text = deep(alloc, "", "{x:a} ", "b x #500")?;
-    let raised = deep(alloc, "", "{x:a} ", "b x #501")?;
-    let substituted = deep(alloc, "", "{x:a} ", "b x z")?;
-    assert!(rt; family_goes(alloc, text.as_str(), raised.as_str(), substituted.as_str())?);
+    for (from, raised, substituted) in [
+        (
+            ("b", WIDE, " #0", ""),
+            ("b", WIDE, " #1", ""),
+            ("b", WIDE, " z", ""),
+        ),
+        (
+            ("", DEEP, "{x:a} ", "b x #500"),
+            ("", DEEP, "{x:a} ", "b x #501"),
+            ("", DEEP, "{x:a} ", "b x z"),
+        ),
+    ] {
+        assert!(rt; family_raised(alloc, from, raised)?);
+        assert!(rt; family_substituted(alloc, from, substituted)?);
+    }
     Ok(())
 }
 
-fn kind_goes(alloc: Global, text: &str, raised: &str, substituted: &str) -> Result<bool, Fail> {
-    let term = kind(alloc, "", text)?;
-    let raised = kind(alloc, "", raised)?;
-    let substituted = kind(alloc, "", substituted)?;
+fn kind_raised(alloc: Global, from: Pattern<'_>, to: Pattern<'_>) -> Result<bool, Fail> {
+    let copy = Box::new(alloc, kind_of(alloc, from)?.copy(alloc)?)?;
+    let wanted = kind_of(alloc, to)?;
+    let found = Box::new(alloc, shift_kind(alloc, &copy, 1, 0)?)?;
+    Ok(same_kind(&found, &wanted))
+}
+
+fn kind_substituted(alloc: Global, from: Pattern<'_>, to: Pattern<'_>) -> Result<bool, Fail> {
     let z = object(alloc, "", "z")?;
     let a = simple(alloc, "a")?;
-    let copy = Box::new(alloc, term.copy(alloc)?)?;
-    let up = Box::new(alloc, shift_kind(alloc, &copy, 1, 0)?)?;
-    let found = Box::new(alloc, subst_kind(alloc, &z, &a, 0, &copy)?)?;
-    Ok(same_kind(&up, &raised) && same_kind(&found, &substituted))
+    let into = kind_of(alloc, from)?;
+    let wanted = kind_of(alloc, to)?;
+    let found = Box::new(alloc, subst_kind(alloc, &z, &a, 0, &into)?)?;
+    Ok(same_kind(&found, &wanted))
 }
 
 #[test]
 fn kinds(rt: HostRuntime) -> Result<(), Fail> {
     let alloc = rt.alloc();
-    let text = wide(alloc, "{x:b", " #0", "} type")?;
-    let raised = wide(alloc, "{x:b", " #1", "} type")?;
-    let substituted = wide(alloc, "{x:b", " z", "} type")?;
-    assert!(rt; kind_goes(alloc, text.as_str(), raised.as_str(), substituted.as_str())?);
-    let text = deep(alloc, "", "{x:a} ", "b #500 -> type")?;
-    let raised = deep(alloc, "", "{x:a} ", "b #501 -> type")?;
-    let substituted = deep(alloc, "", "{x:a} ", "b z -> type")?;
-    assert!(rt; kind_goes(alloc, text.as_str(), raised.as_str(), substituted.as_str())?);
+    for (from, raised, substituted) in [
+        (
+            ("{x:b", WIDE, " #0", "} type"),
+            ("{x:b", WIDE, " #1", "} type"),
+            ("{x:b", WIDE, " z", "} type"),
+        ),
+        (
+            ("", DEEP, "{x:a} ", "b #500 -> type"),
+            ("", DEEP, "{x:a} ", "b #501 -> type"),
+            ("", DEEP, "{x:a} ", "b z -> type"),
+        ),
+    ] {
+        assert!(rt; kind_raised(alloc, from, raised)?);
+        assert!(rt; kind_substituted(alloc, from, substituted)?);
+    }
     Ok(())
 }
 
-/// Whether a value at the erasure of a family, applied to arguments, is the wanted object.
-fn reduces(
-    alloc: Global,
-    (value, class): (&str, &str),
-    arguments: &str,
-    wanted: &str,
-) -> Result<bool, Fail> {
-    let value = object(alloc, "", value)?;
-    let simple = simple(alloc, class)?;
-    let arguments = spine(alloc, "", arguments)?;
-    let wanted = object(alloc, "", wanted)?;
+/// Whether an atomic value takes 1,000 arguments on its spine.
+fn reduces_wide(alloc: Global) -> Result<bool, Fail> {
+    let value = object(alloc, "", "g")?;
+    let simple = simple(alloc, "a")?;
+    let arguments = text(alloc, ("", WIDE, " z", ""))?;
+    let arguments = spine(alloc, "", arguments.as_str())?;
+    let wanted = object_of(alloc, ("g", WIDE, " z", ""))?;
+    let found = Box::new(alloc, reduce(alloc, &value, &simple, arguments.as_slice())?)?;
+    Ok(same_obj(&found, &wanted))
+}
+
+/// Whether a value under 500 binders takes an argument for each.
+fn reduces_deep(alloc: Global) -> Result<bool, Fail> {
+    let value = object_of(alloc, ("", DEEP, "[x] ", "g x"))?;
+    let class = text(alloc, ("", DEEP, "a -> ", "a"))?;
+    let simple = simple(alloc, class.as_str())?;
+    let arguments = text(alloc, ("", DEEP, " z", ""))?;
+    let arguments = spine(alloc, "", arguments.as_str())?;
+    let wanted = object(alloc, "", "g z")?;
     let found = Box::new(alloc, reduce(alloc, &value, &simple, arguments.as_slice())?)?;
     Ok(same_obj(&found, &wanted))
 }
 
 #[test]
 fn reductions(rt: HostRuntime) -> Result<(), Fail> {
-    let alloc = rt.alloc();
-    let arguments = wide(alloc, "", " z", "")?;
-    let wanted = wide(alloc, "g", " z", "")?;
-    assert!(rt; reduces(alloc, ("g", "a"), arguments.as_str(), wanted.as_str())?);
-    let value = deep(alloc, "", "[x] ", "g x")?;
-    let class = deep(alloc, "", "a -> ", "a")?;
-    let arguments = deep(alloc, "", " z", "")?;
-    assert!(rt;
-        reduces(
-            alloc,
-            (value.as_str(), class.as_str()),
-            arguments.as_str(),
-            "g z"
-        )?
-    );
+    assert!(rt; reduces_wide(rt.alloc())?);
+    assert!(rt; reduces_deep(rt.alloc())?);
     Ok(())
 }
 
 /// `w` takes 1,000 arguments, and so does the family constant `b`.
-fn wide_signature(alloc: Global) -> Result<FlatSig, Fail> {
-    let object = wide(alloc, "a : type\nz : a\nw : ", "a -> ", "a\nb : ")?;
-    let whole = wide(alloc, object.as_str(), "a -> ", "type")?;
+fn wide_signature(alloc: Global) -> Result<Box<FlatSig>, Fail> {
+    let front = text(alloc, ("a : type\nz : a\nw : ", WIDE, "a -> ", "a\nb : "))?;
+    let whole = text(alloc, (front.as_str(), WIDE, "a -> ", "type"))?;
     signature(alloc, whole.as_str())
 }
 
-fn object_checks(alloc: Global, sig: &FlatSig, text: &str, class: &str) -> Result<bool, Fail> {
-    let ctx = Ctx::new(alloc);
-    let term = object(alloc, "", text)?;
-    let class = family(alloc, "", class)?;
-    Ok(check_obj(alloc, sig, &ctx, &term, &class).is_ok())
+fn object_checks(
+    alloc: Global,
+    sig: &FlatSig,
+    term: Pattern<'_>,
+    class: Pattern<'_>,
+) -> Result<bool, Fail> {
+    let ctx = Box::new(alloc, Ctx::new(alloc))?;
+    let term = object_of(alloc, term)?;
+    let class = family_of(alloc, class)?;
+    let checked = Box::new(alloc, check_obj(alloc, sig, &ctx, &term, &class))?;
+    Ok(checked.is_ok())
 }
 
-fn family_checks(alloc: Global, sig: &FlatSig, text: &str) -> Result<bool, Fail> {
-    let ctx = Ctx::new(alloc);
-    let term = family(alloc, "", text)?;
-    Ok(check_fam(alloc, sig, &ctx, &term).is_ok())
+fn family_checks(alloc: Global, sig: &FlatSig, term: Pattern<'_>) -> Result<bool, Fail> {
+    let ctx = Box::new(alloc, Ctx::new(alloc))?;
+    let term = family_of(alloc, term)?;
+    let checked = Box::new(alloc, check_fam(alloc, sig, &ctx, &term))?;
+    Ok(checked.is_ok())
 }
 
-fn kind_checks(alloc: Global, sig: &FlatSig, text: &str) -> Result<bool, Fail> {
-    let ctx = Ctx::new(alloc);
-    let term = kind(alloc, "", text)?;
-    Ok(check_kind(alloc, sig, &ctx, &term).is_ok())
+fn kind_checks(alloc: Global, sig: &FlatSig, term: Pattern<'_>) -> Result<bool, Fail> {
+    let ctx = Box::new(alloc, Ctx::new(alloc))?;
+    let term = kind_of(alloc, term)?;
+    let checked = Box::new(alloc, check_kind(alloc, sig, &ctx, &term))?;
+    Ok(checked.is_ok())
 }
 
 #[test]
 fn wide_terms_check(rt: HostRuntime) -> Result<(), Fail> {
     let alloc = rt.alloc();
     let sig = wide_signature(alloc)?;
-    let applied = wide(alloc, "w", " z", "")?;
-    assert!(rt; object_checks(alloc, &sig, applied.as_str(), "a")?);
-    let applied = wide(alloc, "b", " z", "")?;
-    assert!(rt; family_checks(alloc, &sig, applied.as_str())?);
-    let product = wide(alloc, "{x:b", " z", "} type")?;
-    assert!(rt; kind_checks(alloc, &sig, product.as_str())?);
+    assert!(rt; object_checks(alloc, &sig, ("w", WIDE, " z", ""), ("a", 0, "", ""))?);
+    assert!(rt; family_checks(alloc, &sig, ("b", WIDE, " z", ""))?);
+    assert!(rt; kind_checks(alloc, &sig, ("{x:b", WIDE, " z", "} type"))?);
     Ok(())
 }
 
@@ -188,31 +232,90 @@ fn wide_terms_check(rt: HostRuntime) -> Result<(), Fail> {
 fn deep_terms_check(rt: HostRuntime) -> Result<(), Fail> {
     let alloc = rt.alloc();
     let sig = signature(alloc, "a : type\nb : a -> type")?;
-    let object = deep(alloc, "", "[x] ", "x")?;
-    let class = deep(alloc, "", "a -> ", "a")?;
-    assert!(rt; object_checks(alloc, &sig, object.as_str(), class.as_str())?);
-    let products = deep(alloc, "", "{x:a} ", "b x")?;
-    assert!(rt; family_checks(alloc, &sig, products.as_str())?);
-    let kind = deep(alloc, "", "{x:a} ", "b x -> type")?;
-    assert!(rt; kind_checks(alloc, &sig, kind.as_str())?);
+    assert!(rt;
+        object_checks(
+            alloc,
+            &sig,
+            ("", DEEP, "[x] ", "x"),
+            ("", DEEP, "a -> ", "a")
+        )?
+    );
+    assert!(rt; family_checks(alloc, &sig, ("", DEEP, "{x:a} ", "b x"))?);
+    assert!(rt; kind_checks(alloc, &sig, ("", DEEP, "{x:a} ", "b x -> type"))?);
     Ok(())
 }
 
 /// 1,000 declarations.
-fn many(alloc: Global) -> Result<FlatSig, Fail> {
+fn many(alloc: Global) -> Result<String, Fail> {
     let mut text = String::from_str(alloc, "a : type\nb : a -> type\nc0 : a")?;
     for i in 1..998 {
         let line = format!(in alloc; "\nc{i} : {{x:a}} b x -> a = [x] [y] c0")?;
         text.push_str(line.as_str())?;
     }
-    signature(alloc, text.as_str())
+    Ok(text)
+}
+
+fn many_check(alloc: Global) -> Result<bool, Fail> {
+    let text = many(alloc)?;
+    let sig = signature(alloc, text.as_str())?;
+    let checked = Box::new(alloc, check_sig(alloc, &sig))?;
+    Ok(sig.len() == 1_000 && checked.is_ok())
 }
 
 #[test]
 fn many_declarations_check(rt: HostRuntime) -> Result<(), Fail> {
+    assert!(rt; many_check(rt.alloc())?);
+    Ok(())
+}
+
+const TO_T: &str = "\
+a : type = same T.a
+b : type = same T.b
+g : a = same T.g
+z : a = same T.z";
+
+fn object_translated(alloc: Global, from: Pattern<'_>, to: Pattern<'_>) -> Result<bool, Fail> {
+    let map = map(alloc, TO_T)?;
+    let term = object_of(alloc, from)?;
+    let wanted = object_of(alloc, to)?;
+    let found = Box::new(alloc, translate_obj(alloc, &map, &term)?)?;
+    Ok(same_obj(&found, &wanted))
+}
+
+fn family_translated(alloc: Global, from: Pattern<'_>, to: Pattern<'_>) -> Result<bool, Fail> {
+    let map = map(alloc, TO_T)?;
+    let term = family_of(alloc, from)?;
+    let wanted = family_of(alloc, to)?;
+    let found = Box::new(alloc, translate_fam(alloc, &map, &term)?)?;
+    Ok(same_fam(&found, &wanted))
+}
+
+fn kind_translated(alloc: Global, from: Pattern<'_>, to: Pattern<'_>) -> Result<bool, Fail> {
+    let map = map(alloc, TO_T)?;
+    let term = kind_of(alloc, from)?;
+    let wanted = kind_of(alloc, to)?;
+    let found = Box::new(alloc, translate_kind(alloc, &map, &term)?)?;
+    Ok(same_kind(&found, &wanted))
+}
+
+#[test]
+fn translations(rt: HostRuntime) -> Result<(), Fail> {
     let alloc = rt.alloc();
-    let sig = many(alloc)?;
-    assert_eq!(rt; sig.len(), 1_000);
-    assert!(rt; check_sig(alloc, &sig).is_ok());
+    assert!(rt; object_translated(alloc, ("g", WIDE, " z", ""), ("T.g", WIDE, " T.z", ""))?);
+    assert!(rt;
+        object_translated(
+            alloc,
+            ("", DEEP, "[x] ", "g x"),
+            ("", DEEP, "[x] ", "T.g x")
+        )?
+    );
+    assert!(rt; family_translated(alloc, ("b", WIDE, " z", ""), ("T.b", WIDE, " T.z", ""))?);
+    assert!(rt;
+        kind_translated(
+            alloc,
+            ("", DEEP, "{x:a} ", "type"),
+            ("", DEEP, "{x:T.a} ", "type")
+        )?
+    );
     Ok(())
 }

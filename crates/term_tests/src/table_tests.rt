@@ -1,47 +1,49 @@
 //! Tables, shared values and counted steps.
 ghost use Rattle.std.specs.Prelude.{◌≡◌, ◌<◌};
 
-use lf_terms::{
-    Arc, FlatDecl, FlatSig, HeadMap, Image, MapFault, Name, PushFault, Steps, same_class,
-    same_value,
-};
+use lf_terms::{Arc, FlatSig, HeadMap, MapFault, Name, PushFault, Steps, same_class, same_value};
 use std::alloc::Global;
 use std::marker::Brand;
 use std::sync::ledger::{Blank, Ledger};
 use std::test::Fail;
-use test_texts::{constant, map, signature};
+use test_texts::{map, signature};
 
 const DECLARED: &str = "\
 a : type
 c : a
 d : a = same c";
 
-/// Whether a copy of the declaration at an index is refused with itself.
-fn is_twice(alloc: Global, sig: &mut FlatSig, i: usize) -> Result<bool, Fail> {
-    let decl = sig.at(i).ok_or("no declaration")?.copy(alloc)?;
-    match sig.push(decl) {
-        Err(PushFault::Twice(back)) => Ok(is_at(sig, &back, i)),
-        _ => Ok(false),
-    }
+/// A copy of the declaration at an index, pushed again.
+fn pushed_again(
+    alloc: Global,
+    sig: &mut FlatSig,
+    i: usize,
+) -> Result<Box<Result<(), PushFault>>, Fail> {
+    let copy = Box::new(alloc, sig.at(i).ok_or("no declaration")?.copy(alloc)?)?;
+    Ok(Box::new(alloc, sig.push(Box::into_inner(copy)))?)
 }
 
-fn is_at(sig: &FlatSig, decl: &FlatDecl, i: usize) -> bool {
-    sig.place(&decl.name) == Some(i)
-        && sig
-            .get(&decl.name)
-            .is_some_and(|found| same_class(&found.class, &decl.class))
+/// Whether the declaration at an index came back.
+fn is_twice(sig: &FlatSig, pushed: &Result<(), PushFault>, i: usize) -> bool {
+    match pushed {
+        Err(PushFault::Twice(decl)) => {
+            sig.place(&decl.name) == Some(i)
+                && sig
+                    .get(&decl.name)
+                    .is_some_and(|found| same_class(&found.class, &decl.class))
+        }
+        _ => false,
+    }
 }
 
 #[test]
 fn declarations_are_found_by_name(rt: HostRuntime) -> Result<(), Fail> {
     let alloc = rt.alloc();
     let mut sig = signature(alloc, DECLARED)?;
-    assert!(rt; is_twice(alloc, &mut sig, 0)?);
-    assert!(rt; is_twice(alloc, &mut sig, 2)?);
-    assert_eq!(rt; sig.len(), 3);
-    let c = constant(alloc, "c")?;
-    assert_eq!(rt; sig.place(&c), Some(1));
-    assert!(rt; sig.at(3).is_none());
+    let first = pushed_again(alloc, &mut sig, 0)?;
+    let last = pushed_again(alloc, &mut sig, 2)?;
+    assert!(rt; is_twice(&sig, &first, 0) && is_twice(&sig, &last, 2));
+    assert!(rt; sig.len() == 3 && sig.at(3).is_none());
     Ok(())
 }
 
@@ -49,34 +51,39 @@ const MAPPED: &str = "\
 c : a = same d
 f : a -> a = [x] g x x";
 
-/// Whether a copy of the image at an index is refused with itself.
-fn is_mapped_twice(alloc: Global, map: &mut HeadMap, i: usize) -> Result<bool, Fail> {
+/// Copies of a constant and its image, pushed again.
+fn mapped_again(
+    alloc: Global,
+    map: &mut HeadMap,
+    i: usize,
+) -> Result<Box<Result<(), MapFault>>, Fail> {
     let (name, image) = map.at(i).ok_or("no image")?;
-    let name = name.copy(alloc)?;
-    let image = image.copy(alloc)?;
-    match map.push(name, image) {
-        Err(MapFault::Twice(name, image)) => Ok(
-            map.get(&name)
-                .is_some_and(|found| same_image(found, &image)),
-        ),
-        _ => Ok(false),
-    }
+    let name = Box::new(alloc, name.copy(alloc)?)?;
+    let image = Box::new(alloc, image.copy(alloc)?)?;
+    Ok(Box::new(
+        alloc,
+        map.push(Box::into_inner(name), Box::into_inner(image)),
+    )?)
 }
 
-fn same_image(a: &Image, b: &Image) -> bool {
-    same_class(&a.class, &b.class) && same_value(&a.value, &b.value)
+/// Whether the image of the constant came back.
+fn is_mapped_twice(map: &HeadMap, pushed: &Result<(), MapFault>) -> bool {
+    match pushed {
+        Err(MapFault::Twice(name, image)) => map.get(name).is_some_and(|found| {
+            same_class(&found.class, &image.class) && same_value(&found.value, &image.value)
+        }),
+        _ => false,
+    }
 }
 
 #[test]
 fn images_are_found_by_name(rt: HostRuntime) -> Result<(), Fail> {
     let alloc = rt.alloc();
     let mut map = map(alloc, MAPPED)?;
-    assert!(rt; is_mapped_twice(alloc, &mut map, 0)?);
-    assert!(rt; is_mapped_twice(alloc, &mut map, 1)?);
-    assert_eq!(rt; map.len(), 2);
-    let d = constant(alloc, "d")?;
-    assert!(rt; map.get(&d).is_none());
-    assert!(rt; map.at(2).is_none());
+    let first = mapped_again(alloc, &mut map, 0)?;
+    let last = mapped_again(alloc, &mut map, 1)?;
+    assert!(rt; is_mapped_twice(&map, &first) && is_mapped_twice(&map, &last));
+    assert!(rt; map.len() == 2 && map.at(2).is_none());
     Ok(())
 }
 

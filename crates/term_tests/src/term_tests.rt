@@ -112,6 +112,12 @@ fn same_texts(alloc: Global, text: &str, other: &str) -> Result<bool, Fail> {
     Ok(same_obj(&term, &other))
 }
 
+fn same_families(alloc: Global, text: &str, other: &str) -> Result<bool, Fail> {
+    let term = family(alloc, "", text)?;
+    let other = family(alloc, "", other)?;
+    Ok(same_fam(&term, &other))
+}
+
 #[test]
 fn texts_are_read_as_terms(rt: HostRuntime) -> Result<(), Fail> {
     let alloc = rt.alloc();
@@ -123,18 +129,17 @@ fn texts_are_read_as_terms(rt: HostRuntime) -> Result<(), Fail> {
     ] {
         assert!(rt; same_texts(alloc, text, other)?, "{text}");
     }
-    let arrows = family(alloc, "", "a -> b -> c")?;
-    let products = family(alloc, "", "{x:a} ({y:b} c)")?;
-    assert!(rt; same_fam(&arrows, &products));
+    assert!(rt; same_families(alloc, "a -> b -> c", "{x:a} ({y:b} c)")?);
     Ok(())
 }
 
 /// Arguments that were added one by one, and put into a vector and back.
-fn added(alloc: Global) -> Result<Spine, Fail> {
-    let mut spine = Spine::with_capacity(alloc, 2)?;
+fn added(alloc: Global) -> Result<Box<Spine>, Fail> {
+    let mut spine = Box::new(alloc, Spine::with_capacity(alloc, 2)?)?;
     spine.add(Box::into_inner(object(alloc, "", "#0")?))?;
     spine.push(Box::into_inner(object(alloc, "", "c")?))?;
-    Ok(Spine::from_vec(spine.into_vec()))
+    let items = Box::into_inner(spine).into_vec();
+    Ok(Box::new(alloc, Spine::from_vec(items))?)
 }
 
 fn is_second(spine: &Spine, other: &Obj) -> bool {
@@ -146,9 +151,18 @@ fn arguments_grow_at_their_end(rt: HostRuntime) -> Result<(), Fail> {
     let alloc = rt.alloc();
     let c = object(alloc, "", "c")?;
     let spine = added(alloc)?;
-    assert_eq!(rt; spine.len(), 2);
-    assert!(rt; is_second(&spine, &c));
-    let name = constant(alloc, "T.s.c")?;
-    assert!(rt; name.copy(alloc)? == name);
+    assert!(rt; is_second(&spine, &c) && spine.len() == 2);
+    Ok(())
+}
+
+fn name_copied(alloc: Global, text: &str) -> Result<bool, Fail> {
+    let name = Box::new(alloc, constant(alloc, text)?)?;
+    let copy = Box::new(alloc, name.copy(alloc)?)?;
+    Ok(*name == *copy)
+}
+
+#[test]
+fn constants_are_copied(rt: HostRuntime) -> Result<(), Fail> {
+    assert!(rt; name_copied(rt.alloc(), "T.s.c")?);
     Ok(())
 }

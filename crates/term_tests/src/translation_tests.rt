@@ -1,0 +1,220 @@
+//! Translation along maps of constants.
+
+use lf_terms::{Class, HeadMap, QName, Value, same_class, same_fam, same_obj, same_value};
+use lf_translate::{
+    TranslateFault, compose, differ, translate_class, translate_fam, translate_obj, translate_value,
+};
+use std::alloc::Global;
+use std::test::Fail;
+use test_texts::{class, constant, family, map, object, signature, value};
+
+/// A view that sends f to a λ, the family p to one with a binder, and the other constants to constants.
+const VIEW: &str = "\
+i : type = same T.j
+c : T.j = same T.d
+h : T.j -> T.j -> T.j -> T.j = same T.h
+f : T.j -> T.j = [x] T.g x x
+p : T.j -> T.j -> type = family x. T.q x T.d";
+
+fn object_translated(alloc: Global, text: &str, wanted: &str) -> Result<bool, Fail> {
+    let map = map(alloc, VIEW)?;
+    let term = object(alloc, "", text)?;
+    let wanted = object(alloc, "", wanted)?;
+    let found = Box::new(alloc, translate_obj(alloc, &map, &term)?)?;
+    Ok(same_obj(&found, &wanted))
+}
+
+fn family_translated(alloc: Global, text: &str, wanted: &str) -> Result<bool, Fail> {
+    let map = map(alloc, VIEW)?;
+    let term = family(alloc, "", text)?;
+    let wanted = family(alloc, "", wanted)?;
+    let found = Box::new(alloc, translate_fam(alloc, &map, &term)?)?;
+    Ok(same_fam(&found, &wanted))
+}
+
+#[test]
+fn terms_are_translated(rt: HostRuntime) -> Result<(), Fail> {
+    let alloc = rt.alloc();
+    for (text, wanted) in [
+        ("c", "T.d"),
+        ("f (f c)", "T.g (T.g T.d T.d) (T.g T.d T.d)"),
+        ("[x] f x", "[x] T.g x x"),
+        ("[x] h x (f x) c", "[x] T.h x (T.g x x) T.d"),
+    ] {
+        assert!(rt; object_translated(alloc, text, wanted)?, "{text}");
+    }
+    for (text, wanted) in [
+        ("i", "T.j"),
+        ("p c", "T.q T.d T.d"),
+        ("p (f c) c", "T.q (T.g T.d T.d) T.d T.d"),
+        ("{x:i} p x (f x)", "{x:T.j} T.q x T.d (T.g x x)"),
+    ] {
+        assert!(rt; family_translated(alloc, text, wanted)?, "{text}");
+    }
+    Ok(())
+}
+
+fn class_translated(alloc: Global, text: &str, wanted: &str) -> Result<bool, Fail> {
+    let map = map(alloc, VIEW)?;
+    let term = class(alloc, text)?;
+    let wanted = class(alloc, wanted)?;
+    let found = Box::new(alloc, translate_class(alloc, &map, &term)?)?;
+    Ok(same_class(&found, &wanted))
+}
+
+fn value_translated(alloc: Global, text: &str, wanted: &str) -> Result<bool, Fail> {
+    let map = map(alloc, VIEW)?;
+    let term = value(alloc, text)?;
+    let wanted = value(alloc, wanted)?;
+    let found = Box::new(alloc, translate_value(alloc, &map, &term)?)?;
+    Ok(same_value(&found, &wanted))
+}
+
+#[test]
+fn classes_and_values_are_translated(rt: HostRuntime) -> Result<(), Fail> {
+    let alloc = rt.alloc();
+    for (text, wanted) in [
+        ("i -> i", "T.j -> T.j"),
+        ("{x:i} p x -> type", "{x:T.j} T.q x T.d -> type"),
+    ] {
+        assert!(rt; class_translated(alloc, text, wanted)?, "{text}");
+    }
+    for (text, wanted) in [
+        ("same c", "same T.d"),
+        ("same f", "[x] T.g x x"),
+        ("f c", "T.g T.d T.d"),
+        ("family x. p x", "family x. T.q x T.d"),
+    ] {
+        assert!(rt; value_translated(alloc, text, wanted)?, "{text}");
+    }
+    Ok(())
+}
+
+fn is_unmapped(fault: &TranslateFault, wanted: &QName) -> bool {
+    match fault {
+        TranslateFault::Unmapped(name) => *name == *wanted,
+        TranslateFault::Memory => false,
+    }
+}
+
+fn class_unmapped(alloc: Global, text: &str, wanted: &str) -> Result<bool, Fail> {
+    let map = map(alloc, VIEW)?;
+    let term = class(alloc, text)?;
+    let wanted = Box::new(alloc, constant(alloc, wanted)?)?;
+    let found = Box::new(alloc, translate_class(alloc, &map, &term))?;
+    Ok(lacks(&found, &wanted))
+}
+
+fn lacks(answer: &Result<Class, TranslateFault>, wanted: &QName) -> bool {
+    match answer {
+        Ok(_) => false,
+        Err(fault) => is_unmapped(fault, wanted),
+    }
+}
+
+fn value_unmapped(alloc: Global, text: &str, wanted: &str) -> Result<bool, Fail> {
+    let map = map(alloc, VIEW)?;
+    let term = value(alloc, text)?;
+    let wanted = Box::new(alloc, constant(alloc, wanted)?)?;
+    let found = Box::new(alloc, translate_value(alloc, &map, &term))?;
+    Ok(has_no_value(&found, &wanted))
+}
+
+fn has_no_value(answer: &Result<Value, TranslateFault>, wanted: &QName) -> bool {
+    match answer {
+        Ok(_) => false,
+        Err(fault) => is_unmapped(fault, wanted),
+    }
+}
+
+#[test]
+fn the_first_constant_without_an_image(rt: HostRuntime) -> Result<(), Fail> {
+    let alloc = rt.alloc();
+    for (text, wanted) in [
+        ("u -> v", "u"),
+        ("p c (h c v w)", "v"),
+        ("{x:p c u} v", "u"),
+    ] {
+        assert!(rt; class_unmapped(alloc, text, wanted)?, "{text}");
+    }
+    for (text, wanted) in [
+        ("same u", "u"),
+        ("h c u v", "u"),
+        ("u (h v)", "u"),
+        ("family x. p u v", "u"),
+    ] {
+        assert!(rt; value_unmapped(alloc, text, wanted)?, "{text}");
+    }
+    Ok(())
+}
+
+const FIRST: &str = "\
+a : type = same b
+k : b -> b = [x] f (f x)";
+
+const SECOND: &str = "\
+b : type = same c
+f : c -> c = [x] g x x";
+
+const THIRD: &str = "\
+c : type = same d
+g : d -> d -> d = same h";
+
+const COMPOSED: &str = "\
+a : type = same d
+k : d -> d = [x] h (h x x) (h x x)";
+
+fn composition(alloc: Global) -> Result<Box<HeadMap>, Fail> {
+    let first = map(alloc, FIRST)?;
+    let second = map(alloc, SECOND)?;
+    let third = map(alloc, THIRD)?;
+    let both = Box::new(alloc, compose(alloc, &first, &second)?)?;
+    Ok(Box::new(alloc, compose(alloc, &both, &third)?)?)
+}
+
+/// The image of a constant is the same in both maps.
+fn agree(first: &HeadMap, second: &HeadMap, name: &QName) -> bool {
+    match (first.get(name), second.get(name)) {
+        (Some(a), Some(b)) => same_class(&a.class, &b.class) && same_value(&a.value, &b.value),
+        _ => false,
+    }
+}
+
+fn is_composed(alloc: Global, name: &str) -> Result<bool, Fail> {
+    let found = composition(alloc)?;
+    let wanted = map(alloc, COMPOSED)?;
+    let name = Box::new(alloc, constant(alloc, name)?)?;
+    Ok(agree(&found, &wanted, &name) && found.len() == wanted.len())
+}
+
+#[test]
+fn three_maps_are_composed(rt: HostRuntime) -> Result<(), Fail> {
+    assert!(rt; is_composed(rt.alloc(), "a")?);
+    assert!(rt; is_composed(rt.alloc(), "k")?);
+    Ok(())
+}
+
+/// Where maps of two texts differ on `a` and `k`.
+fn difference(alloc: Global, first: &str, second: &str) -> Result<Option<usize>, Fail> {
+    let names = signature(alloc, "a : type\nk : a -> a")?;
+    let first = map(alloc, first)?;
+    let second = map(alloc, second)?;
+    Ok(differ(&first, &second, &names))
+}
+
+#[test]
+fn maps_differ_at_a_first_declaration(rt: HostRuntime) -> Result<(), Fail> {
+    let alloc = rt.alloc();
+    let named = "a : type = same b\nk : b -> b = same k";
+    for (first, second, wanted) in [
+        (named, named, None),
+        (named, "k : b -> b = same k\na : c = same b", None),
+        (named, "a : type = same b\nk : b -> b = [x] k x", Some(1)),
+        (named, "a : type = same b", Some(1)),
+        ("k : b -> b = same k", named, Some(0)),
+        (named, "a : type = same c\nk : b -> b = [x] k x", Some(0)),
+    ] {
+        assert_eq!(rt; difference(alloc, first, second)?, wanted, "{second}");
+    }
+    Ok(())
+}
