@@ -54,6 +54,9 @@ fn wide(alloc: Global, count: u32) -> Result<String, Fail> {
 fn a_thousand(rt: HostRuntime) -> Result<(), Fail> {
     let text = wide(rt.alloc(), 1000)?;
     let line = answered(rt.alloc(), text.as_bytes())?;
-    assert!(rt; line.as_str() == text.as_str(), "a wide theory is printed as it is written");
+    assert!(rt;
+        line.as_str() == text.as_str(),
+        "a wide theory is printed as it is written"
+    );
     Ok(())
 }

@@ -166,13 +166,19 @@ fn judgements(rt: HostRuntime) -> Result<(), Fail> {
 fn what_a_module_depends_on(rt: HostRuntime) -> Result<(), Fail> {
     let alloc = rt.alloc();
     for (text, want) in [
-        ("%sig M = { %include F. %struct m : G. e : i. }.", "20 F 35 G "),
+        (
+            "%sig M = { %include F. %struct m : G. e : i. }.",
+            "20 F 35 G ",
+        ),
         ("%view F : S -> U = { t := u. }.", "10 S 15 U "),
         (
             "%sig T = { %struct s : D = { %include T V.w. %struct p := T.q W. c := T.x. }. }.",
             "23 D 38 T 40 V 62 W ",
         ),
-        ("%view V : A -> A = { %include V.w V. }.", "10 A 15 A 30 V 34 V "),
+        (
+            "%view V : A -> A = { %include V.w V. }.",
+            "10 A 15 A 30 V 34 V ",
+        ),
         ("%sig E = { a : type. }.", ""),
     ] {
         let line = dependencies(alloc, text.as_bytes())?;

@@ -7,5 +7,6 @@ mod expressions;
 mod modules;
 mod paths;
 mod places;
+
 pub use expressions::print_expr;
 pub use modules::print_module;

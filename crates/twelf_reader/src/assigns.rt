@@ -77,9 +77,6 @@ impl<'a> Reader<'a> {
         self.expect(Sign::Assign)?;
         let value = self.expr()?;
         self.expect(Sign::Dot)?;
-        Ok(Assign::Const {
-            target,
-            value,
-        })
+        Ok(Assign::Const { target, value })
     }
 }

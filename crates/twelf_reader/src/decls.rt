@@ -104,11 +104,7 @@ impl<'a> Reader<'a> {
         self.expect(Sign::Colon)?;
         let class = self.expr()?;
         let value = self.value()?;
-        Ok(Decl::Const {
-            name,
-            class,
-            value,
-        })
+        Ok(Decl::Const { name, class, value })
     }
 
     /// Behind the class of a constant: its value, if there is one, and the dot.
