@@ -25,9 +25,13 @@ pub fn is_special(byte: u8) -> bool
     )
 }
 
-/// Whether the byte can stand in an identifier.
+/// Whether the byte can stand in an identifier. Most that can are small letters, for which one test is enough.
+#[inline(always)]
 pub fn is_identifier_byte(byte: u8) -> bool
     ensures { result ≡ characters.is_identifier_byte byte }
 {
+    if byte > b']' && byte < b'{' {
+        return true;
+    }
     !(is_white_space(byte) || is_special(byte))
 }

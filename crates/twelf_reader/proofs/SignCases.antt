@@ -18,24 +18,6 @@ pub expect_other : (m : Sign) (next : State) (k : Kind) → is_sign m k ≡ fals
 expect_other m next (Mark k) h = rw h refl
 expect_other m next (Ident p) h = refl
 
--- what this profile does not leave out
-pub left_out_other : (spot : Spot) (k : Kind) → is_sign OtherWord k ≡ false → is_sign BlankSign k ≡ false → is_sign RightBrace k ≡ false → is_sign SigWord k ≡ false → is_sign ViewWord k ≡ false → left_out_at spot k ≡ false
-left_out_other spot (Mark OtherWord) h0 h1 h2 h3 h4 = absurd (true≢false h0)
-left_out_other spot (Mark BlankSign) h0 h1 h2 h3 h4 = absurd (true≢false h1)
-left_out_other spot (Mark RightBrace) h0 h1 h2 h3 h4 = absurd (true≢false h2)
-left_out_other spot (Mark SigWord) h0 h1 h2 h3 h4 = absurd (true≢false h3)
-left_out_other spot (Mark ViewWord) h0 h1 h2 h3 h4 = absurd (true≢false h4)
-left_out_other spot _ h0 h1 h2 h3 h4 = refl
-
--- what begins neither an atom nor a binder
-pub begins_other : (k : Kind) → is_path k ≡ false → is_sign TypeWord k ≡ false → is_sign LeftParen k ≡ false → is_sign LeftBrace k ≡ false → is_sign LeftBracket k ≡ false → begins_operand k ≡ false
-begins_other (Ident p) h0 h1 h2 h3 h4 = absurd (true≢false h0)
-begins_other (Mark TypeWord) h0 h1 h2 h3 h4 = absurd (true≢false h1)
-begins_other (Mark LeftParen) h0 h1 h2 h3 h4 = absurd (true≢false h2)
-begins_other (Mark LeftBrace) h0 h1 h2 h3 h4 = absurd (true≢false h3)
-begins_other (Mark LeftBracket) h0 h1 h2 h3 h4 = absurd (true≢false h4)
-begins_other _ h0 h1 h2 h3 h4 = refl
-
 -- what ends an operand
 pub operand_other : (n : ℕ) (row : Row) (xs : Atoms) (w : Waiting) (s : Span) (k : Kind) → is_path k ≡ false → is_sign TypeWord k ≡ false → is_sign LeftParen k ≡ false → is_sign LeftBrace k ≡ false → is_sign LeftBracket k ≡ false → is_sign ArrowSign k ≡ false → is_sign BackSign k ≡ false → at_operand n row xs w s k ≡ operand_ends row xs w (record { span = s; kind = k })
 operand_other n row xs w s (Ident p) h0 h1 h2 h3 h4 h5 h6 = absurd (true≢false h0)

@@ -48,29 +48,16 @@ impl<'a> Reader<'a> {
             match stack.frames.pop() {
                 None => return Ok(Some(whole)),
                 Some(Frame::Codomain(dom)) => whole = arrow(self.alloc, dom, whole)?,
-                Some(
-                    Frame::Body {
-                        opening,
-                        binding,
-                        operand,
-                    },
-                ) => {
+                Some(Frame::Body(opening, binding, operand)) => {
                     drop(mem::replace(&mut stack.operand, operand));
                     whole = close_body(self.alloc, opening, binding, &mut stack.operand, whole)?;
                 }
-                Some(Frame::Parens { opening, operand }) => {
+                Some(Frame::Parens(opening, operand)) => {
                     drop(mem::replace(&mut stack.operand, operand));
                     self.close_parens(stack, opening, whole.tree)?;
                     return Ok(None);
                 }
-                Some(
-                    Frame::Domain {
-                        brace,
-                        opening,
-                        name,
-                        operand,
-                    },
-                ) => {
+                Some(Frame::Domain(brace, opening, name, operand)) => {
                     drop(mem::replace(&mut stack.operand, operand));
                     self.close_domain(stack, brace, opening, name, whole.tree)?;
                     return Ok(None);

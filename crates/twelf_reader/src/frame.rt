@@ -54,24 +54,12 @@ pub(crate) enum Binding {
 }
 
 /// What waits for an expression: a bracket that is open, a binder, or what stands before `->`. The first three have the
-/// operand in which they stand.
+/// span of their opening bracket and the operand in which they stand.
 #[derive(Drop)]
 pub(crate) enum Frame {
-    Parens {
-        opening: Span,
-        operand: Operand,
-    },
-    Domain {
-        brace: Brace,
-        opening: Span,
-        name: Binder,
-        operand: Operand,
-    },
-    Body {
-        opening: Span,
-        binding: Binding,
-        operand: Operand,
-    },
+    Parens(Span, Operand),
+    Domain(Brace, Span, Binder, Operand),
+    Body(Span, Binding, Operand),
     Codomain(Spelled),
 }
 

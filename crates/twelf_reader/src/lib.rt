@@ -19,6 +19,3 @@ mod tree;
 
 pub use fault::ReadFault;
 pub use texts::{read_judgement, read_module};
-
-#[cfg(test)]
-mod tests;

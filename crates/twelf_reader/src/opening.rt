@@ -30,7 +30,7 @@ impl<'a> Reader<'a> {
     {
         let level = self.deeper(stack.operand.level)?;
         let operand = mem::replace(&mut stack.operand, Operand::first(level));
-        stack.frames.push(Frame::Parens { opening, operand })?;
+        stack.frames.push(Frame::Parens(opening, operand))?;
         Ok(())
     }
 
@@ -88,12 +88,9 @@ impl<'a> Reader<'a> {
     {
         let level = self.deeper(stack.operand.level)?;
         let operand = mem::replace(&mut stack.operand, Operand::first(level));
-        stack.frames.push(Frame::Domain {
-            brace,
-            opening,
-            name,
-            operand,
-        })?;
+        stack
+            .frames
+            .push(Frame::Domain(brace, opening, name, operand))?;
         Ok(())
     }
 
@@ -125,11 +122,7 @@ impl<'a> Reader<'a> {
     {
         let level = self.deeper(stack.operand.level)?;
         let operand = mem::replace(&mut stack.operand, Operand::first(level));
-        stack.frames.push(Frame::Body {
-            opening,
-            binding,
-            operand,
-        })?;
+        stack.frames.push(Frame::Body(opening, binding, operand))?;
         Ok(())
     }
 

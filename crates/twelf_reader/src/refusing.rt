@@ -61,22 +61,14 @@ impl<'a> Reader<'a> {
     fn is_left_out(&self, spot: Spot) -> bool
         ensures { result ≡ left_out_at spot (next_kind (left self.now)) }
     {
-        if self.sees(Sign::OtherWord) {
-            return true;
+        match self.next.sign {
+            Sign::OtherWord => true,
+            Sign::Blank => true,
+            Sign::RBrace => spot.is_behind_variable(),
+            Sign::SigWord => spot.takes_include(),
+            Sign::ViewWord => spot.takes_include(),
+            _ => false,
         }
-        if self.sees(Sign::Blank) {
-            return true;
-        }
-        if self.sees(Sign::RBrace) {
-            return spot.is_behind_variable();
-        }
-        if self.sees(Sign::SigWord) {
-            return spot.takes_include();
-        }
-        if self.sees(Sign::ViewWord) {
-            return spot.takes_include();
-        }
-        false
     }
 
     /// The next nesting, unless an expression there is too deep; then the next token is at fault.
@@ -104,21 +96,9 @@ impl<'a> Reader<'a> {
     fn begins_operand(&self) -> bool
         ensures { result ≡ begins_operand (next_kind (left self.now)) }
     {
-        if self.sees_path() {
-            return true;
-        }
-        if self.sees(Sign::TypeWord) {
-            return true;
-        }
-        if self.sees(Sign::LParen) {
-            return true;
-        }
-        if self.sees(Sign::LBrace) {
-            return true;
-        }
-        if self.sees(Sign::LBracket) {
-            return true;
-        }
-        false
+        matches!(
+            self.next.sign,
+            Sign::Name | Sign::Path | Sign::TypeWord | Sign::LParen | Sign::LBrace | Sign::LBracket
+        )
     }
 }
