@@ -1,10 +1,12 @@
 -- Laws of how many verdicts are installed (this profile).
-use Rattle.std.specs.Prelude.{◌≡◌, ◌+◌, true, [], ◌∷◌, ◌++◌, length, is_some}
+use Rattle.std.specs.Prelude.{◌≡◌, ◌+◌, true, List, [], ◌∷◌, ◌++◌, length, is_some}
 use Rattle.name_meaning.specs.Names.{Name}
 use Rattle.walk_meaning.specs.Walks.{Dependencies, is_grounded}
 use Rattle.board_meaning.specs.Events.{History, edit_in, log_of, library_after}
 use Rattle.board_meaning.specs.Standing.{stands, installs}
 use Rattle.board_meaning.specs.Legal.{IsLegal}
+use Rattle.run_meaning.specs.Parts.{Telling, told_of_all}
+use Rattle.run_meaning.specs.Backing.{AreBacked}
 use Rattle.run_meaning.specs.Generator.{grounded_names, asked_after}
 
 -- Every grounded name stands after this history.
@@ -32,3 +34,15 @@ InstallsAreAsked =
     (dependencies : Dependencies) (history later : History) → IsLegal dependencies (history ++ later)
     → AllStand dependencies history → StandBetween dependencies history later
     → installs (history ++ later) ≡ installs history + asked_after dependencies (log_of history) (log_of later)
+
+-- Where every grounded name stands, what a check tells over the log of the history is backed; and what a history backs, it
+-- backs whatever comes later.
+abbrev pub ChecksAreBacked : Type 0
+ChecksAreBacked =
+    (dependencies : Dependencies) (history : History) → AllStand dependencies history
+    → AreBacked dependencies history (told_of_all dependencies (log_of history))
+
+abbrev pub BackedStayBacked : Type 0
+BackedStayBacked =
+    (dependencies : Dependencies) (history later : History) (tellings : List Telling) → AreBacked dependencies history tellings
+    → AreBacked dependencies (history ++ later) tellings
