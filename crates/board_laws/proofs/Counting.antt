@@ -30,7 +30,7 @@ module _ {A : Type 0} where
       by true h = omega (arith, h)
       by false h = omega (arith, h)
 
-  filter_same : (p q : A → Bool) (xs : List A) → ((x : A) → Member x xs → q x ≡ p x) → filter q xs ≡ filter p xs
+  pub filter_same : (p q : A → Bool) (xs : List A) → ((x : A) → Member x xs → q x ≡ p x) → filter q xs ≡ filter p xs
   filter_same p q [] f = refl
   filter_same p q (x ∷ xs) f = by (p x) (q x) (f x (inl refl)) (filter_same p q xs (λ y m. f y (inr m)))
     where

@@ -13,3 +13,4 @@ pub mod Counting
 pub mod Backing
 pub mod Turning
 pub mod Working
+pub mod Ending

@@ -1,11 +1,11 @@
 -- Laws of the turns of a worker (this profile).
-use Rattle.std.specs.Prelude.{◌≡◌, ◌⊎◌, ℕ, ◌+◌, true, false, List, [], ◌∷◌, map, length}
+use Rattle.std.specs.Prelude.{◌≡◌, ◌⊎◌, ℕ, ◌+◌, true, false, List, [], ◌∷◌, map, length, Some, None}
 use Rattle.name_meaning.specs.Names.{Name}
 use Rattle.walk_meaning.specs.Subject.{Subject}
 use Rattle.board_meaning.specs.Events.{Event, Claim, Release, Entry, History}
-use Rattle.board_meaning.specs.Machine.{install_event}
+use Rattle.board_meaning.specs.Machine.{Job, install_event, install_reply, ClaimCall, InstallCall, ReleaseCall, after_call}
 use Rattle.board_meaning.specs.Turns.{TurnEnd, Worked, Idle, Closed, Turns, TurnFindsNoMemory, DoesWork, judged_in_all}
-use Rattle.board_meaning.specs.Points.{entries_of}
+use Rattle.board_meaning.specs.Points.{Makes, ClaimReply, Happens, FindsNoMemory, entries_of}
 use Rattle.board_meaning.specs.Ready.{is_closed}
 use Rattle.board_laws.specs.PointLaws.{IsSeenAfter}
 
@@ -43,3 +43,15 @@ WorkEndsClosed Answer =
     (subject : Subject Answer) (seen : History) (pass : ℕ) (ends : List TurnEnd) (after : History) → DoesWork subject seen pass ends after
     → (is_closed after ≡ true)
     × (length (entries_of pass after) ≡ length (entries_of pass seen) + (judged_in_all ends + judged_in_all ends))
+
+-- Where a claim gives a job, its verdict may be brought, or the job be released; where it gives none, the turn is closed or
+-- idle as the board then is. So each way for a turn to end is one that happens.
+abbrev pub TurnsMayEnd : Type 0 → Type 0
+TurnsMayEnd Answer =
+    (subject : Subject Answer) (seen : History) (pass : ℕ) (between : History)
+    → ((job : Job Answer) → Happens subject seen pass (Makes ClaimCall) (ClaimReply (Some job)) between
+    → Turns subject seen pass (Worked job.name (install_reply subject.dependencies between job.claim)) (after_call subject.dependencies between pass (InstallCall job.claim))
+    × TurnFindsNoMemory subject seen pass (after_call subject.dependencies between pass (ReleaseCall job.claim)))
+    × (Happens subject seen pass (Makes ClaimCall) (ClaimReply None) between
+    → (is_closed between ≡ true → Turns subject seen pass Closed between) × (is_closed between ≡ false → Turns subject seen pass Idle between))
+    × (FindsNoMemory subject seen pass (Makes ClaimCall) between → TurnFindsNoMemory subject seen pass between)

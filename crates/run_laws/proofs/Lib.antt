@@ -3,3 +3,4 @@ pub mod Kept
 pub mod Lines
 pub mod Logs
 pub mod Outputs
+pub mod Generating

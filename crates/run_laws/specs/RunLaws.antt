@@ -2,7 +2,7 @@
 use Rattle.std.specs.Prelude.{◌≡◌, ℕ, ◌<◌, ◌≤◌, Bool, true, false, List, [], ◌∷◌, ◌++◌, ◌-◌, ◌==◌, length, map, Option, Some, None, option_to_list}
 use Rattle.std.specs.List.{list_all}
 use Rattle.name_meaning.specs.Names.{Name, Text}
-use Rattle.log_meaning.specs.Log.{Put, Log, library_of, version_of}
+use Rattle.log_meaning.specs.Log.{Edit, Put, Log, library_of, version_of}
 use Rattle.name_meaning.specs.Limits.{text_limit}
 use Rattle.log_meaning.specs.Append.{append_answer, appended, appended_all}
 use Rattle.output_meaning.specs.Printed.{bad_line, unended_line}
@@ -10,7 +10,7 @@ use Rattle.run_meaning.specs.Judging.{Judging}
 use Rattle.printing_meaning.specs.EditLines.{edited_line}
 use Rattle.run_meaning.specs.ScriptCommands.{kept, Command, ReportCommand, CheckCommand, FlatCommand, CarryCommand}
 use Rattle.run_meaning.specs.Parts.{Telling, telling_of}
-use Rattle.run_meaning.specs.Generator.{grounded_names}
+use Rattle.run_meaning.specs.Generator.{grounded_names, first_puts, later_puts, generator_told}
 use Rattle.run_meaning.specs.ScriptItems.{Item, Spoken, BadAt, UnendedAt, script_of}
 use Rattle.run_meaning.specs.ScriptOutput.{command_text, command_told, log_after, output_of, has_fault}
 use Rattle.run_meaning.specs.ScriptLogs.{edits_of, log_through, script_log, told_from, told_within, script_told, is_told_of}
@@ -102,6 +102,19 @@ CommandsTellAll = (judging : Judging) (log : Log) → TellsAll judging log
 -- A checked folder tells all grounded modules.
 abbrev pub FoldersTellAll : Type 0
 FoldersTellAll = (judging : Judging) (files : List File) → folder_told judging files ≡ all_grounded judging (load files).log
+
+-- Where the generator is done, it has told all grounded modules of the first full library, and of the library after each
+-- further edit.
+pub record IsToldAfter (judging : Judging) (start modules edits : ℕ) (before : List Edit) : Type 0 where
+  pub front : List Telling
+  pub behind : List Telling
+  pub told : generator_told judging.dependencies start modules edits
+      ≡ front ++ all_grounded judging (appended_all (appended_all [] (first_puts start modules)) before) ++ behind
+
+abbrev pub GeneratorsTellAll : Type 0
+GeneratorsTellAll =
+    (judging : Judging) (start modules edits : ℕ) (before after : List Edit) → later_puts start modules edits ≡ before ++ after
+    → IsToldAfter judging start modules edits before
 
 -- Where the bytes written go past the lines of some commands, all that these tell is told, and then what is told by those
 -- behind them; where they do not, what is behind these commands tells nothing.

@@ -1,6 +1,6 @@
 //! Laws of what a run prints.
 
-ghost use Rattle.run_laws.specs.RunLaws.{OutputIsInOrder, LongerBeginsWithIt, TellingsAreGrounded, FolderTellingsAreGrounded, CommandsTellAll, FoldersTellAll, BeginningsTellTheirs, KeptTextsAreAlike, ShortTextsAreKept};
+ghost use Rattle.run_laws.specs.RunLaws.{OutputIsInOrder, LongerBeginsWithIt, TellingsAreGrounded, FolderTellingsAreGrounded, CommandsTellAll, FoldersTellAll, BeginningsTellTheirs, GeneratorsTellAll, KeptTextsAreAlike, ShortTextsAreKept};
 
 /// The output of a script is the lines of its commands in order, and then the line of its fault, if it has one, and its log
 /// is that of its edits in order; an input that begins with whole commands has an output and a log that begin with theirs.
@@ -21,6 +21,7 @@ pub fn law_folder()
 pub fn law_telling()
     ensures all { CommandsTellAll }
     ensures beginnings { BeginningsTellTheirs }
+    ensures generator { GeneratorsTellAll }
 {}
 
 /// What is kept of a text that is put makes the same of the log, and the same line, as the whole text.

@@ -7,3 +7,4 @@ pub mod ScriptLogs
 pub mod Files
 pub mod Folders
 pub mod Generator
+pub mod Backing

@@ -1,0 +1,16 @@
+//! How many verdicts are installed, and what is told of them.
+
+ghost use Rattle.install_laws.specs.InstallLaws.{FirstInstallsAreGrounded, InstallsAreAsked, ChecksAreBacked, BackedStayBacked};
+
+/// Where every grounded name is brought to a verdict before each edit and at the end, there are as many installs as the edits
+/// ask for.
+pub fn law_installs()
+    ensures first { FirstInstallsAreGrounded }
+    ensures later { InstallsAreAsked }
+{}
+
+/// Where every grounded name stands, what a check tells is backed, and stays so.
+pub fn law_tellings()
+    ensures checks { ChecksAreBacked }
+    ensures later { BackedStayBacked }
+{}
