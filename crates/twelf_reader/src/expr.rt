@@ -1,5 +1,5 @@
 //! Expressions, read by one loop over a stack of what is open, so that their depth takes no call stack.
-ghost use Rattle.std.specs.Prelude.{◌≡◌, ◌<◌, ◌≤◌, false, None, length, IfOk, OnOk};
+ghost use Rattle.std.specs.Prelude.{◌≡◌, ◌<◌, ◌≤◌, None, true, length, IfOk, OnOk};
 ghost use Rattle.text_meaning.specs.Tokens.{LeftBrace, LeftBracket, LeftParen, TypeWord};
 ghost use Rattle.text_meaning.specs.Parsing.{Ends, Purpose, Waiting, answer_on, at_expr, purpose_ends};
 ghost use Rattle.twelf_reader.specs.Signs.{is_path, is_sign};
@@ -39,66 +39,84 @@ impl<'a> Reader<'a> {
         ensures less { IfOk result (λ turn. turn ≡ None → length (left self.new) < length (left self.old)) }
         ensures within { OnOk result (length (left self.new) ≤ length (left self.old)) }
     {
-        if self.sees_path() {
-            let word = self.take_path()?;
-            stack
-                .operand
-                .add_node(self.alloc, word.span, Node::Name(word.path))?;
-            return Ok(None);
+        match self.next.sign {
+            Sign::Name => self.identifier(stack),
+            Sign::Path => self.identifier(stack),
+            Sign::TypeWord => self.type_word(stack),
+            Sign::LParen => self.parens(stack),
+            Sign::LBrace => self.braces(stack),
+            Sign::LBracket => self.brackets(stack),
+            Sign::Arrow => {
+                self.arrow(stack)?;
+                Ok(None)
+            }
+            Sign::BackArrow => {
+                self.back_arrow(stack)?;
+                Ok(None)
+            }
+            _ => self.end_operand(stack),
         }
-        if self.sees(Sign::TypeWord) {
-            let span = self.take(Sign::TypeWord);
-            stack.operand.add_node(self.alloc, span, Node::Ty)?;
-            return Ok(None);
-        }
-        self.bracket(stack)
     }
 
-    /// The same where the next token is no atom by itself.
-    fn bracket(&mut self, stack: &mut Stack) -> Result<Option<Spelled>, ReadFault>
-        requires path { is_path (next_kind (left self.old)) ≡ false }
-        requires word { is_sign TypeWord (next_kind (left self.old)) ≡ false }
+    /// At an identifier: it is an atom.
+    fn identifier(&mut self, stack: &mut Stack) -> Result<Option<Spelled>, ReadFault>
+        requires { is_path (next_kind (left self.old)) ≡ true }
         ensures goes { (k : Waiting) → Turned (answer_on (stands stack.old k) (left self.old)) result k stack.new (left self.new) }
         ensures less { IfOk result (λ turn. turn ≡ None → length (left self.new) < length (left self.old)) }
         ensures within { OnOk result (length (left self.new) ≤ length (left self.old)) }
     {
-        if self.sees(Sign::LParen) {
-            let opening = self.take(Sign::LParen);
-            self.open_parens(stack, opening)?;
-            return Ok(None);
-        }
-        if self.sees(Sign::LBrace) {
-            let opening = self.take(Sign::LBrace);
-            self.binder(stack, Brace::Curly, opening)?;
-            return Ok(None);
-        }
-        if self.sees(Sign::LBracket) {
-            let opening = self.take(Sign::LBracket);
-            self.binder(stack, Brace::Square, opening)?;
-            return Ok(None);
-        }
-        self.operator(stack)
+        let word = self.take_path()?;
+        stack
+            .operand
+            .add_node(self.alloc, word.span, Node::Name(word.path))?;
+        Ok(None)
     }
 
-    /// The same where the next token begins neither an atom nor a binder.
-    fn operator(&mut self, stack: &mut Stack) -> Result<Option<Spelled>, ReadFault>
-        requires path { is_path (next_kind (left self.old)) ≡ false }
-        requires word { is_sign TypeWord (next_kind (left self.old)) ≡ false }
-        requires parens { is_sign LeftParen (next_kind (left self.old)) ≡ false }
-        requires brace { is_sign LeftBrace (next_kind (left self.old)) ≡ false }
-        requires square { is_sign LeftBracket (next_kind (left self.old)) ≡ false }
+    /// At `type`: it is an atom.
+    fn type_word(&mut self, stack: &mut Stack) -> Result<Option<Spelled>, ReadFault>
+        requires { is_sign TypeWord (next_kind (left self.old)) ≡ true }
         ensures goes { (k : Waiting) → Turned (answer_on (stands stack.old k) (left self.old)) result k stack.new (left self.new) }
         ensures less { IfOk result (λ turn. turn ≡ None → length (left self.new) < length (left self.old)) }
         ensures within { OnOk result (length (left self.new) ≤ length (left self.old)) }
     {
-        if self.sees(Sign::Arrow) {
-            self.arrow(stack)?;
-            return Ok(None);
-        }
-        if self.sees(Sign::BackArrow) {
-            self.back_arrow(stack)?;
-            return Ok(None);
-        }
-        self.end_operand(stack)
+        let span = self.take(Sign::TypeWord);
+        stack.operand.add_node(self.alloc, span, Node::Ty)?;
+        Ok(None)
+    }
+
+    /// At an opening parenthesis.
+    fn parens(&mut self, stack: &mut Stack) -> Result<Option<Spelled>, ReadFault>
+        requires { is_sign LeftParen (next_kind (left self.old)) ≡ true }
+        ensures goes { (k : Waiting) → Turned (answer_on (stands stack.old k) (left self.old)) result k stack.new (left self.new) }
+        ensures less { IfOk result (λ turn. turn ≡ None → length (left self.new) < length (left self.old)) }
+        ensures within { OnOk result (length (left self.new) ≤ length (left self.old)) }
+    {
+        let opening = self.take(Sign::LParen);
+        self.open_parens(stack, opening)?;
+        Ok(None)
+    }
+
+    /// At the bracket of a Π.
+    fn braces(&mut self, stack: &mut Stack) -> Result<Option<Spelled>, ReadFault>
+        requires { is_sign LeftBrace (next_kind (left self.old)) ≡ true }
+        ensures goes { (k : Waiting) → Turned (answer_on (stands stack.old k) (left self.old)) result k stack.new (left self.new) }
+        ensures less { IfOk result (λ turn. turn ≡ None → length (left self.new) < length (left self.old)) }
+        ensures within { OnOk result (length (left self.new) ≤ length (left self.old)) }
+    {
+        let opening = self.take(Sign::LBrace);
+        self.binder(stack, Brace::Curly, opening)?;
+        Ok(None)
+    }
+
+    /// At the bracket of a λ.
+    fn brackets(&mut self, stack: &mut Stack) -> Result<Option<Spelled>, ReadFault>
+        requires { is_sign LeftBracket (next_kind (left self.old)) ≡ true }
+        ensures goes { (k : Waiting) → Turned (answer_on (stands stack.old k) (left self.old)) result k stack.new (left self.new) }
+        ensures less { IfOk result (λ turn. turn ≡ None → length (left self.new) < length (left self.old)) }
+        ensures within { OnOk result (length (left self.new) ≤ length (left self.old)) }
+    {
+        let opening = self.take(Sign::LBracket);
+        self.binder(stack, Brace::Square, opening)?;
+        Ok(None)
     }
 }

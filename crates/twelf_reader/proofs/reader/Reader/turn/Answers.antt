@@ -1,36 +1,39 @@
-use Rattle.std.proofs.Common.{refl, sym, ap, ◌∙◌}
-use Rattle.text_meaning.specs.Tokens.{ident, sign, TypeWord}
-use Rattle.text_meaning.specs.Trees.{NameExpr, TypeExpr}
-use Rattle.text_meaning.specs.Parsing.{AtOperand, add_atom, answer_on}
-use Rattle.mmt_syntax.specs.Readings.{read_span}
-use Rattle.mmt_syntax.proofs.ReadingEquations.{read_node_name, read_node_ty}
-use Rattle.twelf_reader.specs.Left.{left}
-use Rattle.twelf_reader.specs.Frames.{read_row, read_atoms, waiting}
-use Rattle.twelf_reader.proofs.Moves.{same_operand, took_operand}
+use Rattle.std.proofs.Common.{◌≡◌, Bool, true, false, refl, ap, ◌∙◌}
+use Rattle.text_meaning.specs.Parsing.{operand_ends, answer_on}
+use Rattle.twelf_lexer.specs.Lexemes.{is_names, sign_kind}
+use Rattle.twelf_lexer.specs.declared.sign.Sign.{Sign}
+use Rattle.twelf_lexer.specs.declared.sign.Sign.TheVariants as signs
+use Rattle.twelf_reader.specs.Left.{left, next_token}
+use Rattle.twelf_reader.specs.Going.{answer_with}
+use Rattle.twelf_reader.specs.Frames.{read_row, read_atoms, stands, waiting}
+use Rattle.twelf_reader.proofs.SignCases.{operand_other}
+use Rattle.twelf_reader.proofs.Lexemes.{path_sign, sign_elsewhere, sign_here}
+use Rattle.twelf_reader.proofs.Moves.{ends_operand}
+use Rattle.twelf_reader.proofs.Frames.{turned_from}
 use Rattle.twelf_reader.proofs.reader.Reader.turn.Goals as goal
 
-pub returns-then-sees_path-clause-goes : goal.returns-then-sees_path-clause-goes
-returns-then-sees_path-clause-goes c = λ k.
-    let o = c.args.stack.now.operand in
-    let w = waiting k c.args.stack.now.frames.items in
-    let s = read_span c.in_ok-word.word.span in
-    let e = NameExpr s c.in_ok-word.word.path in
-    let n = c.add_node.new.self in
-    let atoms = ap (add_atom (read_atoms o.atoms) s) (sym (read_node_name c.in_ok-word.word.path s)) ∙ sym c.in_ok-add_node.ensures.atoms in
-    let u = AtOperand o.level.n (read_row o.row) (add_atom (read_atoms o.atoms) s e) w in
-    took_operand o.level.n (read_row o.row) (read_atoms o.atoms) w u (ident s c.in_ok-word.word.path) (left c.args.self.now) (left c.take_path.new.self) o.level.within c.in_ok-word.ensures.takes refl refl
-    ∙ ap (λ x. answer_on x (left c.take_path.new.self))
-    (same_operand o.level.n n.level.n (read_row o.row) (read_row n.row) (add_atom (read_atoms o.atoms) s e) (read_atoms n.atoms) w (sym c.in_ok-add_node.ensures.level) (ap read_row (sym c.in_ok-add_node.ensures.row)) atoms)
+no_names : (g : Sign) → ¬ (g ≡ signs.Name) → ¬ (g ≡ signs.Path) → is_names g ≡ false
+no_names signs.Name a b = absurd (a refl)
+no_names signs.Path a b = absurd (b refl)
+no_names _ a b = refl
 
-pub returns-then-sees-clause-goes : goal.returns-then-sees-clause-goes
-returns-then-sees-clause-goes c = λ k.
+pub returns-in_default-clause-goes : goal.returns-in_default-clause-goes
+returns-in_default-clause-goes c = λ k.
     let o = c.args.stack.now.operand in
     let w = waiting k c.args.stack.now.frames.items in
-    let s = read_span c.take-span.result in
-    let e = TypeExpr s in
-    let n = c.add_node-then-sees.new.self in
-    let atoms = ap (add_atom (read_atoms o.atoms) s) (sym (read_node_ty s)) ∙ sym c.in_ok-add_node-2.ensures.atoms in
-    let u = AtOperand o.level.n (read_row o.row) (add_atom (read_atoms o.atoms) s e) w in
-    took_operand o.level.n (read_row o.row) (read_atoms o.atoms) w u (sign s TypeWord) (left c.args.self.now) (left c.take-span.new.self) o.level.within c.take-span.ensures.takes refl refl
-    ∙ ap (λ x. answer_on x (left c.take-span.new.self))
-    (same_operand o.level.n n.level.n (read_row o.row) (read_row n.row) (add_atom (read_atoms o.atoms) s e) (read_atoms n.atoms) w (sym c.in_ok-add_node-2.ensures.level) (ap read_row (sym c.in_ok-add_node-2.ensures.row)) atoms)
+    let r = c.args.self.now in
+    let text = r.text.now in
+    let l = r.next in
+    let d = c.in_default in
+    let t = next_token (left r) in
+    turned_from c.end_operand.result (answer_on (stands c.args.stack.now k) (left r)) (answer_with (λ t. operand_ends (read_row o.row) (read_atoms o.atoms) w t) (left r)) k c.end_operand.new.stack (left c.end_operand.new.self)
+    (ends_operand r o.level.n (read_row o.row) (read_atoms o.atoms) w o.level.within
+    (operand_other o.level.n (read_row o.row) (read_atoms o.atoms) w t.span t.kind
+    (path_sign text l.span.from l.span.to l.sign ∙ no_names l.sign d.not-Name d.not-Path)
+    (sign_elsewhere text l.span.from l.span.to signs.TypeWord l.sign refl d.not-TypeWord)
+    (sign_elsewhere text l.span.from l.span.to signs.LParen l.sign refl d.not-LParen)
+    (sign_elsewhere text l.span.from l.span.to signs.LBrace l.sign refl d.not-LBrace)
+    (sign_elsewhere text l.span.from l.span.to signs.LBracket l.sign refl d.not-LBracket)
+    (sign_elsewhere text l.span.from l.span.to signs.Arrow l.sign refl d.not-Arrow)
+    (sign_elsewhere text l.span.from l.span.to signs.BackArrow l.sign refl d.not-BackArrow)))
+    (c.end_operand.ensures.goes k)
