@@ -28,17 +28,46 @@ fn take_out(alloc: Global, log: &mut Log, name: &str) -> Result<Result<Edited, E
     Ok(log.append(alloc, Edit::Drop { name }))
 }
 
-/// Appends a drop where the size is none, and a put of a text of so many bytes `byte` else.
-fn append(
+/// Whether a put of a text of so many bytes `byte`, or a drop where no size is given, is answered so.
+fn answers(
     alloc: Global,
     log: &mut Log,
-    name: &str,
-    byte: u8,
-    size: Option<usize>,
-) -> Result<Result<Edited, EditFault>, Fail> {
-    match size {
-        Some(size) => put(alloc, log, name, byte, size),
-        None => take_out(alloc, log, name),
+    edit: (&str, u8, Option<usize>),
+    expected: Result<Edited, EditFault>,
+) -> Result<bool, Fail> {
+    let (name, byte, size) = edit;
+    let answer = match size {
+        Some(size) => put(alloc, log, name, byte, size)?,
+        None => take_out(alloc, log, name)?,
+    };
+    Ok(answer == expected)
+}
+
+/// Whether an edit is made with this version.
+fn is_made(
+    alloc: Global,
+    log: &mut Log,
+    edit: (&str, u8, Option<usize>),
+    version: u32,
+) -> Result<bool, Fail> {
+    answers(alloc, log, edit, Ok(Edited::Made(version)))
+}
+
+/// Whether an edit is refused so.
+fn is_refused(
+    alloc: Global,
+    log: &mut Log,
+    edit: (&str, u8, Option<usize>),
+    fault: EditFault,
+) -> Result<bool, Fail> {
+    answers(alloc, log, edit, Err(fault))
+}
+
+/// The name at a place of the library, or nothing.
+fn named(log: &Log, i: usize) -> &str {
+    match log.name_at(i) {
+        Some(name) => name.as_str(),
+        None => "",
     }
 }
 
@@ -47,29 +76,37 @@ fn append(
 fn edits_are_answered_in_turn(rt: HostRuntime) -> Result<(), Fail> {
     let alloc = rt.alloc();
     let mut log = Log::new(alloc);
-    let table = [
-        ("Nat", b'a', Some(3), Edited::Made(1)),
-        ("Nat", b'a', Some(3), Edited::Same(1)),
-        ("Ab", b'a', Some(0), Edited::Made(2)),
-        ("Nat", b'b', Some(3), Edited::Made(3)),
-        ("Ab", b'a', None, Edited::Made(4)),
-        ("Ab", b'a', None, Edited::Absent(4)),
-        ("Zero", b'a', Some(2), Edited::Made(5)),
-        ("M", b'a', Some(1), Edited::Made(6)),
-    ];
-    for (name, byte, size, expected) in table {
-        let answer = append(alloc, &mut log, name, byte, size)?;
-        assert_eq!(rt; answer, Ok(expected), "at {name}");
-    }
-    assert_eq!(rt; log.version(), 6);
-    for (i, expected) in ["M", "Nat", "Zero", ""].into_iter().enumerate() {
-        let name = match log.name_at(i) {
-            Some(name) => name.as_str(),
-            None => "",
-        };
-        assert_eq!(rt; name, expected);
-    }
+    let first = is_made(alloc, &mut log, ("Nat", b'a', Some(3)), 1)?;
+    let again = answers(alloc, &mut log, ("Nat", b'a', Some(3)), Ok(Edited::Same(1)))?;
+    let other = is_made(alloc, &mut log, ("Zero", b'a', Some(0)), 2)?;
+    let dropped = is_made(alloc, &mut log, ("Nat", b'a', None), 3)?;
+    let absent = answers(alloc, &mut log, ("Nat", b'a', None), Ok(Edited::Absent(3)))?;
+    let last = is_made(alloc, &mut log, ("M", b'a', Some(1)), 4)?;
+    assert!(rt; first && again && other && dropped && absent && last);
+    assert!(rt;
+        log.version() == 4
+            && named(&log, 0) == "M"
+            && named(&log, 1) == "Zero"
+            && named(&log, 2) == ""
+    );
     Ok(())
+}
+
+/// Whether the log has this stamp and this text for a name.
+fn has(
+    alloc: Global,
+    log: &Log,
+    name: &str,
+    stamp: u32,
+    text: Option<&[u8]>,
+) -> Result<bool, Fail> {
+    let name = Name::new(alloc, name)?;
+    Ok(log.stamp(&name) == stamp && log.text(&name) == text)
+}
+
+/// How many bytes the edit of a version puts.
+fn size_at(log: &Log, version: u32) -> Option<usize> {
+    Some(log.entry(version)?.size())
 }
 
 /// Texts, stamps and entries after a put, another put of the same name, and a drop of another.
@@ -81,22 +118,16 @@ fn looked_up(rt: HostRuntime) -> Result<(), Fail> {
     let _ = put(alloc, &mut log, "Ab", b'b', 1)?;
     let _ = put(alloc, &mut log, "Nat", b'c', 1)?;
     let _ = take_out(alloc, &mut log, "Ab")?;
-    let table = [
-        ("Nat", 3, Some(b"c".as_slice())),
-        ("Ab", 4, None),
-        ("Other", 0, None),
-    ];
-    for (name, stamp, text) in table {
-        let name = Name::new(alloc, name)?;
-        assert!(rt; log.stamp(&name) == stamp && log.text(&name) == text);
-    }
-    for (version, expected) in [(0, None), (1, Some(2)), (4, Some(0)), (5, None)] {
-        let size = match log.entry(version) {
-            Some(edit) => Some(edit.size()),
-            None => None,
-        };
-        assert_eq!(rt; size, expected);
-    }
+    let put_twice = has(alloc, &log, "Nat", 3, Some(b"c".as_slice()))?;
+    let dropped = has(alloc, &log, "Ab", 4, None)?;
+    let other = has(alloc, &log, "Other", 0, None)?;
+    assert!(rt; put_twice && dropped && other);
+    assert!(rt;
+        size_at(&log, 0) == None
+            && size_at(&log, 1) == Some(2)
+            && size_at(&log, 4) == Some(0)
+            && size_at(&log, 5) == None
+    );
     Ok(())
 }
 
@@ -154,18 +185,12 @@ fn full_of_names(rt: HostRuntime) -> Result<(), Fail> {
         let name = format!(in alloc; "N{i}")?;
         let _ = put(alloc, &mut log, name.as_str(), b'a', 5)?;
     }
-    let table = [
-        ("New", b'a', Some(5), Err(EditFault::TooMany)),
-        ("N7", b'a', Some(5), Ok(Edited::Same(4_096))),
-        ("N7", b'b', Some(5), Ok(Edited::Made(4_097))),
-        ("N8", b'a', None, Ok(Edited::Made(4_098))),
-        ("New", b'a', Some(5), Ok(Edited::Made(4_099))),
-        ("N8", b'a', Some(5), Err(EditFault::TooMany)),
-    ];
-    for (name, byte, size, expected) in table {
-        let answer = append(alloc, &mut log, name, byte, size)?;
-        assert_eq!(rt; answer, expected);
-    }
+    let many = is_refused(alloc, &mut log, ("New", b'a', Some(5)), EditFault::TooMany)?;
+    let there = is_made(alloc, &mut log, ("N7", b'b', Some(5)), 4_097)?;
+    let dropped = is_made(alloc, &mut log, ("N8", b'a', None), 4_098)?;
+    let new = is_made(alloc, &mut log, ("New", b'a', Some(5)), 4_099)?;
+    let again = is_refused(alloc, &mut log, ("N8", b'a', Some(5)), EditFault::TooMany)?;
+    assert!(rt; many && there && dropped && new && again);
     Ok(())
 }
 
@@ -178,15 +203,9 @@ fn full_of_bytes(rt: HostRuntime) -> Result<(), Fail> {
         let byte = if i % 2 == 0 { b'a' } else { b'b' };
         let _ = put(alloc, &mut log, "N", byte, 1_048_576)?;
     }
-    let table = [
-        ("M", b'a', Some(1), Err(EditFault::Full)),
-        ("M", b'a', Some(0), Ok(Edited::Made(257))),
-        ("N", b'a', None, Ok(Edited::Made(258))),
-        ("M", b'a', Some(1), Err(EditFault::Full)),
-    ];
-    for (name, byte, size, expected) in table {
-        let answer = append(alloc, &mut log, name, byte, size)?;
-        assert_eq!(rt; answer, expected);
-    }
+    let full = is_refused(alloc, &mut log, ("M", b'a', Some(1)), EditFault::Full)?;
+    let empty = is_made(alloc, &mut log, ("M", b'a', Some(0)), 257)?;
+    let dropped = is_made(alloc, &mut log, ("N", b'a', None), 258)?;
+    assert!(rt; full && empty && dropped);
     Ok(())
 }
