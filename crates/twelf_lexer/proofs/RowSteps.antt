@@ -167,17 +167,17 @@ not_dot b h = ne_eqb b dot (λ e. true≢false (sym h ∙ ap is_identifier_byte 
 runs_over : (run w rest : List ℕ) → list_all is_identifier_byte w ≡ true → runs_behind run (w ++ rest) ≡ runs_behind (run ++ w) rest
 runs_over run [] rest h = ap (λ r. runs_behind r rest) (sym (append-nil run))
 runs_over run (b ∷ w) rest h =
-    let on = runs_over (run ++ (b ∷ [])) w rest (and_back (is_identifier_byte b) (list_all is_identifier_byte w) h) ∙ ap (λ r. runs_behind r rest) (append_assoc run (b ∷ []) w) in
+    let on = runs_over (run ++ (b ∷ [])) w rest (and_second (is_identifier_byte b) (list_all is_identifier_byte w) h) ∙ ap (λ r. runs_behind r rest) (append_assoc run (b ∷ []) w) in
     rw (not_dot b (and_first (is_identifier_byte b) _ h)) on
 
 runs_dotted : (run : List ℕ) (ws : List (List ℕ)) → list_all is_run ws ≡ true → runs_behind run (dotted ws) ≡ run ∷ ws
 runs_dotted run [] h = refl
 runs_dotted run (w ∷ ws) h =
-    ap (λ l. run ∷ l) (runs_over [] w (dotted ws) (run_front w (and_first (is_run w) (list_all is_run ws) h)) ∙ runs_dotted w ws (and_back (is_run w) (list_all is_run ws) h))
+    ap (λ l. run ∷ l) (runs_over [] w (dotted ws) (run_front w (and_first (is_run w) (list_all is_run ws) h)) ∙ runs_dotted w ws (and_second (is_run w) (list_all is_run ws) h))
 
 pub runs_spelled : (ws : List (List ℕ)) → is_row ws ≡ true → runs (spelled ws) ≡ ws
 runs_spelled [] h = absurd (true≢false (sym h))
-runs_spelled (w ∷ ws) h = runs_over [] w (dotted ws) (run_front w (and_first (is_run w) (list_all is_run ws) h)) ∙ runs_dotted w ws (and_back (is_run w) (list_all is_run ws) h)
+runs_spelled (w ∷ ws) h = runs_over [] w (dotted ws) (run_front w (and_first (is_run w) (list_all is_run ws) h)) ∙ runs_dotted w ws (and_second (is_run w) (list_all is_run ws) h)
 
 pub row_runs : (text : List ℕ) (at to : ℕ) (ws : List (List ℕ)) → IsRow text at to ws → runs (slice_range text at to) ≡ ws
 row_runs text at to ws r = ap runs (row_bytes text at to ws r) ∙ runs_spelled ws r.runs
