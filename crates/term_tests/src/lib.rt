@@ -4,13 +4,13 @@
 #![tactic(auto)]
 
 #[cfg(test)]
+mod cases;
+#[cfg(test)]
 mod judgement_tests;
 #[cfg(test)]
 mod name_tests;
 #[cfg(test)]
 mod signature_tests;
-#[cfg(test)]
-mod size_tests;
 #[cfg(test)]
 mod substitution_tests;
 #[cfg(test)]
