@@ -1,6 +1,6 @@
-//! Tests of terms, of substitution, of the checker and of translation. What a clause says is not tested again: a test shows that a call
-//! which allocates succeeds with ample memory, on small, wide and deep terms, and that the definitions give what is
-//! wanted in worked cases.
+//! Tests of terms, of substitution, of the checker and of translation. What a clause says is not tested again: a test
+//! shows that a call which allocates succeeds with ample memory, on small, wide and deep terms, and that the
+//! definitions give what is wanted in worked cases.
 #![tactic(auto)]
 
 #[cfg(test)]
