@@ -63,7 +63,7 @@ pub(crate) fn subst_spine(
 ) -> Result<Spine, Memory>
     ensures { IfOk result (λ items. read_arguments items ≡ map (substitute (read_object value.now) (read_simple simple.now) at) (read_arguments spine.now)) }
 {
-    let mut substituted = Spine::new(alloc);
+    let mut substituted = Spine::with_capacity(alloc, spine.len())?;
     for item in spine.as_slice() {
         let item = subst_obj(alloc, value, simple, at, item)?;
         substituted.add(item)?;

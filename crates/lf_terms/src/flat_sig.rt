@@ -53,8 +53,8 @@ impl FlatSig {
         }
     }
 
-    /// Adds a declaration at the end, or hands it back: `Twice` exactly where its name is declared already, `Memory` for
-    /// want of memory.
+    /// Adds a declaration at the end, or hands it back: `Twice` exactly where its name is declared already, `Memory`
+    /// for want of memory.
     pub fn push(&mut self, decl: FlatDecl) -> Result<(), PushFault>
         ensures ok { OnOk result (self.new ≡ self.old ++ decl ∷ []) }
         ensures err { OnErr result (self.new ≡ self.old) }

@@ -8,6 +8,7 @@ pub type Bytes = Sequence<u8>;
 /// Texts, in UTF-8.
 pub type Texts = Sequence<String>;
 
+/// Names, in order.
 pub type Names = Sequence<Name>;
 
 /// The families of the variables, from the outermost to the innermost.

@@ -1,5 +1,5 @@
-//! Translation along maps of constants (Rabe and Kohlhase 2013, section 4), as `translation_meaning` defines it, over terms
-//! in memory.
+//! Translation along maps of constants (Rabe and Kohlhase 2013, section 4), as `translation_meaning` defines it, over
+//! terms in memory. It answers for every map, typed or not.
 #![tactic(auto)]
 
 mod families;

@@ -12,8 +12,8 @@ use crate::values::{translate_class, translate_value};
 use lf_terms::{FlatDecl, FlatSig, HeadMap, Image, QName, same_value};
 use std::alloc::Global;
 
-/// The names of the first map, in order, each with its image translated along the second. Unmapped as `translate_obj` says
-/// it, of all images from the first to the last.
+/// The names of the first map, in order, each with its image translated along the second. Unmapped as `translate_obj`
+/// says it, of all images from the first to the last.
 pub fn compose(alloc: Global, first: &HeadMap, second: &HeadMap) -> Result<HeadMap, TranslateFault>
     ensures { Answers read_map result (unmapped_map (read_map second.now) (read_map first.now)) (meant.compose (read_map first.now) (read_map second.now)) }
 {
@@ -52,8 +52,8 @@ fn translate_image(alloc: Global, map: &HeadMap, image: &Image) -> Result<Image,
     Ok(Image { class, value })
 }
 
-/// The index of the first declaration whose values in the two maps differ or which one of them lacks, counted from 0. None
-/// exactly where there is none. It takes no memory.
+/// The index of the first declaration whose values in the two maps differ or which one of them lacks, counted from 0.
+/// None exactly where there is none. It takes no memory.
 pub fn differ(first: &HeadMap, second: &HeadMap, names: &FlatSig) -> Option<usize>
     ensures { result ≡ differing.differ (read_map first.now) (read_map second.now) (read_signature names.now) }
 {

@@ -1,5 +1,6 @@
 //! Judgements about single terms, over vectors and a context of a natural and a vector of so many elements.
 
+use crate::cases::expanded;
 use crate::signature_tests::VECTORS;
 use lf_check::{LfFault, check_fam, check_kind, check_obj, synth};
 use lf_terms::{Ctx, Fam, FlatSig, Head, same_fam};
@@ -43,38 +44,94 @@ fn is_answer(checked: &Result<(), LfFault>, wanted: &str) -> Result<bool, Fail> 
     }
 }
 
-fn object_answered(
+/// The answer about `M : A`, `family A` or `kind K`.
+fn judged(
     alloc: Global,
     sig: &FlatSig,
     ctx: &Ctx,
-    judgement: &str,
-    wanted: &str,
-) -> Result<bool, Fail> {
-    let (text, class) = judgement.split_once(" : ").ok_or("no family")?;
-    let object = object(alloc, NAMES, text)?;
-    let family = family(alloc, NAMES, class)?;
-    let checked = Box::new(alloc, check_obj(alloc, sig, ctx, &object, &family))?;
-    is_answer(&checked, wanted)
+    text: &str,
+) -> Result<Box<Result<(), LfFault>>, Fail> {
+    if let Some(text) = text.strip_prefix("family ") {
+        let family = read_family(alloc, text)?;
+        return Ok(Box::new(alloc, check_fam(alloc, sig, ctx, &family))?);
+    }
+    if let Some(text) = text.strip_prefix("kind ") {
+        let text = expanded(alloc, text)?;
+        let kind = kind(alloc, NAMES, text.as_str())?;
+        return Ok(Box::new(alloc, check_kind(alloc, sig, ctx, &kind))?);
+    }
+    let (text, class) = text.split_once(" : ").ok_or("no family")?;
+    let family = read_family(alloc, class)?;
+    let text = expanded(alloc, text)?;
+    let object = object(alloc, NAMES, text.as_str())?;
+    Ok(Box::new(alloc, check_obj(alloc, sig, ctx, &object, &family))?)
 }
 
+fn read_family(alloc: Global, text: &str) -> Result<Box<Fam>, Fail> {
+    let text = expanded(alloc, text)?;
+    family(alloc, NAMES, text.as_str())
+}
+
+/// The first of the lines that is not answered as is wanted behind its ` ? `.
+fn first_wrong<'a>(
+    alloc: Global,
+    sig: &FlatSig,
+    ctx: &Ctx,
+    lines: &'a str,
+) -> Result<Option<&'a str>, Fail> {
+    for line in lines.lines() {
+        let (judgement, wanted) = line.split_once(" ? ").ok_or("nothing is wanted")?;
+        let checked = judged(alloc, sig, ctx, judgement)?;
+        if !is_answer(&checked, wanted)? {
+            return Ok(Some(line));
+        }
+    }
+    Ok(None)
+}
+
+const JUDGEMENTS: &str = "\
+cons n z v : vec (s n) ? ok
+v : vec n ? ok
+v : vec v ? mismatch
+#2 : vec n ? unknown-constant
+[x] v : {x:nat} vec x ? mismatch 0
+[x] s (x n) : nat -> nat ? not-a-function 0 2 2
+|[x] |x : |nat -> |nat ? ok
+family {x:nat} vec x ? ok
+family nat -> vec v ? mismatch 1 2
+family |{x:nat} |vec x ? ok
+kind {x:nat} vec x -> type ? ok
+kind nat -> vec -> type ? not-canonical 1 0
+kind |{x:nat} |vec x -> type ? ok";
+
 #[test]
-fn objects_in_a_context(rt: HostRuntime) -> Result<(), Fail> {
+fn judgements_in_a_context(rt: HostRuntime) -> Result<(), Fail> {
     let alloc = rt.alloc();
     let sig = signature(alloc, VECTORS)?;
     let ctx = context(alloc, CONTEXT)?;
-    for (judgement, wanted) in [
-        ("cons n z v : vec (s n)", "ok"),
-        ("v : vec n", "ok"),
-        ("v : vec v", "mismatch"),
-        ("#2 : vec n", "unknown-constant"),
-        ("[x] v : {x:nat} vec x", "mismatch 0"),
-        ("[x] s (x n) : nat -> nat", "not-a-function 0 2 2"),
-    ] {
-        assert!(rt;
-            object_answered(alloc, &sig, &ctx, judgement, wanted)?,
-            "{judgement}"
-        );
-    }
+    assert_eq!(rt; first_wrong(alloc, &sig, &ctx, JUDGEMENTS)?, None);
+    Ok(())
+}
+
+/// `w` takes 1,000 arguments, and so does the family constant `b`.
+fn wide_signature(alloc: Global) -> Result<Box<FlatSig>, Fail> {
+    let object = expanded(alloc, "a : type\nz : a\nw : |a -> |a\nb : ")?;
+    let family = expanded(alloc, "a -> |a -> |type")?;
+    let whole = format!(in alloc; "{object}{family}")?;
+    signature(alloc, whole.as_str())
+}
+
+const WIDE: &str = "\
+w| z| : a ? ok
+family b z| z| ? ok
+kind {x:b z| z|} type ? ok";
+
+#[test]
+fn wide_judgements(rt: HostRuntime) -> Result<(), Fail> {
+    let alloc = rt.alloc();
+    let sig = wide_signature(alloc)?;
+    let ctx = context(alloc, "")?;
+    assert_eq!(rt; first_wrong(alloc, &sig, &ctx, WIDE)?, None);
     Ok(())
 }
 
@@ -115,47 +172,6 @@ fn a_head_synthesises_its_family(rt: HostRuntime) -> Result<(), Fail> {
             synthesises(alloc, &sig, &ctx, applied, wanted)?,
             "{wanted}"
         );
-    }
-    Ok(())
-}
-
-fn family_answered(
-    alloc: Global,
-    sig: &FlatSig,
-    ctx: &Ctx,
-    text: &str,
-    wanted: &str,
-) -> Result<bool, Fail> {
-    let family = family(alloc, NAMES, text)?;
-    let checked = Box::new(alloc, check_fam(alloc, sig, ctx, &family))?;
-    is_answer(&checked, wanted)
-}
-
-fn kind_answered(
-    alloc: Global,
-    sig: &FlatSig,
-    ctx: &Ctx,
-    text: &str,
-    wanted: &str,
-) -> Result<bool, Fail> {
-    let kind = kind(alloc, NAMES, text)?;
-    let checked = Box::new(alloc, check_kind(alloc, sig, ctx, &kind))?;
-    is_answer(&checked, wanted)
-}
-
-#[test]
-fn families_and_kinds_in_a_context(rt: HostRuntime) -> Result<(), Fail> {
-    let alloc = rt.alloc();
-    let sig = signature(alloc, VECTORS)?;
-    let ctx = context(alloc, CONTEXT)?;
-    for (text, wanted) in [("{x:nat} vec x", "ok"), ("nat -> vec v", "mismatch 1 2")] {
-        assert!(rt; family_answered(alloc, &sig, &ctx, text, wanted)?, "{text}");
-    }
-    for (text, wanted) in [
-        ("{x:nat} vec x -> type", "ok"),
-        ("nat -> vec -> type", "not-canonical 1 0"),
-    ] {
-        assert!(rt; kind_answered(alloc, &sig, &ctx, text, wanted)?, "{text}");
     }
     Ok(())
 }

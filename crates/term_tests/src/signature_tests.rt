@@ -172,3 +172,20 @@ fn declarations_behind_others(rt: HostRuntime) -> Result<(), Fail> {
     }
     Ok(())
 }
+
+/// 1,000 declarations.
+fn many(alloc: Global) -> Result<String, Fail> {
+    let mut text = String::from_str(alloc, "a : type\nb : a -> type\nc0 : a")?;
+    for i in 1..998 {
+        let line = format!(in alloc; "\nc{i} : {{x:a}} b x -> a = [x] [y] c0")?;
+        text.push_str(line.as_str())?;
+    }
+    Ok(text)
+}
+
+#[test]
+fn many_declarations(rt: HostRuntime) -> Result<(), Fail> {
+    let text = many(rt.alloc())?;
+    assert!(rt; is_answered(rt.alloc(), text.as_str(), "ok")?);
+    Ok(())
+}

@@ -1,36 +1,46 @@
 //! Worked substitutions.
 
-use hereditary_subst::{reduce, subst_fam, subst_kind, subst_obj};
-use lf_terms::{same_fam, same_kind, same_obj};
+use crate::cases::{expanded, read_term, same, substituted};
+use hereditary_subst::reduce;
+use lf_terms::{Obj, Simple, same_obj};
 use std::alloc::Global;
 use std::test::Fail;
-use test_texts::{family, kind, object, simple, spine};
+use test_texts::{object, simple, spine};
 
-/// Whether the value, at the erasure of a family, substituted for a variable gives the wanted object.
-fn gives(
-    alloc: Global,
-    (text, class): (&str, &str),
-    at: u32,
-    into: &str,
-    wanted: &str,
-) -> Result<bool, Fail> {
-    let value = object(alloc, "", text)?;
-    let simple = simple(alloc, class)?;
-    let into = object(alloc, "", into)?;
-    let wanted = object(alloc, "", wanted)?;
-    let found = Box::new(alloc, subst_obj(alloc, &value, &simple, at, &into)?)?;
-    Ok(same_obj(&found, &wanted))
+/// A value, and a family that erases to its simple type.
+type Typed<'a> = (&'a str, &'a str);
+
+fn read_value(alloc: Global, text: &str) -> Result<Box<Obj>, Fail> {
+    let text = expanded(alloc, text)?;
+    object(alloc, "", text.as_str())
 }
 
-const DOUBLE: (&str, &str) = ("[x] g x x", "a -> a");
+fn read_type(alloc: Global, text: &str) -> Result<Box<Simple>, Fail> {
+    let text = expanded(alloc, text)?;
+    simple(alloc, text.as_str())
+}
 
-const PICK: (&str, &str) = ("[x] [y] [w] g x w", "a -> a -> a -> a");
+/// Whether the value substituted for a variable gives the wanted term.
+fn gives(alloc: Global, typed: Typed<'_>, at: u32, into: &str, wanted: &str) -> Result<bool, Fail> {
+    let value = read_value(alloc, typed.0)?;
+    let simple = read_type(alloc, typed.1)?;
+    let into = read_term(alloc, into)?;
+    let wanted = read_term(alloc, wanted)?;
+    let found = substituted(alloc, &value, &simple, at, &into)?;
+    Ok(same(&found, &wanted))
+}
 
-const SECOND_ORDER: (&str, &str) = ("[x] [f] f x", "a -> (a -> a) -> a");
+const DOUBLE: Typed<'static> = ("[x] g x x", "a -> a");
 
-const FREE: (&str, &str) = ("#3", "a");
+const PICK: Typed<'static> = ("[x] [y] [w] g x w", "a -> a -> a -> a");
 
-const FREE_FUNCTION: (&str, &str) = ("[y] g y #3", "a -> a");
+const SECOND_ORDER: Typed<'static> = ("[x] [f] f x", "a -> (a -> a) -> a");
+
+const FREE: Typed<'static> = ("#3", "a");
+
+const FREE_FUNCTION: Typed<'static> = ("[y] g y #3", "a -> a");
+
+const Z: Typed<'static> = ("z", "a");
 
 #[test]
 fn values_are_substituted(rt: HostRuntime) -> Result<(), Fail> {
@@ -44,23 +54,37 @@ fn values_are_substituted(rt: HostRuntime) -> Result<(), Fail> {
         (FREE, 0, "[x] g #2 x", "[x] g #1 x"),
         (FREE, 4, "[x] g #2 x", "[x] g #2 x"),
         (FREE_FUNCTION, 0, "[x] #1 x", "[x] g x #3"),
+        (Z, 0, "g| #0|", "g| z|"),
+        (Z, 0, "|[x] |g x #500", "|[x] |g x z"),
+        (Z, 0, "family {x:b #0} b #1 #2", "family {x:b z} b z #1"),
+        (Z, 0, "family b| #0|", "family b| z|"),
+        (Z, 0, "family |{x:a} |b x #500", "family |{x:a} |b x z"),
+        (
+            Z,
+            0,
+            "kind {x:b #0} {y:b #1} type",
+            "kind {x:b z} {y:b z} type",
+        ),
+        (Z, 0, "kind {x:b| #0|} type", "kind {x:b| z|} type"),
+        (
+            Z,
+            0,
+            "kind |{x:a} |b #500 -> type",
+            "kind |{x:a} |b z -> type",
+        ),
     ] {
         assert!(rt; gives(rt.alloc(), value, at, into, wanted)?, "{into}");
     }
     Ok(())
 }
 
-/// Whether the value applied to arguments is the wanted object.
-fn reduces(
-    alloc: Global,
-    (text, class): (&str, &str),
-    arguments: &str,
-    wanted: &str,
-) -> Result<bool, Fail> {
-    let value = object(alloc, "", text)?;
-    let simple = simple(alloc, class)?;
-    let arguments = spine(alloc, "", arguments)?;
-    let wanted = object(alloc, "", wanted)?;
+/// Whether the value applied to arguments, which stand behind a head, is the wanted object.
+fn reduces(alloc: Global, typed: Typed<'_>, arguments: &str, wanted: &str) -> Result<bool, Fail> {
+    let value = read_value(alloc, typed.0)?;
+    let simple = read_type(alloc, typed.1)?;
+    let wanted = read_value(alloc, wanted)?;
+    let arguments = expanded(alloc, arguments)?;
+    let arguments = spine(alloc, "", arguments.as_str())?;
     let found = Box::new(alloc, reduce(alloc, &value, &simple, arguments.as_slice())?)?;
     Ok(same_obj(&found, &wanted))
 }
@@ -71,34 +95,10 @@ fn values_take_arguments(rt: HostRuntime) -> Result<(), Fail> {
         (PICK, "z w y", "g z y"),
         (PICK, "", "[x] [y] [w] g x w"),
         (("g z", "a -> a"), "w y", "g z w y"),
+        (("g", "a"), "z| z|", "g z| z|"),
+        (("|[x] |g x", "|a -> |a"), "| z|", "g z"),
     ] {
         assert!(rt; reduces(rt.alloc(), value, arguments, wanted)?, "{wanted}");
     }
-    Ok(())
-}
-
-fn gives_family(alloc: Global, into: &str, wanted: &str) -> Result<bool, Fail> {
-    let value = object(alloc, "", "z")?;
-    let simple = simple(alloc, "a")?;
-    let into = family(alloc, "", into)?;
-    let wanted = family(alloc, "", wanted)?;
-    let found = Box::new(alloc, subst_fam(alloc, &value, &simple, 0, &into)?)?;
-    Ok(same_fam(&found, &wanted))
-}
-
-fn gives_kind(alloc: Global, into: &str, wanted: &str) -> Result<bool, Fail> {
-    let value = object(alloc, "", "z")?;
-    let simple = simple(alloc, "a")?;
-    let into = kind(alloc, "", into)?;
-    let wanted = kind(alloc, "", wanted)?;
-    let found = Box::new(alloc, subst_kind(alloc, &value, &simple, 0, &into)?)?;
-    Ok(same_kind(&found, &wanted))
-}
-
-#[test]
-fn families_and_kinds_pass_it_down(rt: HostRuntime) -> Result<(), Fail> {
-    let alloc = rt.alloc();
-    assert!(rt; gives_family(alloc, "{x:b #0} b #1 #2", "{x:b z} b z #1")?);
-    assert!(rt; gives_kind(alloc, "{x:b #0} {y:b #1} type", "{x:b z} {y:b z} type")?);
     Ok(())
 }

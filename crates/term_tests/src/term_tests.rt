@@ -1,54 +1,43 @@
 //! Terms are raised, erased and copied.
 
-use lf_terms::{
-    Obj, Simple, Spine, same_class, same_fam, same_kind, same_obj, same_value, shift_fam,
-    shift_kind, shift_obj,
-};
+use crate::cases::{copied, raised, read_term, same};
+use lf_terms::{Obj, Simple, Spine, same_class, same_obj, same_value};
 use std::alloc::Global;
 use std::test::Fail;
-use test_texts::{class, constant, family, kind, object, simple, value};
+use test_texts::{class, constant, object, simple, value};
 
-/// Whether the object with its variables raised is the wanted one.
+/// Whether a copy of the term with its variables raised is the wanted one.
 fn raises(alloc: Global, text: &str, by: u32, from: u32, wanted: &str) -> Result<bool, Fail> {
-    let term = object(alloc, "", text)?;
-    let wanted = object(alloc, "", wanted)?;
-    let raised = Box::new(alloc, shift_obj(alloc, &term, by, from)?)?;
-    Ok(same_obj(&raised, &wanted))
-}
-
-fn raises_family(
-    alloc: Global,
-    text: &str,
-    by: u32,
-    from: u32,
-    wanted: &str,
-) -> Result<bool, Fail> {
-    let term = family(alloc, "", text)?;
-    let wanted = family(alloc, "", wanted)?;
-    let raised = Box::new(alloc, shift_fam(alloc, &term, by, from)?)?;
-    Ok(same_fam(&raised, &wanted))
-}
-
-fn raises_kind(alloc: Global, text: &str, by: u32, from: u32, wanted: &str) -> Result<bool, Fail> {
-    let term = kind(alloc, "", text)?;
-    let wanted = kind(alloc, "", wanted)?;
-    let raised = Box::new(alloc, shift_kind(alloc, &term, by, from)?)?;
-    Ok(same_kind(&raised, &wanted))
+    let term = read_term(alloc, text)?;
+    let wanted = read_term(alloc, wanted)?;
+    let copy = copied(alloc, &term)?;
+    let found = raised(alloc, &copy, by, from)?;
+    Ok(same(&found, &wanted))
 }
 
 #[test]
 fn indices_are_raised_from_a_place(rt: HostRuntime) -> Result<(), Fail> {
-    let alloc = rt.alloc();
     for (text, by, from, wanted) in [
         ("g #0 #1", 2, 0, "g #2 #3"),
         ("[x] g x #1 #2", 5, 1, "[x] g x #1 #7"),
         ("#0 ([x] #1 x)", 1, 0, "#1 ([x] #2 x)"),
         ("[x] g x #1", u32::MAX - 1, 0, "[x] g x #4294967295"),
+        ("g| #0|", 1, 0, "g| #1|"),
+        ("|[x] |g x #500", 1, 0, "|[x] |g x #501"),
+        ("family {x:a #0} a x #1", 2, 0, "family {x:a #2} a x #3"),
+        ("family b| #0|", 1, 0, "family b| #1|"),
+        ("family |{x:a} |b x #500", 1, 0, "family |{x:a} |b x #501"),
+        ("kind {x:a #0 #1} type", 2, 1, "kind {x:a #0 #3} type"),
+        ("kind {x:b| #0|} type", 1, 0, "kind {x:b| #1|} type"),
+        (
+            "kind |{x:a} |b #500 -> type",
+            1,
+            0,
+            "kind |{x:a} |b #501 -> type",
+        ),
     ] {
-        assert!(rt; raises(alloc, text, by, from, wanted)?, "{text}");
+        assert!(rt; raises(rt.alloc(), text, by, from, wanted)?, "{text}");
     }
-    assert!(rt; raises_family(alloc, "{x:a #0} a x #1", 2, 0, "{x:a #2} a x #3")?);
-    assert!(rt; raises_kind(alloc, "{x:a #0 #1} type", 2, 1, "{x:a #0 #3} type")?);
     Ok(())
 }
 
@@ -107,29 +96,21 @@ fn terms_are_copied(rt: HostRuntime) -> Result<(), Fail> {
 
 /// Whether the term of a text that leaves parentheses out is the one that has them.
 fn same_texts(alloc: Global, text: &str, other: &str) -> Result<bool, Fail> {
-    let term = object(alloc, "x y", text)?;
-    let other = object(alloc, "", other)?;
-    Ok(same_obj(&term, &other))
-}
-
-fn same_families(alloc: Global, text: &str, other: &str) -> Result<bool, Fail> {
-    let term = family(alloc, "", text)?;
-    let other = family(alloc, "", other)?;
-    Ok(same_fam(&term, &other))
+    let term = read_term(alloc, text)?;
+    let other = read_term(alloc, other)?;
+    Ok(same(&term, &other))
 }
 
 #[test]
 fn texts_are_read_as_terms(rt: HostRuntime) -> Result<(), Fail> {
-    let alloc = rt.alloc();
     for (text, other) in [
-        ("x y", "#1 #0"),
-        ("[x] g x y", "[z] (g #0 #1)"),
+        ("[x] g x #4", "[z] (g #0 #4)"),
         ("[x] [y] x (g y)", "[a] [b] #1 (g #0)"),
         ("T.s.c z", "T.s.c t.z"),
+        ("family a -> b -> c", "family {x:a} ({y:b} c)"),
     ] {
-        assert!(rt; same_texts(alloc, text, other)?, "{text}");
+        assert!(rt; same_texts(rt.alloc(), text, other)?, "{text}");
     }
-    assert!(rt; same_families(alloc, "a -> b -> c", "{x:a} ({y:b} c)")?);
     Ok(())
 }
 

@@ -1,12 +1,11 @@
 //! Translation along maps of constants.
 
-use lf_terms::{Class, HeadMap, QName, Value, same_class, same_fam, same_obj, same_value};
-use lf_translate::{
-    TranslateFault, compose, differ, translate_class, translate_fam, translate_obj, translate_value,
-};
+use crate::cases::{read_term, same, translated};
+use lf_terms::{Class, HeadMap, QName, Value, same_class, same_value};
+use lf_translate::{TranslateFault, compose, differ, translate_class, translate_value};
 use std::alloc::Global;
 use std::test::Fail;
-use test_texts::{class, constant, family, map, object, signature, value};
+use test_texts::{class, constant, map, signature, value};
 
 /// A view that sends f to a λ, the family p to one with a binder, and the other constants to constants.
 const VIEW: &str = "\
@@ -16,40 +15,38 @@ h : T.j -> T.j -> T.j -> T.j = same T.h
 f : T.j -> T.j = [x] T.g x x
 p : T.j -> T.j -> type = family x. T.q x T.d";
 
-fn object_translated(alloc: Global, text: &str, wanted: &str) -> Result<bool, Fail> {
-    let map = map(alloc, VIEW)?;
-    let term = object(alloc, "", text)?;
-    let wanted = object(alloc, "", wanted)?;
-    let found = Box::new(alloc, translate_obj(alloc, &map, &term)?)?;
-    Ok(same_obj(&found, &wanted))
-}
-
-fn family_translated(alloc: Global, text: &str, wanted: &str) -> Result<bool, Fail> {
-    let map = map(alloc, VIEW)?;
-    let term = family(alloc, "", text)?;
-    let wanted = family(alloc, "", wanted)?;
-    let found = Box::new(alloc, translate_fam(alloc, &map, &term)?)?;
-    Ok(same_fam(&found, &wanted))
+fn translates(alloc: Global, map: &HeadMap, text: &str, wanted: &str) -> Result<bool, Fail> {
+    let term = read_term(alloc, text)?;
+    let wanted = read_term(alloc, wanted)?;
+    let found = translated(alloc, map, &term)?;
+    Ok(same(&found, &wanted))
 }
 
 #[test]
 fn terms_are_translated(rt: HostRuntime) -> Result<(), Fail> {
     let alloc = rt.alloc();
+    let map = map(alloc, VIEW)?;
     for (text, wanted) in [
         ("c", "T.d"),
         ("f (f c)", "T.g (T.g T.d T.d) (T.g T.d T.d)"),
         ("[x] f x", "[x] T.g x x"),
         ("[x] h x (f x) c", "[x] T.h x (T.g x x) T.d"),
+        ("h| c|", "T.h| T.d|"),
+        ("|[x] |f x", "|[x] |T.g x x"),
+        ("family i", "family T.j"),
+        ("family p c", "family T.q T.d T.d"),
+        ("family p (f c) c", "family T.q (T.g T.d T.d) T.d T.d"),
+        (
+            "family {x:i} p x (f x)",
+            "family {x:T.j} T.q x T.d (T.g x x)",
+        ),
+        ("family p c| c|", "family T.q T.d T.d| T.d|"),
+        (
+            "kind |{x:i} |p x -> type",
+            "kind |{x:T.j} |T.q x T.d -> type",
+        ),
     ] {
-        assert!(rt; object_translated(alloc, text, wanted)?, "{text}");
-    }
-    for (text, wanted) in [
-        ("i", "T.j"),
-        ("p c", "T.q T.d T.d"),
-        ("p (f c) c", "T.q (T.g T.d T.d) T.d T.d"),
-        ("{x:i} p x (f x)", "{x:T.j} T.q x T.d (T.g x x)"),
-    ] {
-        assert!(rt; family_translated(alloc, text, wanted)?, "{text}");
+        assert!(rt; translates(alloc, &map, text, wanted)?, "{text}");
     }
     Ok(())
 }

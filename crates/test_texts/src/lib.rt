@@ -1,8 +1,8 @@
 //! Terms, signatures and maps that tests read from texts. A test is then a text, which is cheap to prove.
 //!
 //! `[x] M` is a λ, `{x:A} B` and `A -> B` are products, `type` is a kind, and a head stands before its arguments, as
-//! in `cons n x (nil z)`. A name is that of the nearest binder around it, else that of a free variable, else a constant:
-//! of theory `t`, or `T.c` and `T.s.c` of theory T. `#i` is the variable with i binders between it and its own.
+//! in `cons n x (nil z)`. A name is that of the nearest binder around it, else that of a free variable, else a
+//! constant: of theory `t`, or `T.c` and `T.s.c` of theory T. `#i` is the variable with i binders between it and its own.
 #![tactic(auto)]
 
 mod declarations;
