@@ -2,7 +2,7 @@
 
 use lf_terms::Bytes;
 use mmt_outside::{
-    Failed, Gate, Inputs64, MemSink, MemSource, NoFolder, OpenGate, OutFault, Sink, Source,
+    Failed, Folder, Gate, Inputs64, MemSink, MemSource, NoFolder, OpenGate, OutFault, Sink, Source,
     StdSink, StdSource, write_all,
 };
 use std::alloc::{AllocError, Global};
