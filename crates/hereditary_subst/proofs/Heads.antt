@@ -5,15 +5,15 @@ use Rattle.lf_meaning.specs.Terms as terms
 use Rattle.lf_meaning.specs.Raising.{raise}
 use Rattle.lf_meaning.specs.Substitution.{substitute, substitute_family, reduce, app}
 use Rattle.lf_term_laws.proofs.Spines.{substitute_applied_at, substitute_applied_below, substitute_applied_above, substitute_applied_constant, map_applied, apply_all_appended}
-use Rattle.lf_terms.specs.Readings.{read_constant, read_head, read_object, read_objects, arguments_of, read_arguments, read_family}
-use Rattle.lf_terms.specs.declared.qname.QName.{QName}
-use Rattle.lf_terms.specs.declared.obj.Head.{Head}
-use Rattle.lf_terms.specs.declared.obj.Head.TheVariants as head
-use Rattle.lf_terms.specs.declared.obj.Obj.{Obj}
-use Rattle.lf_terms.specs.declared.obj.Obj.TheVariants as objs
-use Rattle.lf_terms.specs.declared.obj.Spine.{Spine}
-use Rattle.lf_terms.specs.declared.fam.Fam.TheVariants as fams
-use Rattle.lf_terms.proofs.ReadingEquations.{read_object_at, read_family_at}
+use Rattle.term_trees.specs.Readings.{read_constant, read_head, read_object, read_objects, arguments_of, read_arguments, read_family}
+use Rattle.base_types.specs.declared.qname.QName.{QName}
+use Rattle.term_trees.specs.declared.obj.Head.{Head}
+use Rattle.term_trees.specs.declared.obj.Head.TheVariants as head
+use Rattle.term_trees.specs.declared.obj.Obj.{Obj}
+use Rattle.term_trees.specs.declared.obj.Obj.TheVariants as objs
+use Rattle.term_trees.specs.declared.obj.Spine.{Spine}
+use Rattle.term_trees.specs.declared.fam.Fam.TheVariants as fams
+use Rattle.term_trees.proofs.ReadingEquations.{read_object_at, read_family_at}
 use Rattle.hereditary_subst.proofs.Costs.{object_cost, atomic_cost, spine_cost, reduce_cost, costs, object_cost_at, atomic_cost_met}
 
 -- what a head with a spine stands for, when the head is known

@@ -2,7 +2,7 @@
 ghost use Rattle.std.specs.Prelude.{◌≡◌, IfOk, reverse};
 ghost use Rattle.hereditary_subst.specs.Codomain.{codomain_of};
 ghost use Rattle.lf_meaning.specs.Substitution as meant;
-ghost use Rattle.lf_terms.specs.Readings.{read_simple, read_object, read_objects};
+ghost use Rattle.term_trees.specs.Readings.{read_simple, read_object, read_objects};
 
 use crate::substitution::subst_obj;
 use lf_terms::{Memory, Obj, Simple};

@@ -1,7 +1,7 @@
 //! Hereditary substitution into objects, families and kinds.
 ghost use Rattle.std.specs.Prelude.{◌≡◌, ◌+◌, IfOk, map};
 ghost use Rattle.lf_meaning.specs.Substitution.{substitute, substitute_family, substitute_kind};
-ghost use Rattle.lf_terms.specs.Readings.{read_simple, read_object, read_arguments, read_family, read_kind};
+ghost use Rattle.term_trees.specs.Readings.{read_simple, read_object, read_arguments, read_family, read_kind};
 
 use crate::reduction::take_all;
 use lf_terms::{Fam, Head, Kind, Memory, Obj, Simple, Spine, shift_obj};

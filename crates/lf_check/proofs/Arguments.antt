@@ -7,15 +7,15 @@ use Rattle.lf_meaning.specs.Signatures.{Signature}
 use Rattle.lf_meaning.specs.Faults.{Fault, NotAFunction, synthesised, synthesised_kind, application_answer, family_application_answer, object_fault}
 use Rattle.lf_meaning.specs.SpineSynthesis.{arguments_answer, family_arguments_answer}
 use Rattle.lf_term_laws.proofs.SpineSynthesis.{synthesised_spine, synthesised_kind_spine, fault_stays, kind_fault_stays}
-use Rattle.lf_terms.specs.Readings.{read_head, read_object, read_objects, read_family, read_kind}
-use Rattle.lf_terms.specs.declared.fam.Fam.{Fam}
-use Rattle.lf_terms.specs.declared.kind.Kind as code
-use Rattle.lf_terms.specs.declared.obj.Head.{Head}
-use Rattle.lf_terms.specs.declared.obj.Head.TheVariants as head
-use Rattle.lf_terms.specs.declared.obj.Obj.{Obj}
+use Rattle.term_trees.specs.Readings.{read_head, read_object, read_objects, read_family, read_kind}
+use Rattle.term_trees.specs.declared.fam.Fam.{Fam}
+use Rattle.term_trees.specs.declared.kind.Kind as code
+use Rattle.term_trees.specs.declared.obj.Head.{Head}
+use Rattle.term_trees.specs.declared.obj.Head.TheVariants as head
+use Rattle.term_trees.specs.declared.obj.Obj.{Obj}
 use Rattle.lf_check.specs.Stops.{stopped_by, Stops}
 use Rattle.lf_check.specs.declared.stops.Stop.{Stop}
-use Rattle.lf_terms.proofs.SpineSameness.{no_arguments}
+use Rattle.term_trees.proofs.SpineSameness.{no_arguments}
 
 -- no argument is taken at an atomic family
 pub no_function : (s : Stop) (a : Family) (p : AtomicFamily) (step : ℕ) (m : Object) (check : Family → Option Fault) → a ≡ AtFamily p → Stops s (Some (record { kind = NotAFunction; at = step ∷ [] }))

@@ -7,10 +7,10 @@ use Rattle.std.proofs.lemmas.List.Folds.{find_at}
 use Rattle.std.proofs.lemmas.Option.{slice_get_past}
 use Rattle.std.proofs.lemmas.Bool.{ltb-true, ltb-false}
 use Rattle.lf_meaning.specs.Signatures.{same_constant, declaration_of}
-use Rattle.lf_terms.specs.Readings.{read_constant, read_declaration, read_signature}
+use Rattle.term_trees.specs.Readings.{read_constant, read_declaration, read_signature}
 use Rattle.lf_terms.specs.Tables.{place_of}
-use Rattle.lf_terms.specs.declared.flat_decl.FlatDecl.{FlatDecl}
-use Rattle.lf_terms.specs.declared.qname.QName.{QName}
+use Rattle.term_trees.specs.declared.flat_decl.FlatDecl.{FlatDecl}
+use Rattle.base_types.specs.declared.qname.QName.{QName}
 use Rattle.lf_terms.proofs.Lookup.{declared_read, position_is, position_past}
 
 module _ {X : Type 0} (p : X → Bool) where

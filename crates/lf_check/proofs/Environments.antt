@@ -5,8 +5,8 @@ use Rattle.std.specs.Option.{option_map}
 use Rattle.std.proofs.lemmas.Option.{slice_get-map}
 use Rattle.std.proofs.lemmas.List.{map-append, reverse-append}
 use Rattle.lf_meaning.specs.Terms.{Context}
-use Rattle.lf_terms.specs.Readings.{read_context, read_family}
-use Rattle.lf_terms.specs.declared.fam.Fam.{Fam}
+use Rattle.term_trees.specs.Readings.{read_context, read_family}
+use Rattle.term_trees.specs.declared.fam.Fam.{Fam}
 use Rattle.lf_check.specs.Environments.{read_variables, read_variables_layer}
 use Rattle.lf_check.specs.declared.environment.Variables.{Variables}
 use Rattle.lf_check.specs.declared.environment.Variables.TheOpen as opened

@@ -5,8 +5,8 @@ use Rattle.std.proofs.Math.Seq.{drop-cons}
 use Rattle.std.proofs.lemmas.List.{take_more, length-take-le, length-map, map-append, drop_all}
 use Rattle.std.proofs.lemmas.Option.{slice_get_within, get_or_from_slice_get}
 use Rattle.lf_meaning.specs.Faults.{BadDeclaration, bad_at, declaration_fault, signature_fault_after}
-use Rattle.lf_terms.specs.Readings.{read_declaration, read_signature}
-use Rattle.lf_terms.specs.declared.flat_decl.FlatDecl.{FlatDecl}
+use Rattle.term_trees.specs.Readings.{read_declaration, read_signature}
+use Rattle.term_trees.specs.declared.flat_decl.FlatDecl.{FlatDecl}
 
 module _ (decls : List FlatDecl) (i : ℕ) (d : FlatDecl) (there : slice_get decls i ≡ Some d) where
   within : i < length decls

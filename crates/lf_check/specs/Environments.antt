@@ -2,7 +2,7 @@
 use Rattle.std.specs.Prelude.{◌∷◌, take}
 use Rattle.lf_meaning.specs.Terms.{Context}
 use Rattle.lf_meaning.specs.Signatures.{Signature}
-use Rattle.lf_terms.specs.Readings.{read_family, read_signature, read_context}
+use Rattle.term_trees.specs.Readings.{read_family, read_signature, read_context}
 use Rattle.lf_check.specs.declared.environment.Environment.{Environment}
 use Rattle.lf_check.specs.declared.environment.Variables.{Variables}
 use Rattle.lf_check.specs.declared.environment.Variables.TheOpen as variables

@@ -2,7 +2,7 @@
 ghost use Rattle.std.specs.Prelude.{◌≡◌, ◌∷◌, take, reverse, slice_get};
 ghost use Rattle.std.specs.Option.{option_copied, option_map};
 ghost use Rattle.lf_meaning.specs.Signatures.{class_of, declaration_of};
-ghost use Rattle.lf_terms.specs.Readings.{read_constant, read_class, read_context, read_declaration, read_family, read_signature};
+ghost use Rattle.term_trees.specs.Readings.{read_constant, read_class, read_context, read_declaration, read_family, read_signature};
 ghost use Rattle.lf_check.specs.Environments.{context_over, read_variables, signature_over};
 
 use lf_terms::{Class, Ctx, Fam, FlatDecl, FlatSig, QName};

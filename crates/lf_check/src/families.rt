@@ -6,7 +6,7 @@ ghost use Rattle.lf_meaning.specs.Substitution.{substitute_kind};
 ghost use Rattle.lf_meaning.specs.Signatures.{class_of};
 ghost use Rattle.lf_meaning.specs.Faults.{family_application_answer, family_constant_answer, family_fault, kind_fault, object_fault, synthesised_kind};
 ghost use Rattle.lf_meaning.specs.Faults as meant;
-ghost use Rattle.lf_terms.specs.Readings.{read_constant, read_family, read_kind, read_object, read_objects};
+ghost use Rattle.term_trees.specs.Readings.{read_constant, read_family, read_kind, read_object, read_objects};
 ghost use Rattle.lf_check.specs.Environments.{context_over, signature_over};
 ghost use Rattle.lf_check.specs.Stops.{Checked, Found};
 

@@ -3,7 +3,7 @@ ghost use Rattle.std.specs.Prelude.{◌≡◌, IfErr, IfOk, OnOk, Option};
 ghost use Rattle.lf_meaning.specs.Terms.{apply_all, Family};
 ghost use Rattle.lf_meaning.specs.Judgements.{Checks, IsFamily, IsKind, Synthesises};
 ghost use Rattle.lf_meaning.specs.Faults.{Fault, family_fault, kind_fault, object_fault, synthesised};
-ghost use Rattle.lf_terms.specs.Readings.{read_context, read_family, read_head, read_kind, read_object, read_objects, read_signature};
+ghost use Rattle.term_trees.specs.Readings.{read_context, read_family, read_head, read_kind, read_object, read_objects, read_signature};
 ghost use Rattle.lf_check.specs.Answers.{Answers, AnswersWith, Refutes};
 ghost use Rattle.lf_check.specs.Stops.{Checked};
 

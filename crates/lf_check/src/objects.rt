@@ -6,7 +6,7 @@ ghost use Rattle.lf_meaning.specs.Signatures.{class_of};
 ghost use Rattle.lf_meaning.specs.Substitution.{substitute_family};
 ghost use Rattle.lf_meaning.specs.Faults.{application_answer, constant_answer, object_fault, synthesised, variable_answer};
 ghost use Rattle.lf_meaning.specs.Faults as meant;
-ghost use Rattle.lf_terms.specs.Readings.{read_constant, read_family, read_head, read_object, read_objects};
+ghost use Rattle.term_trees.specs.Readings.{read_constant, read_family, read_head, read_object, read_objects};
 ghost use Rattle.lf_check.specs.Environments.{context_over, signature_over};
 ghost use Rattle.lf_check.specs.Stops.{Checked, Found};
 

@@ -4,7 +4,7 @@ ghost use Rattle.lf_meaning.specs.Terms.{domain_count, with_domains};
 ghost use Rattle.lf_meaning.specs.Judgements.{IsSignature};
 ghost use Rattle.lf_meaning.specs.Faults.{BadDeclaration, Fault, bad_at, class_fault, declaration_fault, family_fault, same_fault, signature_fault, value_fault};
 ghost use Rattle.lf_meaning.specs.Signatures.{class_of};
-ghost use Rattle.lf_terms.specs.Readings.{read_class, read_constant, read_declaration, read_family, read_kind, read_signature, read_value};
+ghost use Rattle.term_trees.specs.Readings.{read_class, read_constant, read_declaration, read_family, read_kind, read_signature, read_value};
 ghost use Rattle.lf_check.specs.Answers.{AnswersSignature, IsBadOf, IsFirstBad, RefutesSignature};
 ghost use Rattle.lf_check.specs.Environments.{context_over, signature_over};
 ghost use Rattle.lf_check.specs.Stops.{Checked, Stops};

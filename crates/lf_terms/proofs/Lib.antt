@@ -1,6 +1,3 @@
 pub mod KeyedEntries
-pub mod ReadingEquations
-pub mod Raised
-pub mod SpineSameness
 pub mod SameName
 pub mod Lookup

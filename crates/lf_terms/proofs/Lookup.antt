@@ -11,12 +11,12 @@ use Rattle.std.specs.List.{AllByRecursion, IsDistinct, find, position_or_len}
 use Rattle.std.specs.Map.{keys_of, lookup, values_of}
 use Rattle.lf_meaning.specs.Signatures.{declaration_of, same_constant}
 use Rattle.lf_terms.proofs.KeyedEntries.{found_by_key}
-use Rattle.lf_terms.specs.Readings.{read_constant, read_declaration, read_signature, read_image, read_map}
+use Rattle.term_trees.specs.Readings.{read_constant, read_declaration, read_signature, read_image, read_map}
 use Rattle.lf_terms.proofs.SameName.{same_qname, same_qname_equiv}
 use Rattle.lf_terms.specs.Tables.{declared, declared_names, image_of, place_of, HasDistinctNames}
-use Rattle.lf_terms.specs.declared.qname.QName.{QName}
-use Rattle.lf_terms.specs.declared.flat_decl.FlatDecl.{FlatDecl}
-use Rattle.lf_terms.specs.declared.flat_decl.Image.{Image}
+use Rattle.base_types.specs.declared.qname.QName.{QName}
+use Rattle.term_trees.specs.declared.flat_decl.FlatDecl.{FlatDecl}
+use Rattle.term_trees.specs.declared.flat_decl.Image.{Image}
 
 module _ {X Y : Type 0} (f : X → Y) where
   all_images : (P : Y → Type 0) (xs : List X) → AllByRecursion (λ x. P (f x)) xs → AllByRecursion P (map f xs)

@@ -1,12 +1,12 @@
 -- The test of equality of constants' names, and that it is one.
-use Rattle.std.specs.Prelude.{◌≡◌, Bool, true, false}
-use Rattle.std.proofs.Common.{refl, sym, ap}
+use Rattle.std.specs.Prelude.{◌≡◌, Bool, true}
+use Rattle.std.proofs.Common.{ap}
 use Rattle.std.specs.Cmp.{IsEquivalence}
 use Rattle.lf_meaning.specs.Terms.{Constant}
 use Rattle.lf_meaning.specs.Signatures.{same_constant}
 use Rattle.lf_term_laws.proofs.Equality.{same_constant_sound, same_constant_itself}
-use Rattle.lf_terms.specs.Readings.{read_constant}
-use Rattle.lf_terms.specs.declared.qname.QName.{QName}
+use Rattle.term_trees.specs.Readings.{read_constant}
+use Rattle.base_types.specs.declared.qname.QName.{QName}
 use Rattle.list_laws.proofs.Booleans.{both_ways}
 
 -- Whether two names are the same.

@@ -1,3 +1,1 @@
-pub mod SharedText
-pub mod Readings
 pub mod Tables

@@ -4,10 +4,10 @@ use Rattle.std.specs.List.{find, IsDistinct}
 use Rattle.std.specs.Map.{keys_of, lookup}
 use Rattle.lf_meaning.specs.Terms.{Constant}
 use Rattle.lf_meaning.specs.Signatures.{same_constant}
-use Rattle.lf_terms.specs.Readings.{read_constant}
-use Rattle.lf_terms.specs.declared.qname.QName.{QName}
-use Rattle.lf_terms.specs.declared.flat_decl.FlatDecl.{FlatDecl}
-use Rattle.lf_terms.specs.declared.flat_decl.Image.{Image}
+use Rattle.term_trees.specs.Readings.{read_constant}
+use Rattle.base_types.specs.declared.qname.QName.{QName}
+use Rattle.term_trees.specs.declared.flat_decl.FlatDecl.{FlatDecl}
+use Rattle.term_trees.specs.declared.flat_decl.Image.{Image}
 use Rattle.lf_terms.specs.declared.flat_sig.PushFault.{PushFault}
 use Rattle.lf_terms.specs.declared.flat_sig.PushFault.TheVariants as push
 use Rattle.lf_terms.specs.declared.head_map.MapFault.{MapFault}

@@ -2,14 +2,15 @@
 ghost use Rattle.std.specs.Prelude.{◌≡◌, ◌↔◌, ◌≤◌, ◌∷◌, ◌++◌, [], length, slice_get, IfErr, IsErrOf, IsSome, None, MatchOption, OnErr, OnOk, IsNone};
 ghost use Rattle.std.specs.Option.{option_copied, option_map};
 ghost use Rattle.lf_meaning.specs.Signatures.{declaration_of};
-ghost use Rattle.lf_terms.specs.Readings.{read_constant, read_declaration, read_signature};
+ghost use Rattle.term_trees.specs.Readings.{read_constant, read_declaration, read_signature};
 ghost use Rattle.lf_terms.specs.Tables.{declared, handed_back, place_of, HasDistinctNames};
 ghost use Rattle.lf_terms.specs.declared.flat_sig.PushFault.TheVariants.{Twice};
 
-use crate::{FlatDecl, QName};
+use base_types::QName;
 use indexmap::IndexMap;
 use std::alloc::Global;
 use std::marker::Model;
+use term_trees::FlatDecl;
 
 /// Declarations of different names, seen as the list of them, in the order in which they came.
 #[derive(Debug, Drop)]
@@ -22,8 +23,8 @@ impl Model for FlatSig {
     ghost use Rattle.std.specs.Prelude.{◌≡◌, List, map};
     ghost use Rattle.std.specs.Map.{keys_of, values_of};
     ghost use Rattle.std.specs.Coded.{codes};
-    ghost use Rattle.lf_terms.specs.declared.flat_decl.FlatDecl.{FlatDecl};
-    ghost use Rattle.lf_terms.specs.contracts.flat_decl.FlatDecl as e;
+    ghost use Rattle.term_trees.specs.declared.flat_decl.FlatDecl.{FlatDecl};
+    ghost use Rattle.term_trees.specs.contracts.flat_decl.FlatDecl as e;
 
     ghost Value = { List FlatDecl };
 

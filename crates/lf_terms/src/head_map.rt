@@ -2,14 +2,15 @@
 ghost use Rattle.std.specs.Prelude.{◌≡◌, ◌↔◌, ◌≤◌, ◌∷◌, ◌++◌, [], length, slice_get, IfErr, IsErrOf, IsNone, IsSome, OnErr, OnOk};
 ghost use Rattle.std.specs.Option.{option_copied, option_map};
 ghost use Rattle.lf_meaning.specs.HeadMaps as meant;
-ghost use Rattle.lf_terms.specs.Readings.{read_constant, read_image, read_map, read_mapping};
+ghost use Rattle.term_trees.specs.Readings.{read_constant, read_image, read_map, read_mapping};
 ghost use Rattle.lf_terms.specs.Tables.{image_of, pair_handed_back, HasDistinctHeads};
 ghost use Rattle.lf_terms.specs.declared.head_map.MapFault.TheVariants.{Twice};
 
-use crate::{Image, QName};
+use base_types::QName;
 use indexmap::IndexMap;
 use std::alloc::Global;
 use std::marker::Model;
+use term_trees::Image;
 
 /// Different constants with their images, seen as the list of the pairs, in the order in which they came.
 #[derive(Debug, Drop)]
@@ -20,10 +21,10 @@ pub struct HeadMap {
 impl Model for HeadMap {
     ghost use Rattle.std.specs.Prelude.{List};
     ghost use Rattle.std.specs.Coded.{codes};
-    ghost use Rattle.lf_terms.specs.declared.qname.QName.{QName};
-    ghost use Rattle.lf_terms.specs.declared.flat_decl.Image.{Image};
-    ghost use Rattle.lf_terms.specs.contracts.qname.QName as q;
-    ghost use Rattle.lf_terms.specs.contracts.flat_decl.Image as e;
+    ghost use Rattle.base_types.specs.declared.qname.QName.{QName};
+    ghost use Rattle.term_trees.specs.declared.flat_decl.Image.{Image};
+    ghost use Rattle.base_types.specs.contracts.qname.QName as q;
+    ghost use Rattle.term_trees.specs.contracts.flat_decl.Image as e;
 
     ghost Value = { List (QName × Image) };
 

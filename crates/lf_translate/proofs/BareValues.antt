@@ -5,12 +5,12 @@ use Rattle.lf_meaning.specs.Signatures.{TermValue, FamilyValue}
 use Rattle.lf_meaning.specs.HeadMaps.{Image, HeadMap, image_of}
 use Rattle.translation_meaning.specs.Translation.{object_value, family_value, same_image, translate_object, translate_family, translate_value}
 use Rattle.translation_meaning.specs.Unmapped.{without_image, unmapped_object, unmapped_family, unmapped_value}
-use Rattle.lf_terms.specs.Readings.{read_constant, read_object, read_objects, read_family, read_value}
-use Rattle.lf_terms.specs.declared.qname.QName.{QName}
-use Rattle.lf_terms.specs.declared.class.Value.{Value}
-use Rattle.lf_terms.specs.declared.class.Value.TheVariants as values
-use Rattle.lf_terms.specs.declared.fam.Fam.{Fam}
-use Rattle.lf_terms.specs.declared.obj.Obj.{Obj}
+use Rattle.term_trees.specs.Readings.{read_constant, read_object, read_objects, read_family, read_value}
+use Rattle.base_types.specs.declared.qname.QName.{QName}
+use Rattle.term_trees.specs.declared.class.Value.{Value}
+use Rattle.term_trees.specs.declared.class.Value.TheVariants as values
+use Rattle.term_trees.specs.declared.fam.Fam.{Fam}
+use Rattle.term_trees.specs.declared.obj.Obj.{Obj}
 
 term_applied : (r : Atomic) (m : Object) (ms : List Object) → TermValue (At (apply_all (App r m) ms)) ≡ object_value (At (apply_all (App r m) ms))
 term_applied r m [] = refl

@@ -16,19 +16,19 @@ use Rattle.translation_meaning.specs.Heads.{FamilyHead, family_takes, head_takes
 use Rattle.translation_meaning.specs.Translation.{translate_object, translate_family, translate_head, translate_kind, family_of, family_image, family_head_image, image_kind}
 use Rattle.translation_meaning.specs.Unmapped.{first_of, without_image, unmapped_object, unmapped_family, unmapped_atomic_family, unmapped_kind}
 use Rattle.translation_laws.proofs.Spines.{family_spine_taken}
-use Rattle.lf_terms.specs.Readings.{read_constant, read_family, read_kind, read_object, read_objects, read_arguments, read_class, read_value, arguments_of}
-use Rattle.lf_terms.specs.declared.qname.QName.{QName}
-use Rattle.lf_terms.specs.declared.class.Class as code
-use Rattle.lf_terms.specs.declared.class.Class.TheVariants as classes
-use Rattle.lf_terms.specs.declared.class.Value as code_value
-use Rattle.lf_terms.specs.declared.class.Value.TheVariants as values
-use Rattle.lf_terms.specs.declared.fam.Fam.{Fam}
-use Rattle.lf_terms.specs.declared.fam.Fam.TheVariants as fams
-use Rattle.lf_terms.specs.declared.kind.Kind as kind
-use Rattle.lf_terms.specs.declared.kind.Kind.TheVariants as kinds
-use Rattle.lf_terms.specs.declared.obj.Obj.{Obj}
-use Rattle.lf_terms.specs.declared.obj.Spine.{Spine}
-use Rattle.lf_terms.proofs.ReadingEquations.{read_family_pi, read_family_at, read_kind_ty, read_kind_pi}
+use Rattle.term_trees.specs.Readings.{read_constant, read_family, read_kind, read_object, read_objects, read_arguments, read_class, read_value, arguments_of}
+use Rattle.base_types.specs.declared.qname.QName.{QName}
+use Rattle.term_trees.specs.declared.class.Class as code
+use Rattle.term_trees.specs.declared.class.Class.TheVariants as classes
+use Rattle.term_trees.specs.declared.class.Value as code_value
+use Rattle.term_trees.specs.declared.class.Value.TheVariants as values
+use Rattle.term_trees.specs.declared.fam.Fam.{Fam}
+use Rattle.term_trees.specs.declared.fam.Fam.TheVariants as fams
+use Rattle.term_trees.specs.declared.kind.Kind as kind
+use Rattle.term_trees.specs.declared.kind.Kind.TheVariants as kinds
+use Rattle.term_trees.specs.declared.obj.Obj.{Obj}
+use Rattle.term_trees.specs.declared.obj.Spine.{Spine}
+use Rattle.term_trees.proofs.ReadingEquations.{read_family_pi, read_family_at, read_kind_ty, read_kind_pi}
 use Rattle.lf_translate.specs.Spines.{unmapped_arguments}
 use Rattle.lf_translate.proofs.Faults.{first_none, first_grouped}
 

@@ -13,21 +13,21 @@ use Rattle.lf_substitution_laws.proofs.Constants.{any_depth}
 use Rattle.translation_meaning.specs.Translation.{headed_image, object_image, translate_object}
 use Rattle.translation_meaning.specs.Unmapped.{first_of, without_image, unmapped_object, unmapped_atomic}
 use Rattle.translation_laws.proofs.Spines.{spine_taken}
-use Rattle.lf_terms.specs.Readings.{read_constant, read_head, read_object, read_arguments, read_class, read_value, read_family, read_simple, read_objects, arguments_of}
-use Rattle.lf_terms.specs.declared.qname.QName.{QName}
-use Rattle.lf_terms.specs.declared.class.Class as code
-use Rattle.lf_terms.specs.declared.class.Class.TheVariants as classes
-use Rattle.lf_terms.specs.declared.class.Value as code_value
-use Rattle.lf_terms.specs.declared.class.Value.TheVariants as values
-use Rattle.lf_terms.specs.declared.fam.Fam.{Fam}
-use Rattle.lf_terms.specs.declared.kind.Kind as kind
-use Rattle.lf_terms.specs.declared.obj.Head.{Head}
-use Rattle.lf_terms.specs.declared.obj.Head.TheVariants as head
-use Rattle.lf_terms.specs.declared.obj.Obj.{Obj}
-use Rattle.lf_terms.specs.declared.obj.Obj.TheVariants as objs
-use Rattle.lf_terms.specs.declared.obj.Spine.{Spine}
-use Rattle.lf_terms.specs.declared.simple.Simple as simples
-use Rattle.lf_terms.proofs.ReadingEquations.{read_object_lam, read_object_at}
+use Rattle.term_trees.specs.Readings.{read_constant, read_head, read_object, read_arguments, read_class, read_value, read_family, read_simple, read_objects, arguments_of}
+use Rattle.base_types.specs.declared.qname.QName.{QName}
+use Rattle.term_trees.specs.declared.class.Class as code
+use Rattle.term_trees.specs.declared.class.Class.TheVariants as classes
+use Rattle.term_trees.specs.declared.class.Value as code_value
+use Rattle.term_trees.specs.declared.class.Value.TheVariants as values
+use Rattle.term_trees.specs.declared.fam.Fam.{Fam}
+use Rattle.term_trees.specs.declared.kind.Kind as kind
+use Rattle.term_trees.specs.declared.obj.Head.{Head}
+use Rattle.term_trees.specs.declared.obj.Head.TheVariants as head
+use Rattle.term_trees.specs.declared.obj.Obj.{Obj}
+use Rattle.term_trees.specs.declared.obj.Obj.TheVariants as objs
+use Rattle.term_trees.specs.declared.obj.Spine.{Spine}
+use Rattle.term_trees.specs.declared.simple.Simple as simples
+use Rattle.term_trees.proofs.ReadingEquations.{read_object_lam, read_object_at}
 use Rattle.lf_translate.specs.Answers.{Names}
 use Rattle.lf_translate.specs.Spines.{unmapped_arguments}
 use Rattle.lf_translate.specs.declared.fault.TranslateFault.{TranslateFault}

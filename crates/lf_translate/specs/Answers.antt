@@ -1,7 +1,7 @@
 -- What the answers of this crate say, in the words of the definitions.
 use Rattle.std.specs.Prelude.{◌≡◌, Option, Some, None, Result, Ok, Err, ⊤}
 use Rattle.lf_meaning.specs.Terms.{Constant}
-use Rattle.lf_terms.specs.Readings.{read_constant}
+use Rattle.term_trees.specs.Readings.{read_constant}
 use Rattle.lf_translate.specs.declared.fault.TranslateFault.{TranslateFault}
 use Rattle.lf_translate.specs.declared.fault.TranslateFault.TheVariants.{Unmapped, Memory}
 

@@ -7,7 +7,7 @@ ghost use Rattle.translation_meaning.specs.Heads.{FamilyHead, family_takes, head
 ghost use Rattle.translation_meaning.specs.Translation.{family_image, family_of, translate_family};
 ghost use Rattle.translation_meaning.specs.Translation as meant;
 ghost use Rattle.translation_meaning.specs.Unmapped.{unmapped_family, unmapped_kind};
-ghost use Rattle.lf_terms.specs.Readings.{read_arguments, read_class, read_constant, read_family, read_kind, read_map, read_object, read_value};
+ghost use Rattle.term_trees.specs.Readings.{read_arguments, read_class, read_constant, read_family, read_kind, read_map, read_object, read_value};
 ghost use Rattle.lf_translate.specs.Answers.{Answers};
 
 use crate::TranslateFault;

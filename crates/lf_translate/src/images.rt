@@ -4,7 +4,7 @@ ghost use Rattle.lf_meaning.specs.HeadMaps.{image_of};
 ghost use Rattle.lf_meaning.specs.Replacement.{object_of, takes_all};
 ghost use Rattle.translation_meaning.specs.Translation.{object_image};
 ghost use Rattle.translation_meaning.specs.Unmapped.{without_image};
-ghost use Rattle.lf_terms.specs.Readings.{read_arguments, read_class, read_constant, read_image, read_map, read_object, read_value};
+ghost use Rattle.term_trees.specs.Readings.{read_arguments, read_class, read_constant, read_image, read_map, read_object, read_value};
 ghost use Rattle.lf_translate.specs.Answers.{Names};
 
 use crate::TranslateFault;

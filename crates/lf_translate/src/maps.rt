@@ -3,7 +3,7 @@ ghost use Rattle.std.specs.Prelude.{◌≡◌, ◌∷◌, ◌++◌, []};
 ghost use Rattle.translation_meaning.specs.Differ as differing;
 ghost use Rattle.translation_meaning.specs.Translation as meant;
 ghost use Rattle.translation_meaning.specs.Unmapped.{unmapped_map};
-ghost use Rattle.lf_terms.specs.Readings.{read_constant, read_declaration, read_image, read_map, read_signature};
+ghost use Rattle.term_trees.specs.Readings.{read_constant, read_declaration, read_image, read_map, read_signature};
 ghost use Rattle.lf_translate.specs.Answers.{Answers};
 ghost use Rattle.lf_translate.specs.Images.{unmapped_image};
 

@@ -2,7 +2,7 @@
 ghost use Rattle.std.specs.Prelude.{map as each};
 ghost use Rattle.translation_meaning.specs.Translation.{translate_object};
 ghost use Rattle.translation_meaning.specs.Unmapped.{unmapped_object};
-ghost use Rattle.lf_terms.specs.Readings.{read_arguments, read_map, read_object};
+ghost use Rattle.term_trees.specs.Readings.{read_arguments, read_map, read_object};
 ghost use Rattle.lf_translate.specs.Answers.{Answers};
 ghost use Rattle.lf_translate.specs.Spines.{unmapped_arguments};
 

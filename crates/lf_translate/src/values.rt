@@ -3,7 +3,7 @@ ghost use Rattle.std.specs.Prelude.{◌≡◌};
 ghost use Rattle.lf_meaning.specs.Terms.{At, AtFamily, FamilyCon, apply_all, family_apply_all};
 ghost use Rattle.translation_meaning.specs.Translation as meant;
 ghost use Rattle.translation_meaning.specs.Unmapped.{unmapped_class, unmapped_value};
-ghost use Rattle.lf_terms.specs.Readings.{read_arguments, read_class, read_constant, read_family, read_head, read_map, read_object, read_value};
+ghost use Rattle.term_trees.specs.Readings.{read_arguments, read_class, read_constant, read_family, read_head, read_map, read_object, read_value};
 ghost use Rattle.lf_translate.specs.Answers.{Answers};
 
 use crate::TranslateFault;

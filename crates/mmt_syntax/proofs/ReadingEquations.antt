@@ -4,7 +4,7 @@ use Rattle.std.specs.declared.boxed.Box.{Box}
 use Rattle.std.specs.declared.alloc.Global.{Global}
 use Rattle.text_meaning.specs.Tokens as tokens
 use Rattle.text_meaning.specs.Trees as trees
-use Rattle.lf_terms.specs.declared.path.Path.{Path}
+use Rattle.base_types.specs.declared.path.Path.{Path}
 use Rattle.mmt_syntax.specs.Readings.{read_span, read_binder, as_arguments, read_node_layer, read_expr_layer, read_exprs_layer, read_node, read_expr, expressions_of, read_arguments}
 use Rattle.mmt_syntax.specs.declared.expr.Binder.{Binder}
 use Rattle.mmt_syntax.specs.declared.expr.Expr.{Expr}

@@ -6,7 +6,7 @@ use Rattle.name_meaning.specs.Names.{Name}
 use Rattle.text_meaning.specs.Trees as trees
 use Rattle.text_meaning.specs.Trees.{first_name}
 use Rattle.text_meaning.specs.Dependencies.{is_own_word}
-use Rattle.lf_terms.specs.declared.span.Span.{Span}
+use Rattle.base_types.specs.declared.span.Span.{Span}
 use Rattle.mmt_syntax.specs.Readings.{read_span, read_written, read_words, read_assigns, read_decls}
 use Rattle.mmt_syntax.specs.Dependencies.{Dependency}
 use Rattle.mmt_syntax.specs.declared.written.Written.{Written}

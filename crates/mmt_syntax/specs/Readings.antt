@@ -3,7 +3,7 @@ use Rattle.std.specs.Prelude.{List, Some, None, map, fold}
 use Rattle.std.specs.Option.{option_map}
 use Rattle.text_meaning.specs.Tokens as tokens
 use Rattle.text_meaning.specs.Trees as trees
-use Rattle.lf_terms.specs.declared.span.Span.{Span}
+use Rattle.base_types.specs.declared.span.Span.{Span}
 use Rattle.mmt_syntax.specs.declared.expr.Binder.{Binder}
 use Rattle.mmt_syntax.specs.declared.expr.Binder.TheVariants as binders
 use Rattle.mmt_syntax.specs.declared.expr.Expr.{Expr}

@@ -1,7 +1,7 @@
 //! Translation along maps of constants.
 
 use crate::cases::{read_term, same, translated};
-use lf_terms::{Class, HeadMap, QName, Value, same_class, same_value};
+use lf_terms::{HeadMap, QName, same_class, same_value};
 use lf_translate::{TranslateFault, compose, differ, translate_class, translate_value};
 use std::alloc::Global;
 use std::test::Fail;
@@ -102,7 +102,8 @@ fn class_unmapped(alloc: Global, text: &str, wanted: &str) -> Result<bool, Fail>
     Ok(lacks(&found, &wanted))
 }
 
-fn lacks(answer: &Result<Class, TranslateFault>, wanted: &QName) -> bool {
+/// The answer is that this constant has no image.
+fn lacks<T>(answer: &Result<T, TranslateFault>, wanted: &QName) -> bool {
     match answer {
         Ok(_) => false,
         Err(fault) => is_unmapped(fault, wanted),
@@ -114,14 +115,7 @@ fn value_unmapped(alloc: Global, text: &str, wanted: &str) -> Result<bool, Fail>
     let term = value(alloc, text)?;
     let wanted = Box::new(alloc, constant(alloc, wanted)?)?;
     let found = Box::new(alloc, translate_value(alloc, &map, &term))?;
-    Ok(has_no_value(&found, &wanted))
-}
-
-fn has_no_value(answer: &Result<Value, TranslateFault>, wanted: &QName) -> bool {
-    match answer {
-        Ok(_) => false,
-        Err(fault) => is_unmapped(fault, wanted),
-    }
+    Ok(lacks(&found, &wanted))
 }
 
 #[test]
@@ -188,6 +182,27 @@ fn is_composed(alloc: Global, name: &str) -> Result<bool, Fail> {
 fn three_maps_are_composed(rt: HostRuntime) -> Result<(), Fail> {
     assert!(rt; is_composed(rt.alloc(), "a")?);
     assert!(rt; is_composed(rt.alloc(), "k")?);
+    Ok(())
+}
+
+fn composition_unmapped(alloc: Global, first: &str, wanted: &str) -> Result<bool, Fail> {
+    let first = map(alloc, first)?;
+    let second = map(alloc, SECOND)?;
+    let wanted = Box::new(alloc, constant(alloc, wanted)?)?;
+    let found = Box::new(alloc, compose(alloc, &first, &second))?;
+    Ok(lacks(&found, &wanted))
+}
+
+#[test]
+fn a_class_is_composed_before_its_value(rt: HostRuntime) -> Result<(), Fail> {
+    let alloc = rt.alloc();
+    for (first, wanted) in [
+        ("a : u = same v", "u"),
+        ("a : b = same v", "v"),
+        ("a : b = same v\nk : u = same f", "v"),
+    ] {
+        assert!(rt; composition_unmapped(alloc, first, wanted)?, "{first}");
+    }
     Ok(())
 }
 

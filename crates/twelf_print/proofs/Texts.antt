@@ -6,7 +6,7 @@ use Rattle.name_meaning.specs.Names.{Path}
 use Rattle.text_meaning.specs.Tokens.{spelled, dotted}
 use Rattle.text_meaning.specs.Trees as trees
 use Rattle.text_meaning.specs.UpToSpans.{no_span}
-use Rattle.lf_terms.specs.declared.path.Path as code
+use Rattle.base_types.specs.declared.path.Path as code
 use Rattle.mmt_syntax.specs.Readings.{read_span, read_node, read_expr, read_arguments}
 use Rattle.mmt_syntax.specs.declared.expr.Expr.{Expr}
 use Rattle.mmt_syntax.specs.declared.expr.Node.TheVariants as nodes

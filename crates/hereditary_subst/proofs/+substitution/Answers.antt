@@ -1,7 +1,7 @@
 use Rattle.std.proofs.Common.{◌≡◌, IfOk, reverse, ◌-◌, [], ◌∷◌, ◌++◌, map, ap, ◌∙◌, subst, arith}
 use Rattle.lf_meaning.specs.Terms as terms
 use Rattle.lf_meaning.specs.Substitution.{substitute}
-use Rattle.lf_terms.specs.Readings.{read_simple, read_object, read_objects, arguments_of, read_arguments}
+use Rattle.term_trees.specs.Readings.{read_simple, read_object, read_objects, arguments_of, read_arguments}
 use Rattle.hereditary_subst.proofs.Heads.{substituted_constant, substituted_below, substituted_above, substituted_at, takes_at, costs_at, costs_met, costs_given, reduced_given, one_index, one_below, next_of}
 use Rattle.hereditary_subst.proofs.+substitution.Goals as goal
 

@@ -1,6 +1,6 @@
 use Rattle.std.proofs.Common.{◌≡◌, ◌≤◌, suc, length, map, take, reverse}
 use Rattle.lf_meaning.specs.Substitution.{substitute, reduce}
-use Rattle.lf_terms.specs.Readings.{read_object, read_objects, read_simple, read_arguments}
+use Rattle.term_trees.specs.Readings.{read_object, read_objects, read_simple, read_arguments}
 use Rattle.hereditary_subst.proofs.Costs.{object_cost, spine_cost, step_cost, reduce_cost, costs}
 use Rattle.hereditary_subst.proofs.+substitution.Given as goal
 

@@ -1,4 +1,4 @@
-use Rattle.lf_terms.specs.Readings.{read_simple}
+use Rattle.term_trees.specs.Readings.{read_simple}
 use Rattle.hereditary_subst.proofs.Heads.{takes_copied}
 use Rattle.hereditary_subst.proofs.reduction.apply_copied.Goals as goal
 

@@ -1,6 +1,6 @@
 use Rattle.std.proofs.Common.{◌≡◌, drop}
 use Rattle.lf_meaning.specs.Substitution.{reduce}
-use Rattle.lf_terms.specs.Readings.{read_simple, read_object, read_objects}
+use Rattle.term_trees.specs.Readings.{read_simple, read_object, read_objects}
 use Rattle.hereditary_subst.proofs.reduction.reduce.Given as goal
 
 -- what is left to apply gives what the whole gives

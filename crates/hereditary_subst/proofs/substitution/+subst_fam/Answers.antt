@@ -1,6 +1,6 @@
 use Rattle.std.proofs.Common.{ap, sym, ◌∙◌}
 use Rattle.lf_meaning.specs.Substitution.{substitute_family}
-use Rattle.lf_terms.specs.Readings.{read_simple, read_object, read_family}
+use Rattle.term_trees.specs.Readings.{read_simple, read_object, read_family}
 use Rattle.hereditary_subst.proofs.Heads.{substituted_family}
 use Rattle.hereditary_subst.proofs.substitution.+subst_fam.Goals as goal
 

@@ -2,7 +2,7 @@ use Rattle.std.proofs.Common.{Ok}
 use Rattle.std.proofs.lemmas.Result.{err_from_is_err_and}
 use Rattle.lf_meaning.specs.Terms.{family_apply_all, FamilyCon}
 use Rattle.lf_meaning.specs.Faults.{synthesised_kind}
-use Rattle.lf_terms.specs.Readings.{read_constant, read_kind, read_objects}
+use Rattle.term_trees.specs.Readings.{read_constant, read_kind, read_objects}
 use Rattle.lf_check.specs.Environments.{context_over, signature_over}
 use Rattle.lf_check.proofs.Arguments.{family_spine_begins, family_head_stops, family_argument_stops}
 use Rattle.lf_check.proofs.families.synthesise_kind.Goals as goal

@@ -2,7 +2,7 @@ use Rattle.std.proofs.Common.{◌≡◌, Ok, drop}
 use Rattle.lf_meaning.specs.Terms.{family_apply_all, FamilyCon}
 use Rattle.lf_meaning.specs.Faults.{synthesised_kind}
 use Rattle.lf_meaning.specs.SpineSynthesis.{family_arguments_answer}
-use Rattle.lf_terms.specs.Readings.{read_constant, read_kind, read_objects}
+use Rattle.term_trees.specs.Readings.{read_constant, read_kind, read_objects}
 use Rattle.lf_check.specs.Environments.{context_over, signature_over}
 use Rattle.lf_check.proofs.families.synthesise_kind.Given as goal
 

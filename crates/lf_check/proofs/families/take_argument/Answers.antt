@@ -1,7 +1,7 @@
 use Rattle.std.proofs.Common.{Some, refl, ap, ◌∙◌}
 use Rattle.lf_meaning.specs.Faults.{object_fault, here, NotAFunction}
-use Rattle.lf_terms.specs.Readings.{read_object, read_kind}
-use Rattle.lf_terms.proofs.ReadingEquations.{read_kind_ty}
+use Rattle.term_trees.specs.Readings.{read_object, read_kind}
+use Rattle.term_trees.proofs.ReadingEquations.{read_kind_ty}
 use Rattle.lf_check.specs.Environments.{context_over, signature_over}
 use Rattle.lf_check.specs.Stops.{Stops}
 use Rattle.lf_check.proofs.Arguments.{no_kind_function}

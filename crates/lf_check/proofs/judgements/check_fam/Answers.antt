@@ -1,7 +1,7 @@
 use Rattle.lf_meaning.specs.Judgements.{IsFamily}
 use Rattle.lf_meaning.specs.Faults.{family_fault}
 use Rattle.lf_typing.proofs.Faultless.{family_sound, family_complete}
-use Rattle.lf_terms.specs.Readings.{read_context, read_family, read_signature}
+use Rattle.term_trees.specs.Readings.{read_context, read_family, read_signature}
 use Rattle.lf_check.specs.Answers.{Answers}
 use Rattle.lf_check.specs.Environments.{context_over, signature_over}
 use Rattle.lf_check.proofs.Answered.{accepts, refuses}

@@ -1,7 +1,7 @@
 use Rattle.lf_meaning.specs.Judgements.{IsKind}
 use Rattle.lf_meaning.specs.Faults.{kind_fault}
 use Rattle.lf_typing.proofs.Faultless.{kind_sound, kind_complete}
-use Rattle.lf_terms.specs.Readings.{read_context, read_kind, read_signature}
+use Rattle.term_trees.specs.Readings.{read_context, read_kind, read_signature}
 use Rattle.lf_check.specs.Answers.{Answers}
 use Rattle.lf_check.specs.Environments.{context_over, signature_over}
 use Rattle.lf_check.proofs.Answered.{accepts, refuses}

@@ -4,7 +4,7 @@ use Rattle.lf_meaning.specs.Terms.{apply_all}
 use Rattle.lf_meaning.specs.Judgements.{Synthesises}
 use Rattle.lf_meaning.specs.Faults.{synthesised}
 use Rattle.lf_typing.proofs.Faultless.{synthesised_sound, synthesised_complete}
-use Rattle.lf_terms.specs.Readings.{read_context, read_family, read_head, read_objects, read_signature}
+use Rattle.term_trees.specs.Readings.{read_context, read_family, read_head, read_objects, read_signature}
 use Rattle.lf_check.specs.Answers.{fault_of}
 use Rattle.lf_check.proofs.Answered.{refuses_all}
 use Rattle.lf_check.proofs.judgements.synth.Goals as goal

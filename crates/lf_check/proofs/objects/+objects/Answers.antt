@@ -2,8 +2,8 @@ use Rattle.std.proofs.Common.{Ok, Some, refl, ap, ◌∙◌}
 use Rattle.std.proofs.lemmas.Result.{err_from_is_err_and}
 use Rattle.lf_meaning.specs.Terms.{apply_all, family_apply_all, FamilyCon}
 use Rattle.lf_meaning.specs.Faults.{synthesised, object_fault, here, NotAFunction}
-use Rattle.lf_terms.specs.Readings.{read_constant, read_head, read_family, read_object, read_objects, read_arguments}
-use Rattle.lf_terms.proofs.ReadingEquations.{read_family_at}
+use Rattle.term_trees.specs.Readings.{read_constant, read_head, read_family, read_object, read_objects, read_arguments}
+use Rattle.term_trees.proofs.ReadingEquations.{read_family_at}
 use Rattle.lf_check.specs.Stops.{Stops}
 use Rattle.lf_check.specs.Environments.{context_over, signature_over}
 use Rattle.lf_check.proofs.Arguments.{no_function, spine_begins, head_stops, argument_stops}

@@ -2,7 +2,7 @@ use Rattle.std.proofs.Common.{◌≡◌, Ok, drop}
 use Rattle.lf_meaning.specs.Terms.{apply_all}
 use Rattle.lf_meaning.specs.Faults.{synthesised}
 use Rattle.lf_meaning.specs.SpineSynthesis.{arguments_answer}
-use Rattle.lf_terms.specs.Readings.{read_head, read_family, read_objects}
+use Rattle.term_trees.specs.Readings.{read_head, read_family, read_objects}
 use Rattle.lf_check.specs.Environments.{context_over, signature_over}
 use Rattle.lf_check.proofs.objects.+objects.Given as goal
 

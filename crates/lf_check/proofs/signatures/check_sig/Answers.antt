@@ -3,7 +3,7 @@ use Rattle.std.specs.Prelude.{slice_get}
 use Rattle.lf_meaning.specs.Judgements.{IsSignature}
 use Rattle.lf_meaning.specs.Faults.{declaration_fault, signature_fault, signature_fault_after}
 use Rattle.lf_typing.proofs.Faultless.{signature_sound, signature_complete}
-use Rattle.lf_terms.specs.Readings.{read_declaration, read_signature}
+use Rattle.term_trees.specs.Readings.{read_declaration, read_signature}
 use Rattle.lf_check.proofs.Answered.{is_bad_of, refuses_signature}
 use Rattle.lf_check.proofs.Prefixes.{goes_on, stops_here, all_passed}
 use Rattle.lf_check.proofs.signatures.check_sig.Goals as goal

@@ -1,6 +1,6 @@
 use Rattle.std.proofs.Common.{◌≡◌, take, drop}
 use Rattle.lf_meaning.specs.Faults.{signature_fault, signature_fault_after}
-use Rattle.lf_terms.specs.Readings.{read_signature}
+use Rattle.term_trees.specs.Readings.{read_signature}
 use Rattle.lf_check.proofs.signatures.check_sig.Given as goal
 
 -- The declarations before the index have no fault.

@@ -3,7 +3,7 @@ use Rattle.std.proofs.lemmas.Result.{err_from_is_err_and}
 use Rattle.lf_meaning.specs.HeadMaps.{image_of}
 use Rattle.translation_meaning.specs.Translation.{translate_family}
 use Rattle.translation_meaning.specs.Unmapped.{first_of, unmapped_family, without_image}
-use Rattle.lf_terms.specs.Readings.{read_arguments, read_constant, read_family, read_image, read_map}
+use Rattle.term_trees.specs.Readings.{read_arguments, read_constant, read_family, read_image, read_map}
 use Rattle.lf_translate.specs.Spines.{unmapped_arguments}
 use Rattle.lf_translate.proofs.Faults.{names_first, names_second, none_at_all}
 use Rattle.lf_translate.proofs.TranslatedFamilies.{unmapped_pi, translated_pi, unmapped_at, translated_at}

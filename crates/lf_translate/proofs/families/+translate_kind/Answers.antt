@@ -2,7 +2,7 @@ use Rattle.std.proofs.Common.{ap, ap₂, ◌∙◌}
 use Rattle.std.proofs.lemmas.Result.{err_from_is_err_and}
 use Rattle.translation_meaning.specs.Translation.{translate_family, translate_kind}
 use Rattle.translation_meaning.specs.Unmapped.{first_of, unmapped_family, unmapped_kind}
-use Rattle.lf_terms.specs.Readings.{read_family, read_kind, read_map}
+use Rattle.term_trees.specs.Readings.{read_family, read_kind, read_map}
 use Rattle.lf_translate.proofs.Faults.{names_first, names_second, none_at_all}
 use Rattle.lf_translate.proofs.TranslatedFamilies.{unmapped_type, translated_type, unmapped_pi_kind, translated_pi_kind}
 use Rattle.lf_translate.proofs.families.+translate_kind.Goals as goal

@@ -1,6 +1,6 @@
 use Rattle.std.proofs.Common.{◌≡◌, ◌-◌, ◌≤◌, suc, length, ap, ◌∙◌, arith}
 use Rattle.lf_meaning.specs.Terms.{AtomicFamily, Family}
-use Rattle.lf_terms.specs.Readings.{read_family, read_kind, read_objects}
+use Rattle.term_trees.specs.Readings.{read_family, read_kind, read_objects}
 use Rattle.lf_translate.proofs.TranslatedFamilies.{Taken, filled_past, filled_binder, filled_nothing, filled_whole}
 use Rattle.lf_translate.proofs.families.filled.Goals as goal
 use Rattle.lf_translate.proofs.families.filled.Goals.{then-left-eq0+in_ok-copy+in_ok-family-2, else-left-eq0+in-Pi+in_ok-family-in-Pi, else-left-eq0+in-Ty}

@@ -2,7 +2,7 @@ use Rattle.std.proofs.Common.{◌≡◌, drop}
 use Rattle.lf_meaning.specs.Terms.{AtomicFamily}
 use Rattle.translation_meaning.specs.Heads.{FamilyHead, head_takes_all}
 use Rattle.translation_meaning.specs.Translation.{family_of}
-use Rattle.lf_terms.specs.Readings.{read_family, read_kind, read_objects}
+use Rattle.term_trees.specs.Readings.{read_family, read_kind, read_objects}
 use Rattle.lf_translate.proofs.families.filled.Given as goal
 
 -- What is left to take gives what the whole gives.

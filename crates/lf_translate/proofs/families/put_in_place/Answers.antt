@@ -1,5 +1,5 @@
 use Rattle.std.proofs.Common.{refl}
-use Rattle.lf_terms.specs.declared.kind.Kind.TheVariants as kinds
+use Rattle.term_trees.specs.declared.kind.Kind.TheVariants as kinds
 use Rattle.lf_translate.proofs.TranslatedFamilies.{same_in_place, term_in_place, family_in_place, level_in_place}
 use Rattle.lf_translate.proofs.families.put_in_place.Goals as goal
 

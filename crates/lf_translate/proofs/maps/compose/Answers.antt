@@ -4,7 +4,7 @@ use Rattle.std.proofs.lemmas.List.{length-map}
 use Rattle.std.proofs.lemmas.Result.{err_from_is_err_and}
 use Rattle.translation_meaning.specs.Translation.{translate_image}
 use Rattle.translation_meaning.specs.Unmapped.{unmapped_map}
-use Rattle.lf_terms.specs.Readings.{read_map, read_mapping}
+use Rattle.term_trees.specs.Readings.{read_map, read_mapping}
 use Rattle.lf_translate.specs.Images.{unmapped_image}
 use Rattle.lf_translate.proofs.Faults.{names_first, rest_after}
 use Rattle.lf_translate.proofs.ListsLeft.{missing_left, composed_more, composed_none, nothing_missing, composed_all}

@@ -1,7 +1,7 @@
 use Rattle.std.proofs.Common.{◌≡◌, drop, take}
 use Rattle.translation_meaning.specs.Translation.{compose}
 use Rattle.translation_meaning.specs.Unmapped.{unmapped_map}
-use Rattle.lf_terms.specs.Readings.{read_map}
+use Rattle.term_trees.specs.Readings.{read_map}
 use Rattle.lf_translate.proofs.maps.compose.Given as goal
 
 -- The mappings so far, and the first constant without an image in those that are left.

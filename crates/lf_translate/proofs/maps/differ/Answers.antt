@@ -1,7 +1,7 @@
 use Rattle.std.proofs.Common.{◌≡◌, ◌≤◌, length, Some, refl, sym, ◌∙◌, arith}
 use Rattle.std.specs.Prelude.{slice_get}
 use Rattle.std.proofs.lemmas.List.{length-map}
-use Rattle.lf_terms.specs.Readings.{read_declaration, read_map, read_signature}
+use Rattle.term_trees.specs.Readings.{read_declaration, read_map, read_signature}
 use Rattle.lf_translate.proofs.ListsLeft.{differ_here, differ_later, differ_nowhere}
 use Rattle.lf_translate.proofs.maps.differ.Goals as goal
 use Rattle.lf_translate.proofs.maps.differ.Goals.{in-Some+else-not-agree_on, in_default}

@@ -1,6 +1,6 @@
 use Rattle.std.proofs.Common.{◌≡◌, drop}
 use Rattle.translation_meaning.specs.Differ.{differ, differ_from}
-use Rattle.lf_terms.specs.Readings.{read_map, read_signature}
+use Rattle.term_trees.specs.Readings.{read_map, read_signature}
 use Rattle.lf_translate.proofs.maps.differ.Given as goal
 
 -- The difference is among the declarations that are left.

@@ -2,7 +2,7 @@ use Rattle.std.proofs.Common.{ap, sym, ◌∙◌}
 use Rattle.std.proofs.lemmas.Result.{err_from_is_err_and}
 use Rattle.translation_meaning.specs.Translation.{translate_object}
 use Rattle.translation_meaning.specs.Unmapped.{unmapped_object, unmapped_atomic}
-use Rattle.lf_terms.specs.Readings.{read_arguments, read_head, read_image, read_map, read_object}
+use Rattle.term_trees.specs.Readings.{read_arguments, read_head, read_image, read_map, read_object}
 use Rattle.lf_translate.specs.Spines.{unmapped_arguments}
 use Rattle.lf_translate.proofs.Faults.{names_same, names_first, names_second, none_at_all}
 use Rattle.lf_translate.proofs.TranslatedObjects.{unmapped_lam, unmapped_at, translated_lam, translated_variable, translated_constant, head_none, head_unmapped, head_missing}

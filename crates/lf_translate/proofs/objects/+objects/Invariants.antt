@@ -1,6 +1,6 @@
 use Rattle.std.proofs.Common.{◌≡◌, drop, take, map}
 use Rattle.translation_meaning.specs.Translation.{translate_object}
-use Rattle.lf_terms.specs.Readings.{read_arguments, read_map, read_objects}
+use Rattle.term_trees.specs.Readings.{read_arguments, read_map, read_objects}
 use Rattle.lf_translate.specs.Spines.{unmapped_arguments}
 use Rattle.lf_translate.proofs.objects.+objects.Given as goal
 

@@ -1,8 +1,8 @@
 use Rattle.std.proofs.Common.{ap, ◌∙◌, arith}
 use Rattle.lf_meaning.specs.Terms.{FamilyCon}
 use Rattle.lf_meaning.specs.Signatures.{FamilyValue}
-use Rattle.lf_terms.specs.Readings.{read_constant, arguments_of}
-use Rattle.lf_terms.proofs.ReadingEquations.{read_family_at}
+use Rattle.term_trees.specs.Readings.{read_constant, arguments_of}
+use Rattle.term_trees.proofs.ReadingEquations.{read_family_at}
 use Rattle.lf_translate.proofs.BareValues.{family_with_arguments}
 use Rattle.lf_translate.proofs.values.atomic_value.Goals as goal
 

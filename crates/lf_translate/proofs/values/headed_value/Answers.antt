@@ -2,9 +2,9 @@ use Rattle.std.proofs.Common.{ap, sym, ◌∙◌, arith}
 use Rattle.lf_meaning.specs.Terms.{At, apply_all}
 use Rattle.lf_meaning.specs.Signatures.{TermValue}
 use Rattle.translation_meaning.specs.Translation.{object_value}
-use Rattle.lf_terms.specs.Readings.{read_head, read_arguments, arguments_of}
-use Rattle.lf_terms.specs.declared.obj.Head.TheVariants as head
-use Rattle.lf_terms.proofs.ReadingEquations.{read_object_at}
+use Rattle.term_trees.specs.Readings.{read_head, read_arguments, arguments_of}
+use Rattle.term_trees.specs.declared.obj.Head.TheVariants as head
+use Rattle.term_trees.proofs.ReadingEquations.{read_object_at}
 use Rattle.lf_translate.proofs.BareValues.{term_with_arguments, variable_term}
 use Rattle.lf_translate.proofs.values.headed_value.Goals as goal
 

@@ -1,4 +1,4 @@
-use Rattle.lf_terms.specs.Readings.{read_image, read_map}
+use Rattle.term_trees.specs.Readings.{read_image, read_map}
 use Rattle.lf_translate.proofs.BareValues.{same_translated, term_translated, family_translated}
 use Rattle.lf_translate.proofs.values.translate_value.Goals as goal
 

@@ -1,6 +1,6 @@
 use Rattle.std.proofs.Common.{ap, ◌∙◌, sym}
 use Rattle.std.specs.Option.{option_map}
-use Rattle.lf_terms.specs.Readings.{read_declaration}
+use Rattle.term_trees.specs.Readings.{read_declaration}
 use Rattle.lf_check.proofs.Declarations.{declared_before, not_before, not_declared}
 use Rattle.lf_terms.proofs.Lookup.{copied_read}
 use Rattle.lf_check.proofs.environment.Environment.declaration.Goals as goal

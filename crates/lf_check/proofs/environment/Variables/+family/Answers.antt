@@ -1,7 +1,7 @@
 use Rattle.std.proofs.Common.{ap, ◌∙◌, sym, arith, reverse}
 use Rattle.std.specs.Prelude.{slice_get}
 use Rattle.std.specs.Option.{option_map}
-use Rattle.lf_terms.specs.Readings.{read_family}
+use Rattle.term_trees.specs.Readings.{read_family}
 use Rattle.lf_check.specs.Environments.{read_variables}
 use Rattle.lf_terms.proofs.Lookup.{copied_read}
 use Rattle.lf_check.proofs.Environments.{read_given, family_given, family_bound}

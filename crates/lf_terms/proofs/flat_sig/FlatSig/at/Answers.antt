@@ -2,9 +2,9 @@ use Rattle.std.proofs.Common.{◌≡◌, Option, Some, None, sym, ap, ◌∙◌}
 use Rattle.std.specs.Prelude.{slice_get}
 use Rattle.std.specs.Option.{option_map}
 use Rattle.std.proofs.lemmas.Option.{slice_get-map}
-use Rattle.lf_terms.specs.Readings.{read_declaration}
-use Rattle.lf_terms.specs.declared.flat_decl.FlatDecl.{FlatDecl}
-use Rattle.lf_terms.specs.declared.qname.QName.{QName}
+use Rattle.term_trees.specs.Readings.{read_declaration}
+use Rattle.term_trees.specs.declared.flat_decl.FlatDecl.{FlatDecl}
+use Rattle.base_types.specs.declared.qname.QName.{QName}
 use Rattle.lf_terms.proofs.flat_sig.FlatSig.at.Goals as goal
 use Rattle.lf_terms.proofs.flat_sig.FlatSig.at.Goals.{In-Some, In-None}
 

@@ -1,9 +1,9 @@
 use Rattle.std.proofs.Common.{◌≡◌, ap, ◌∙◌}
 use Rattle.std.specs.Option.{option_copied, option_map}
-use Rattle.lf_terms.specs.Readings.{read_declaration}
+use Rattle.term_trees.specs.Readings.{read_declaration}
 use Rattle.lf_terms.proofs.SameName.{same_qname}
 use Rattle.lf_terms.specs.Tables.{declared}
-use Rattle.lf_terms.specs.declared.flat_decl.FlatDecl.{FlatDecl}
+use Rattle.term_trees.specs.declared.flat_decl.FlatDecl.{FlatDecl}
 use Rattle.lf_terms.proofs.KeyedEntries.{found_by_key}
 use Rattle.lf_terms.proofs.Lookup.{copied_read, declared_read}
 use Rattle.lf_terms.proofs.flat_sig.FlatSig.get.Goals as goal

@@ -1,7 +1,7 @@
 use Rattle.std.proofs.Common.{◌≡◌, ◌∙◌}
 use Rattle.lf_terms.specs.Tables.{place_of}
 use Rattle.lf_terms.proofs.SameName.{same_qname}
-use Rattle.lf_terms.specs.declared.flat_decl.FlatDecl.{FlatDecl}
+use Rattle.term_trees.specs.declared.flat_decl.FlatDecl.{FlatDecl}
 use Rattle.lf_terms.proofs.KeyedEntries.{place_by_key}
 use Rattle.lf_terms.proofs.Lookup.{place_read}
 use Rattle.lf_terms.proofs.flat_sig.FlatSig.place.Goals as goal

@@ -3,8 +3,8 @@ use Rattle.std.specs.Map.{lookup, values_of}
 use Rattle.std.proofs.lemmas.List.{map-append}
 use Rattle.lf_terms.proofs.SameName.{same_qname}
 use Rattle.lf_terms.specs.Tables.{declared}
-use Rattle.lf_terms.specs.declared.qname.QName.{QName}
-use Rattle.lf_terms.specs.declared.flat_decl.FlatDecl.{FlatDecl}
+use Rattle.base_types.specs.declared.qname.QName.{QName}
+use Rattle.term_trees.specs.declared.flat_decl.FlatDecl.{FlatDecl}
 use Rattle.lf_terms.proofs.KeyedEntries.{keyed_added, keyed_pushed}
 use Rattle.lf_terms.proofs.Lookup.{contained_declared}
 use Rattle.lf_terms.proofs.flat_sig.FlatSig.push.Goals as goal

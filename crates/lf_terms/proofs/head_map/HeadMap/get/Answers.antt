@@ -1,6 +1,6 @@
 use Rattle.std.proofs.Common.{ap, ◌∙◌}
 use Rattle.std.specs.Option.{option_map}
-use Rattle.lf_terms.specs.Readings.{read_image}
+use Rattle.term_trees.specs.Readings.{read_image}
 use Rattle.lf_terms.proofs.Lookup.{copied_read, mapped_read}
 use Rattle.lf_terms.proofs.head_map.HeadMap.get.Goals as goal
 

@@ -1,6 +1,6 @@
 use Rattle.std.specs.Map.{keys_of}
 use Rattle.lf_meaning.specs.Signatures.{same_constant}
-use Rattle.lf_terms.specs.Readings.{read_constant}
+use Rattle.term_trees.specs.Readings.{read_constant}
 use Rattle.lf_terms.proofs.Lookup.{distinct_images}
 use Rattle.lf_terms.proofs.head_map.HeadMap.len.Goals as goal
 

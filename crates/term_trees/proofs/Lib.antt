@@ -1,0 +1,3 @@
+pub mod ReadingEquations
+pub mod Raised
+pub mod SpineSameness
