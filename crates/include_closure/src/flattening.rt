@@ -1,0 +1,69 @@
+//! Flat signatures.
+ghost use Rattle.std.specs.Prelude.{◌≡◌, ◌∷◌, ◌++◌, [], IfOk, OnOk};
+ghost use Rattle.lf_terms.specs.Readings.{read_declaration, read_signature};
+ghost use Rattle.library_meaning.specs.Faces as meaning;
+ghost use Rattle.library_meaning.specs.Faces.{own_part};
+ghost use Rattle.mmt_interface.specs.Readings.{environment_of};
+ghost use Rattle.mmt_interface.specs.CoherentFaces.{AreCoherent};
+
+use lf_terms::{FlatDecl, FlatSig, Memory, Name};
+use mmt_interface::Faces;
+use std::alloc::Global;
+
+/// The flat signature of an accepted theory: the own parts of what it includes, in order, and then its own. Its
+/// declarations are copies, which grow with their terms. Where the theory is not accepted there is none, and the answer is
+/// the empty signature.
+pub fn flat_of(alloc: Global, faces: &Faces, theory: &Name) -> Result<FlatSig, Memory>
+    requires { AreCoherent faces.now }
+    ensures { IfOk result (λ signature. read_signature signature ≡ meaning.flat_of (environment_of faces.now) theory.now) }
+{
+    let mut signature = FlatSig::new(alloc);
+    if let Some(face) = faces.theory(theory) {
+        for included in face.includes.as_slice() {
+            add_own(alloc, faces, &mut signature, included)?;
+        }
+    }
+    add_own(alloc, faces, &mut signature, theory)?;
+    Ok(signature)
+}
+
+/// Appends the own part of an accepted theory.
+fn add_own(
+    alloc: Global,
+    faces: &Faces,
+    signature: &mut FlatSig,
+    theory: &Name,
+) -> Result<(), Memory>
+    ensures { OnOk result (read_signature signature.new ≡ read_signature signature.old ++ own_part (environment_of faces.now) theory.now) }
+{
+    match faces.theory(theory) {
+        Some(face) => add_declarations(alloc, signature, &face.own),
+        None => Ok(()),
+    }
+}
+
+/// Appends declarations.
+fn add_declarations(alloc: Global, signature: &mut FlatSig, own: &FlatSig) -> Result<(), Memory>
+    ensures { OnOk result (read_signature signature.new ≡ read_signature signature.old ++ read_signature own.now) }
+{
+    for index in 0..own.len() {
+        if let Some(decl) = own.at(index) {
+            push_copy(alloc, signature, decl)?;
+        }
+    }
+    Ok(())
+}
+
+/// Appends a copy of a declaration.
+fn push_copy(alloc: Global, signature: &mut FlatSig, decl: &FlatDecl) -> Result<(), Memory>
+    ensures { OnOk result (read_signature signature.new ≡ read_signature signature.old ++ read_declaration decl.now ∷ []) }
+{
+    let copied = decl.copy(alloc)?;
+    match signature.push(copied) {
+        Ok(()) => Ok(()),
+        Err(fault) => {
+            drop(fault);
+            Err(Memory)
+        }
+    }
+}
