@@ -1,6 +1,6 @@
 //! Flat signatures.
 ghost use Rattle.std.specs.Prelude.{◌≡◌, ◌∷◌, ◌++◌, [], IfOk, OnOk};
-ghost use Rattle.lf_terms.specs.Readings.{read_declaration, read_signature};
+ghost use Rattle.term_trees.specs.Readings.{read_declaration, read_signature};
 ghost use Rattle.library_meaning.specs.Faces as meaning;
 ghost use Rattle.library_meaning.specs.Faces.{own_part};
 ghost use Rattle.mmt_interface.specs.Readings.{environment_of};

@@ -2,7 +2,7 @@ use Rattle.std.proofs.Common.{◌≡◌, ◌∙◌, suc, ◌+◌, [], ◌∷◌,
 use Rattle.std.proofs.lemmas.List.{length-map}
 use Rattle.list_laws.proofs.Places.{take_more}
 use Rattle.lf_meaning.specs.Signatures.{Signature}
-use Rattle.lf_terms.specs.Readings.{read_declaration, read_signature}
+use Rattle.term_trees.specs.Readings.{read_declaration, read_signature}
 use Rattle.include_closure.proofs.Adding.{whole_taken}
 use Rattle.include_closure.proofs.flattening.add_declarations.Goals as goal
 use Rattle.include_closure.proofs.flattening.add_declarations.Goals.{in-Some+in_ok-push_copy, in_default}

@@ -1,5 +1,5 @@
 use Rattle.std.proofs.Common.{◌≡◌, ◌++◌, take}
-use Rattle.lf_terms.specs.Readings.{read_signature}
+use Rattle.term_trees.specs.Readings.{read_signature}
 use Rattle.include_closure.proofs.flattening.add_declarations.Given as goal
 
 abbrev pub invariant-loop-index : goal.invariant-loop-index

@@ -1,5 +1,5 @@
 use Rattle.std.proofs.Common.{◌≡◌, take}
-use Rattle.lf_terms.specs.Readings.{read_signature}
+use Rattle.term_trees.specs.Readings.{read_signature}
 use Rattle.library_meaning.specs.Faces.{own_parts}
 use Rattle.mmt_interface.specs.Readings.{environment_of}
 use Rattle.include_closure.proofs.flattening.flat_of.Given as goal
