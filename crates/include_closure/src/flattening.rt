@@ -4,17 +4,15 @@ ghost use Rattle.term_trees.specs.Readings.{read_declaration, read_signature};
 ghost use Rattle.library_meaning.specs.Faces as meaning;
 ghost use Rattle.library_meaning.specs.Faces.{own_part};
 ghost use Rattle.mmt_interface.specs.Readings.{environment_of};
-ghost use Rattle.mmt_interface.specs.CoherentFaces.{AreCoherent};
 
 use lf_terms::{FlatDecl, FlatSig, Memory, Name};
 use mmt_interface::Faces;
 use std::alloc::Global;
 
 /// The flat signature of an accepted theory: the own parts of what it includes, in order, and then its own. Its
-/// declarations are copies, which grow with their terms. Where the theory is not accepted there is none, and the answer is
-/// the empty signature.
+/// declarations are copies, which grow with their terms. Of a module that is no accepted theory it is empty. In coherent
+/// faces no name comes twice; where one did there would be no such signature, and the answer would be want of memory.
 pub fn flat_of(alloc: Global, faces: &Faces, theory: &Name) -> Result<FlatSig, Memory>
-    requires { AreCoherent faces.now }
     ensures { IfOk result (λ signature. read_signature signature ≡ meaning.flat_of (environment_of faces.now) theory.now) }
 {
     let mut signature = FlatSig::new(alloc);

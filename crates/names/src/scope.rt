@@ -5,7 +5,7 @@ use mmt_interface::Faces;
 use mmt_syntax::Binder;
 
 /// The constants of a theory so far, and the theories that it includes so far, with what is known of them.
-#[derive(Debug)]
+#[derive(Clone, Copy, Debug)]
 pub struct Scope<'a> {
     pub own: &'a FlatSig,
     pub includes: &'a Names,
@@ -17,7 +17,7 @@ pub type Vars = Sequence<(Binder, Fam)>;
 
 /// What a written path stands for: a variable, by the number of binders between it and its own; or a declaration, which
 /// is borrowed from where it stands.
-#[derive(Debug)]
+#[derive(Clone, Copy, Debug)]
 pub enum Found<'a> {
     Var(u32),
     Decl(&'a FlatDecl),
