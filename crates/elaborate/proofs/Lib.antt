@@ -1,0 +1,2 @@
+pub mod TakenArguments
+pub mod HeadsStand

@@ -1,0 +1,3 @@
+pub mod LentValues
+pub mod HeadStates
+pub mod Answers

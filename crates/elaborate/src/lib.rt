@@ -1,0 +1,9 @@
+//! Expansion (this profile): the terms that written expressions stand for, with the first fault where one stands for none.
+//! Heads take their arguments hereditarily (Harper and Licata 2007, section 2).
+#![tactic(auto)]
+
+mod fault;
+mod heads;
+mod lent;
+
+pub use fault::ElabFault;
