@@ -3,6 +3,9 @@ use Rattle.std.specs.Prelude.{◌≡◌, Result, Ok, Err, ⊤}
 use Rattle.expansion_meaning.specs.Answers.{Answer}
 use Rattle.mmt_syntax.specs.Readings.{read_span}
 use Rattle.mmt_interface.specs.ReadRules.{read_rule}
+use Rattle.translation_meaning.specs.Heads as heads
+use Rattle.elaborate.specs.HeadStates.{Stands}
+use Rattle.elaborate.specs.declared.heads.Head.{Head}
 use Rattle.elaborate.specs.declared.fault.ElabFault.{ElabFault}
 use Rattle.elaborate.specs.declared.fault.ElabFault.TheVariants.{Broken, Memory}
 
@@ -15,3 +18,9 @@ IsFirstFault Memory answer = ⊤
 abbrev pub Expands : {A B : Type 0} → (A → B) → Result A ElabFault → Answer B → Type 0
 Expands read (Ok a) answer = answer ≡ Ok (read a)
 Expands read (Err fault) answer = IsFirstFault fault answer
+
+-- So does one that has a head, which stands for that of the definition.
+abbrev pub Begins : Result Head ElabFault → Answer heads.Head → Type 0
+Begins (Ok own) (Ok head) = Stands own head
+Begins (Ok own) (Err fault) = ⊥
+Begins (Err fault) answer = IsFirstFault fault answer

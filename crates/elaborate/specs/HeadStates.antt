@@ -16,6 +16,9 @@ use Rattle.elaborate.specs.declared.heads.Classifier.TheVariants as classifiers
 use Rattle.elaborate.specs.declared.heads.Start.{Start}
 use Rattle.elaborate.specs.declared.heads.Start.TheVariants.{Variable, Constant}
 use Rattle.elaborate.specs.declared.heads.Head.{Head}
+use Rattle.elaborate.specs.declared.heads.Level.{Level}
+use Rattle.elaborate.specs.declared.heads.Level.TheVariants as levels
+use Rattle.expansion_meaning.specs.NameHeads as names
 
 -- The classifier is that of the head.
 abbrev pub Classifies : Classifier → heads.Head → Type 0
@@ -50,3 +53,8 @@ BodyAt before argument after = read_family (value_of after) ≡ family_after (re
 
 abbrev pub KindAt : Lent code.Kind → Object → Lent code.Kind → Type 0
 KindAt before argument after = read_kind (value_of after) ≡ kind_after (read_kind (value_of before)) argument
+
+-- The level that a level of the code stands for.
+abbrev pub read_level : Level → names.Level
+read_level levels.Objects = names.Objects
+read_level levels.Families = names.Families

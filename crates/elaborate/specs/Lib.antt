@@ -1,3 +1,4 @@
 pub mod LentValues
 pub mod HeadStates
+pub mod Contexts
 pub mod Answers

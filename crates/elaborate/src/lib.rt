@@ -2,6 +2,7 @@
 //! Heads take their arguments hereditarily (Harper and Licata 2007, section 2).
 #![tactic(auto)]
 
+mod context;
 mod fault;
 mod heads;
 mod lent;

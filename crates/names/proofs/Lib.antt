@@ -1,0 +1,3 @@
+mod Included
+mod Qualified
+mod Variables
