@@ -3,3 +3,4 @@ pub mod ClosureMembers
 pub mod Computed
 pub mod ComputedWords
 pub mod Resolving
+pub mod KnownRows

@@ -1,4 +1,5 @@
 pub mod Faces
+pub mod Environments
 pub mod Closure
 pub mod Resolution
 pub mod StandsFor
