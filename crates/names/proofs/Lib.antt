@@ -1,0 +1,4 @@
+mod Included
+mod Qualified
+mod Resolved
+mod Variables

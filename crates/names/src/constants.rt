@@ -1,0 +1,69 @@
+//! Constants by their paths.
+ghost use Rattle.std.specs.Prelude.{◌≡◌, Result};
+ghost use Rattle.std.specs.Option.{option_map};
+ghost use Rattle.lf_terms.specs.Readings.{read_declaration, read_signature};
+ghost use Rattle.library_meaning.specs.Faces.{own_part};
+ghost use Rattle.library_meaning.specs.Resolution.{own_at, qualified, included_at, the_only};
+ghost use Rattle.mmt_interface.specs.Readings.{environment_of};
+ghost use Rattle.names.specs.Readings.{read_scope, read_resolved};
+
+use crate::{Found, ResolveFault, Scope};
+use lf_terms::{FlatDecl, FlatSig, Name, Path};
+use mmt_interface::Faces;
+
+/// The constant of an own part at a path. None exactly where there is none.
+pub fn own_constant<'a>(own: &'a FlatSig, path: &[Name]) -> Option<&'a FlatDecl>
+    ensures { option_map (λ decl. read_declaration decl.now) result ≡ own_at (read_signature own.now) path.now }
+{
+    for index in 0..own.len() {
+        if let Some(decl) = own.at(index) {
+            if decl.name.path.as_slice() == path {
+                return Some(decl);
+            }
+        }
+    }
+    None
+}
+
+/// The constant that a path names by an included theory in front of it.
+pub fn qualified_constant<'a>(scope: &Scope<'a>, written: &Path) -> Option<&'a FlatDecl>
+    ensures { option_map (λ decl. read_declaration decl.now) result ≡ qualified (read_scope scope.now) written.now }
+{
+    match written.as_slice() {
+        [theory, rest @ ..] => {
+            if scope.includes.as_slice().contains(theory) {
+                constant_of(scope.faces, theory, rest)
+            } else {
+                None
+            }
+        }
+        [] => None,
+    }
+}
+
+/// The one constant that included theories have at a path.
+pub fn included_constant<'a>(scope: &Scope<'a>, written: &Path) -> Result<Found<'a>, ResolveFault>
+    ensures { read_resolved result ≡ the_only (included_at (read_scope scope.now) written.now) }
+{
+    let mut found = None;
+    for theory in scope.includes.as_slice() {
+        if let Some(decl) = constant_of(scope.faces, theory, written.as_slice()) {
+            if found.is_some() {
+                return Err(ResolveFault::Ambiguous);
+            }
+            found = Some(decl);
+        }
+    }
+    match found {
+        Some(decl) => Ok(Found::Decl(decl)),
+        None => Err(ResolveFault::Unknown),
+    }
+}
+
+/// The constant of an accepted theory at a path. None exactly where there is none.
+fn constant_of<'a>(faces: &'a Faces, theory: &Name, path: &[Name]) -> Option<&'a FlatDecl>
+    ensures { option_map (λ decl. read_declaration decl.now) result ≡ own_at (own_part (environment_of faces.now) theory.now) path.now }
+{
+    let face = faces.theory(theory)?;
+    own_constant(&face.own, path)
+}
