@@ -1,6 +1,7 @@
 -- The constants of included theories at a path, met theory by theory.
-use Rattle.std.proofs.Common.{◌≡◌, ℕ, suc, ◌+◌, ◌≤◌, List, [], ◌∷◌, ◌++◌, take, drop, length, get_or, Option, Some, None, refl, sym, ap, ◌∙◌, ◌<◌, arith}
-use Rattle.std.specs.Prelude.{option_map, option_to_list, slice_get, Bor}
+use Rattle.std.proofs.Common.{◌≡◌, ℕ, ◌+◌, ◌≤◌, List, [], ◌∷◌, ◌++◌, take, drop, length, get_or, Option, Some, None, refl, sym, ap, ◌∙◌, ◌<◌, arith}
+use Rattle.std.specs.Prelude.{option_map, option_to_list}
+use Rattle.std.specs.Borrow.{Bor}
 use Rattle.std.specs.List.{filter_map}
 use Rattle.std.specs.Option.{is_some}
 use Rattle.std.proofs.Common.{true, false}
@@ -9,10 +10,10 @@ use Rattle.std.proofs.lemmas.List.Elements.{filter_map-append}
 use Rattle.std.proofs.Math.Seq.{take-length}
 use Rattle.name_meaning.specs.Names.{Name, Path}
 use Rattle.lf_meaning.specs.Signatures.{Declaration}
-use Rattle.term_trees.specs.Readings.{read_declaration}
-use Rattle.term_trees.specs.declared.flat_decl.FlatDecl.{FlatDecl}
+use Rattle.lf_terms.specs.Readings.{read_declaration}
+use Rattle.lf_terms.specs.declared.flat_decl.FlatDecl.{FlatDecl}
 use Rattle.library_meaning.specs.Faces.{Environment, own_part}
-use Rattle.library_meaning.specs.Resolution.{own_at, Resolved, Declared, Unknown, Ambiguous, the_only}
+use Rattle.library_meaning.specs.Resolution.{own_at, Ambiguous, the_only}
 
 -- What a borrowed declaration stands for, if there is one.
 abbrev pub read_found : Option (Bor FlatDecl) → Option Declaration

@@ -1,3 +1,4 @@
 mod Included
 mod Qualified
+mod Resolved
 mod Variables

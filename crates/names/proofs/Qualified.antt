@@ -1,12 +1,18 @@
 -- Paths with an included theory in front.
-use Rattle.std.proofs.Common.{◌≡◌, ℕ, ◌≤◌, Bool, true, false, cond, List, [], ◌∷◌, drop, length, get_or, Option, Some, None, refl, sym, ap, ◌∙◌, arith}
+use Rattle.std.proofs.Common.{◌≡◌, ◌-◌, ◌≤◌, take, Bool, cond, [], ◌∷◌, drop, length, get_or, None, refl, sym, ap, ◌∙◌, arith}
 use Rattle.std.specs.List.{list_any}
+use Rattle.std.proofs.Math.Seq.{take-length}
 use Rattle.name_meaning.specs.Names.{Name, Path, same_name}
 use Rattle.name_laws.proofs.Contained.{contained_among}
-use Rattle.lf_meaning.specs.Signatures.{Declaration}
 use Rattle.library_meaning.specs.Faces.{own_part}
-use Rattle.library_meaning.specs.Closure.{sees}
 use Rattle.library_meaning.specs.Resolution.{Scope, own_at, qualified, qualified_in}
+
+-- What stands behind the first name of a path.
+pub behind_first : (path : Path) → take (length path - 1) (drop 1 path) ≡ drop 1 path
+behind_first [] = refl
+behind_first (first ∷ rest) =
+    let counted : length (first ∷ rest) - 1 ≡ length rest = omega arith in
+    ap (λ n. take n rest) counted ∙ take-length rest
 
 module _ (scope : Scope) where
   pub front_read : (path : Path) (theory : Name) → 1 ≤ length path → theory ≡ get_or path 0 theory → qualified scope path ≡ qualified_in scope theory (drop 1 path)

@@ -1,13 +1,13 @@
 -- Variables met from the innermost one on.
-use Rattle.std.proofs.Common.{◌≡◌, ℕ, zero, suc, ◌+◌, ◌-◌, ◌≤◌, ◌<◌, Bool, true, false, cond, List, [], ◌∷◌, ◌++◌, map, reverse, take, length, get_or, Option, Some, None, refl, sym, ap, ◌∙◌, arith}
+use Rattle.std.proofs.Common.{◌≡◌, ℕ, zero, suc, ◌+◌, ◌-◌, ◌≤◌, ◌<◌, Bool, cond, List, [], ◌∷◌, ◌++◌, map, reverse, take, length, get_or, Option, Some, None, sym, ap, ◌∙◌, arith}
 use Rattle.std.proofs.lemmas.List.{reverse-append, map-append, take_more}
 use Rattle.std.proofs.Math.Seq.{take-length}
 use Rattle.name_meaning.specs.Names.{Name}
 use Rattle.library_meaning.specs.Resolution.{is_variable, variable_from}
 use Rattle.mmt_syntax.specs.Readings.{read_binder}
-use Rattle.term_trees.specs.declared.fam.Fam.{Fam}
+use Rattle.lf_terms.specs.declared.fam.Fam.{Fam}
 use Rattle.mmt_syntax.specs.declared.expr.Binder.{Binder}
-use Rattle.expansion_meaning.specs.Locals.{Local, variables_of}
+use Rattle.expansion_meaning.specs.Locals.{variables_of}
 use Rattle.names.specs.Readings.{read_local, read_variables}
 
 -- One more variable is the innermost.

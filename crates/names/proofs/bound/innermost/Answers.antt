@@ -1,4 +1,4 @@
-use Rattle.std.proofs.Common.{◌≡◌, ◌∙◌, sym, ap, cond, take, ◌-◌, ◌≤◌, length, Some, arith}
+use Rattle.std.proofs.Common.{◌∙◌, sym, ap, cond, take, ◌-◌, length, Some, arith}
 use Rattle.library_meaning.specs.Resolution.{variable_from}
 use Rattle.names.specs.Readings.{read_variables}
 use Rattle.names.proofs.Variables.{next_variable, all_left, none_left}

@@ -1,9 +1,9 @@
-use Rattle.std.proofs.Common.{refl, ◌≡◌, ◌∙◌, ℕ, ◌+◌, ◌≤◌, true, false, cond, drop, length, Some, None, suc, map, sym, ap, arith, add-one}
+use Rattle.std.proofs.Common.{refl, ◌≡◌, ◌∙◌, ℕ, ◌+◌, ◌≤◌, true, false, cond, drop, length, Some, None, suc, sym, ap, arith}
 use Rattle.std.specs.Prelude.{slice_get}
 use Rattle.std.specs.List.{find}
 use Rattle.std.proofs.lemmas.List.{length-map, drop_all}
 use Rattle.lf_meaning.specs.Signatures.{Declaration, Signature}
-use Rattle.term_trees.specs.Readings.{read_declaration, read_signature}
+use Rattle.lf_terms.specs.Readings.{read_declaration, read_signature}
 use Rattle.library_meaning.specs.Resolution.{own_at, has_path, same_path}
 use Rattle.list_laws.proofs.Places.{drop_here}
 use Rattle.name_meaning.specs.Names.{Path}
@@ -31,10 +31,10 @@ loop-index-preserved c =
     let i = c.loop-index.index in
     let plus : suc i ≡ i + 1 = omega arith in
     elim c.match-at.branch [
-      in-Some+else-eq w ↦
-        let d = read_declaration w.in-Some.decl.now in
-        let other : has_path path d ≡ false = ap (λ p. same_path p path) (sym w.as_slice.ensures.names) ∙ sym w.eq.ensures ∙ w.if-eq.false in
-        c.loop-index.invariant ∙ next own path i d (sym w.in-Some.ensures.meaning) ∙ ap (λ b. cond b (Some d) (own_at (drop (suc i) own) path)) other ∙ ap (λ j. own_at (drop j own) path) plus
+      | in-Some+else-eq w ↦
+          let d = read_declaration w.in-Some.decl.now in
+          let other : has_path path d ≡ false = ap (λ p. same_path p path) (sym w.as_slice.ensures.names) ∙ sym w.eq.ensures ∙ w.if-eq.false in
+          c.loop-index.invariant ∙ next own path i d (sym w.in-Some.ensures.meaning) ∙ ap (λ b. cond b (Some d) (own_at (drop (suc i) own) path)) other ∙ ap (λ j. own_at (drop j own) path) plus
       | in_default w ↦ absurd (omega (arith, w.in_default.ensures.none.0 refl))
     ]
 
