@@ -5,7 +5,7 @@ use Rattle.std.specs.Option.{option_and_then}
 use Rattle.std.specs.List.{IsDistinct}
 use Rattle.name_meaning.specs.Names.{Name, same_name}
 use Rattle.name_meaning.specs.Rows.{Rows, row_names, row_of}
-use Rattle.lf_terms.specs.Readings.{read_signature, read_map}
+use Rattle.term_trees.specs.Readings.{read_signature, read_map}
 use Rattle.library_meaning.specs.Faces as faces
 use Rattle.library_meaning.specs.Environments.{environment_from}
 use Rattle.link_meaning.specs.Refusals as refusals

@@ -10,8 +10,8 @@ use Rattle.std.proofs.lemmas.List.Elements.{filter_map-append}
 use Rattle.std.proofs.Math.Seq.{take-length}
 use Rattle.name_meaning.specs.Names.{Name, Path}
 use Rattle.lf_meaning.specs.Signatures.{Declaration}
-use Rattle.lf_terms.specs.Readings.{read_declaration}
-use Rattle.lf_terms.specs.declared.flat_decl.FlatDecl.{FlatDecl}
+use Rattle.term_trees.specs.Readings.{read_declaration}
+use Rattle.term_trees.specs.declared.flat_decl.FlatDecl.{FlatDecl}
 use Rattle.library_meaning.specs.Faces.{Environment, own_part}
 use Rattle.library_meaning.specs.Resolution.{own_at, Ambiguous, the_only}
 

@@ -5,7 +5,7 @@ use Rattle.std.proofs.Math.Seq.{take-length}
 use Rattle.name_meaning.specs.Names.{Name}
 use Rattle.library_meaning.specs.Resolution.{is_variable, variable_from}
 use Rattle.mmt_syntax.specs.Readings.{read_binder}
-use Rattle.lf_terms.specs.declared.fam.Fam.{Fam}
+use Rattle.term_trees.specs.declared.fam.Fam.{Fam}
 use Rattle.mmt_syntax.specs.declared.expr.Binder.{Binder}
 use Rattle.expansion_meaning.specs.Locals.{variables_of}
 use Rattle.names.specs.Readings.{read_local, read_variables}

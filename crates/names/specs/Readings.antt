@@ -1,7 +1,7 @@
 -- What the values of this crate stand for: scopes, variables, and what is found.
 use Rattle.std.specs.Prelude.{List, map, reverse, Result, Ok, Err}
-use Rattle.lf_terms.specs.Readings.{read_family, read_declaration, read_signature}
-use Rattle.lf_terms.specs.declared.fam.Fam.{Fam}
+use Rattle.term_trees.specs.Readings.{read_family, read_declaration, read_signature}
+use Rattle.term_trees.specs.declared.fam.Fam.{Fam}
 use Rattle.library_meaning.specs.Resolution as resolution
 use Rattle.expansion_meaning.specs.Locals.{Local, Locals, variables_of}
 use Rattle.mmt_syntax.specs.Readings.{read_binder}

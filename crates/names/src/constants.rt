@@ -1,7 +1,7 @@
 //! Constants by their paths.
 ghost use Rattle.std.specs.Prelude.{◌≡◌, Result};
 ghost use Rattle.std.specs.Option.{option_map};
-ghost use Rattle.lf_terms.specs.Readings.{read_declaration, read_signature};
+ghost use Rattle.term_trees.specs.Readings.{read_declaration, read_signature};
 ghost use Rattle.library_meaning.specs.Faces.{own_part};
 ghost use Rattle.library_meaning.specs.Resolution.{own_at, qualified, included_at, the_only};
 ghost use Rattle.mmt_interface.specs.Readings.{environment_of};

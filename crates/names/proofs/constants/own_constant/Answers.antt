@@ -3,7 +3,7 @@ use Rattle.std.specs.Prelude.{slice_get}
 use Rattle.std.specs.List.{find}
 use Rattle.std.proofs.lemmas.List.{length-map, drop_all}
 use Rattle.lf_meaning.specs.Signatures.{Declaration, Signature}
-use Rattle.lf_terms.specs.Readings.{read_declaration, read_signature}
+use Rattle.term_trees.specs.Readings.{read_declaration, read_signature}
 use Rattle.library_meaning.specs.Resolution.{own_at, has_path, same_path}
 use Rattle.list_laws.proofs.Places.{drop_here}
 use Rattle.name_meaning.specs.Names.{Path}

@@ -1,5 +1,5 @@
 use Rattle.std.proofs.Common.{◌≡◌, drop}
-use Rattle.lf_terms.specs.Readings.{read_signature}
+use Rattle.term_trees.specs.Readings.{read_signature}
 use Rattle.library_meaning.specs.Resolution.{own_at}
 use Rattle.names.proofs.constants.own_constant.Given as goal
 

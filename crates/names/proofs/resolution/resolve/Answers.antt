@@ -1,5 +1,5 @@
 use Rattle.std.proofs.Common.{◌∙◌, refl, ap}
-use Rattle.lf_terms.specs.Readings.{read_signature}
+use Rattle.term_trees.specs.Readings.{read_signature}
 use Rattle.library_meaning.specs.Resolution.{own_at}
 use Rattle.names.specs.Readings.{read_scope, read_variables}
 use Rattle.names.proofs.Resolved.{resolved}
