@@ -1,2 +1,3 @@
 pub mod TakenArguments
 pub mod HeadsStand
+pub mod NamesStand

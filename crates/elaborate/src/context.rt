@@ -1,5 +1,5 @@
 //! Where an expression stands: a scope, and the variables of the binders around it.
-ghost use Rattle.std.specs.Prelude.{◌≡◌, ◌∷◌, ◌≤◌, ◌^◌, IfOk, Ok, length, slice_get};
+ghost use Rattle.std.specs.Prelude.{◌≡◌, ◌+◌, IfOk, Ok, reverse, slice_get};
 ghost use Rattle.std.specs.Option.{option_copied, option_map};
 ghost use Rattle.library_meaning.specs.Resolution as resolution;
 ghost use Rattle.expansion_meaning.specs.Locals.{context_of, family_at, variables_of, with_local};
@@ -14,6 +14,7 @@ ghost use Rattle.elaborate.specs.HeadStates.{read_level};
 ghost use Rattle.elaborate.specs.Answers.{Begins, Expands};
 
 use crate::fault::{ElabFault, broken};
+use crate::given::GivenVariables;
 use crate::heads::{Classifier, Head, Level, Start};
 use crate::lent::Lent;
 use lf_terms::{Class, Fam, FlatDecl, Memory, Name, Path, Span, Spine, shift_fam};
@@ -21,13 +22,6 @@ use mmt_interface::Rule;
 use mmt_syntax::Binder;
 use names::{Found, ResolveFault, Scope, Vars, resolve};
 use std::alloc::Global;
-
-/// Variables that are few enough for indices.
-#[derive(Clone, Copy)]
-pub(crate) struct GivenVariables<'a> {
-    vars: &'a Vars,
-    ghost few: { length vars.now ≤ 2 ^ 32 },
-}
 
 /// Variables that are given, and behind them those of the binders that were passed. A binder takes no memory; a look-up
 /// goes over the binders inside of the variable.
@@ -60,13 +54,13 @@ impl<'a> Variables<'a> {
         ensures { Expands read_found result (resolved_answer (read_span span) (resolution.resolve (read_scope scope.now) (variables_of (variables_in self.now)) written.now)) }
     {
         match self {
-            Variables::Given(given) => found(span, resolve(scope, given.vars, written)),
+            Variables::Given(given) => found(span, resolve(scope, given.get(), written)),
             Variables::Bound { name, outer, .. } => {
                 if is_named(*name, written) {
                     return Ok(Found::Var(0));
                 }
                 match outer.resolve(scope, span, written)? {
-                    Found::Var(index) => Ok(Found::Var(index.checked_add(1).ok_or(Memory)?)),
+                    Found::Var(index) => Ok(Found::Var(one_more(index)?)),
                     Found::Decl(decl) => Ok(Found::Decl(decl)),
                 }
             }
@@ -78,7 +72,10 @@ impl<'a> Variables<'a> {
         ensures { option_map (λ a. read_family a.now) result ≡ slice_get (context_of (variables_in self.now)) index }
     {
         match self {
-            Variables::Given(given) => innermost(given.vars.as_slice(), index as usize),
+            Variables::Given(given) => match innermost(given.get().as_slice(), index as usize) {
+                Some(variable) => Some(&variable.1),
+                None => None,
+            },
             Variables::Bound { family, outer, .. } => match index.checked_sub(1) {
                 Some(index) => outer.family(index),
                 None => Some(*family),
@@ -98,9 +95,16 @@ fn found<'a>(span: Span, found: Result<Found<'a>, ResolveFault>) -> Result<Found
     }
 }
 
+/// The number of binders, with one more. More than an index can name are want of memory.
+fn one_more(index: u32) -> Result<u32, Memory>
+    ensures { IfOk result (λ more. more ≡ index + 1) }
+{
+    index.checked_add(1).ok_or(Memory)
+}
+
 /// Whether a path is one name, which is that of a binder.
 fn is_named(name: Option<&Name>, written: &Path) -> bool
-    ensures { result ≡ is_named_by (option_copied name) written.now }
+    ensures { result ≡ is_named_by (option_copied name.entry) written.now }
 {
     match (name, written.as_slice()) {
         (Some(name), [only]) => name == only,
@@ -108,12 +112,12 @@ fn is_named(name: Option<&Name>, written: &Path) -> bool
     }
 }
 
-/// The family at an index that is counted from the end.
-fn innermost(vars: &[(Binder, Fam)], index: usize) -> Option<&Fam>
-    ensures { option_map (λ a. read_family a.now) result ≡ slice_get (context_of (read_locals vars.now)) index }
+/// The variable at an index that is counted from the end.
+fn innermost(vars: &[(Binder, Fam)], index: usize) -> Option<&(Binder, Fam)>
+    ensures { option_copied result ≡ slice_get (reverse vars.now) index }
 {
     if index < vars.len() {
-        Some(&vars[vars.len() - 1 - index].1)
+        vars.get(vars.len() - 1 - index)
     } else {
         None
     }
@@ -125,10 +129,7 @@ impl<'a> Context<'a> {
         ensures scope { IfOk result (λ context. scope_of context ≡ read_scope scope.now) }
         ensures locals { IfOk result (λ context. locals_of context ≡ read_locals vars.now) }
     {
-        if vars.len() > u32::MAX as usize {
-            return Err(Memory);
-        }
-        let given = GivenVariables { vars };
+        let given = GivenVariables::new(vars)?;
         Ok(Context {
             scope,
             variables: Variables::Given(given),
@@ -138,7 +139,7 @@ impl<'a> Context<'a> {
     /// The context under a binder of that name, if it has one, whose variable has that family.
     pub(crate) fn under(&'a self, name: Option<&'a Name>, family: &'a Fam) -> Context<'a>
         ensures scope { scope_of result ≡ scope_of self.now }
-        ensures locals { locals_of result ≡ with_local (option_copied name) (read_family family.now) (locals_of self.now) }
+        ensures locals { locals_of result ≡ with_local (option_copied name.entry) (read_family family.now) (locals_of self.now) }
     {
         Context {
             scope: self.scope,
@@ -182,8 +183,7 @@ impl<'a> Context<'a> {
         let Level::Objects = level else {
             return Err(broken(span, Rule::Level));
         };
-        let by = index.checked_add(1).ok_or(Memory)?;
-        let family = Box::new(alloc, shift_fam(alloc, family, by, 0)?)?;
+        let family = Box::new(alloc, shift_fam(alloc, family, one_more(index)?, 0)?)?;
         Ok(Head {
             start: Start::Variable(index),
             spine: Spine::new(alloc),
@@ -211,14 +211,18 @@ fn declared_head<'a>(
 ) -> Result<Head<'a>, ElabFault>
     ensures { Begins result (levelled (read_level level) (read_span span) (Ok (meant.declared_head (read_declaration decl.now)))) }
 {
-    let classifier = match (&decl.class, level) {
-        (Class::Fam(family), Level::Objects) => Classifier::Family(Lent::Borrowed(family)),
-        (Class::Kind(kind), Level::Families) => Classifier::Kind(Lent::Borrowed(kind)),
-        _ => return Err(broken(span, Rule::Level)),
-    };
-    Ok(Head {
-        start: Start::Constant(decl),
-        spine: Spine::new(alloc),
-        classifier,
-    })
+    match (&decl.class, level) {
+        (Class::Fam(family), Level::Objects) => Ok(Head {
+            start: Start::Constant(decl),
+            spine: Spine::new(alloc),
+            classifier: Classifier::Family(Lent::Borrowed(family)),
+        }),
+        (Class::Kind(kind), Level::Families) => Ok(Head {
+            start: Start::Constant(decl),
+            spine: Spine::new(alloc),
+            classifier: Classifier::Kind(Lent::Borrowed(kind)),
+        }),
+        (Class::Fam(_), Level::Families) => Err(broken(span, Rule::Level)),
+        (Class::Kind(_), Level::Objects) => Err(broken(span, Rule::Level)),
+    }
 }

@@ -4,6 +4,7 @@
 
 mod context;
 mod fault;
+mod given;
 mod heads;
 mod lent;
 
