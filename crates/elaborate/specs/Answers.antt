@@ -24,3 +24,8 @@ abbrev pub Begins : Result Head ElabFault → Answer heads.Head → Type 0
 Begins (Ok own) (Ok head) = Stands own head
 Begins (Ok own) (Err fault) = ⊥
 Begins (Err fault) answer = IsFirstFault fault answer
+
+-- A test passes exactly where the definition's does.
+abbrev pub Passes : Result ⊤ ElabFault → Answer ⊤ → Type 0
+Passes (Ok passed) answer = answer ≡ Ok tt
+Passes (Err fault) answer = IsFirstFault fault answer

@@ -6,6 +6,9 @@ mod context;
 mod fault;
 mod given;
 mod heads;
+mod kinds;
 mod lent;
+mod terms;
+mod values;
 
 pub use fault::ElabFault;
