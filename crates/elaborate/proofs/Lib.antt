@@ -4,3 +4,4 @@ pub mod NamesStand
 pub mod Nodes
 pub mod ExpansionSteps
 pub mod KindSteps
+pub mod PublicAnswers

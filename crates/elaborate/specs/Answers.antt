@@ -29,3 +29,9 @@ Begins (Err fault) answer = IsFirstFault fault answer
 abbrev pub Passes : Result ⊤ ElabFault → Answer ⊤ → Type 0
 Passes (Ok passed) answer = answer ≡ Ok tt
 Passes (Err fault) answer = IsFirstFault fault answer
+
+-- Where no rule is broken: the result is Ok, or want of memory.
+abbrev pub BreaksNothing : {A : Type 0} → Result A ElabFault → Type 0
+BreaksNothing (Ok a) = ⊤
+BreaksNothing (Err (Broken span rule)) = ⊥
+BreaksNothing (Err Memory) = ⊤

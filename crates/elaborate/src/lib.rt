@@ -2,6 +2,7 @@
 //! Heads take their arguments hereditarily (Harper and Licata 2007, section 2).
 #![tactic(auto)]
 
+mod calls;
 mod context;
 mod fault;
 mod given;
@@ -11,4 +12,5 @@ mod lent;
 mod terms;
 mod values;
 
+pub use calls::{elab_class, elab_fam, elab_kind, elab_obj, elab_value};
 pub use fault::ElabFault;
