@@ -4,6 +4,7 @@ use Rattle.std.proofs.lemmas.List.{reverse-append, reverse-reverse}
 use Rattle.lf_meaning.specs.Terms as terms
 use Rattle.lf_meaning.specs.Raising.{raise}
 use Rattle.lf_meaning.specs.Substitution.{substitute, substitute_family, reduce, app}
+use Rattle.list_laws.proofs.Lists.{map_reversed}
 use Rattle.lf_term_laws.proofs.Spines.{substitute_applied_at, substitute_applied_below, substitute_applied_above, substitute_applied_constant, map_applied, apply_all_appended}
 use Rattle.term_trees.specs.Readings.{read_constant, read_head, read_object, read_objects, arguments_of, read_arguments, read_family}
 use Rattle.base_types.specs.declared.qname.QName.{QName}
@@ -142,14 +143,8 @@ next_of f done items slice m item i same is inside so_far new =
     (new ∙ ap (λ (x : Obj). f (read_object x)) (is ∙ ap (λ (others : List Obj). slice_index_or others i item) same))
 
 -- arguments that were turned round stand as they did when turned round again
-map-reverse : (ms : List Obj) → read_objects (reverse ms) ≡ reverse (read_objects ms)
-map-reverse [] = refl
-map-reverse (m ∷ ms) =
-    ap read_objects (reverse-append (m ∷ []) ms) ∙ map-append (reverse ms) (m ∷ []) ∙ ap (λ (ns : List terms.Object). ns ++ read_object m ∷ []) (map-reverse ms)
-    ∙ sym (reverse-append (read_object m ∷ []) (read_objects ms))
-
 turned : (ms items : List Obj) → items ≡ reverse ms → reverse (read_objects items) ≡ read_objects ms
-turned ms items e = ap (λ (others : List Obj). reverse (read_objects others)) e ∙ ap reverse (map-reverse ms) ∙ reverse-reverse (read_objects ms)
+turned ms items e = ap (λ (others : List Obj). reverse (read_objects others)) e ∙ ap reverse (map_reversed read_object ms) ∙ reverse-reverse (read_objects ms)
 
 module _ (t : terms.Simple) (v : terms.Object) (n : ℕ) (s r : Spine) (value : Obj) (items : List Obj)
     (arguments : read_arguments r ≡ map (substitute v t n) (read_arguments s)) (raised : read_object value ≡ raise n 0 v) (back : items ≡ reverse (arguments_of r)) where

@@ -3,7 +3,7 @@ use Rattle.std.proofs.Common.{◌≡◌, ℕ, suc, List, [], ◌∷◌, ◌++◌
 use Rattle.std.specs.Prelude.{slice_get}
 use Rattle.std.specs.Option.{option_map}
 use Rattle.std.proofs.lemmas.Option.{slice_get-map}
-use Rattle.std.proofs.lemmas.List.{map-append, reverse-append}
+use Rattle.list_laws.proofs.Lists.{map_reversed}
 use Rattle.lf_meaning.specs.Terms.{Context}
 use Rattle.term_trees.specs.Readings.{read_context, read_family}
 use Rattle.term_trees.specs.declared.fam.Fam.{Fam}
@@ -19,14 +19,9 @@ read_given ctx = ap read_variables (sym (variables.rolls-Given ctx)) ∙ fold-ro
 pub read_bound : (family : Bor Fam) (outer : Bor Variables) → read_variables (variables.Bound family outer) ≡ read_family family.now ∷ read_variables outer.now
 read_bound family outer = ap read_variables (sym (variables.rolls-Bound family outer)) ∙ fold-roll-Variables Context read_variables_layer (opened.Bound family outer)
 
-map-reverse : {A B : Type 0} (f : A → B) (xs : List A) → map f (reverse xs) ≡ reverse (map f xs)
-map-reverse f [] = refl
-map-reverse f (x ∷ xs) =
-    ap (map f) (reverse-append (x ∷ []) xs) ∙ map-append f (reverse xs) (x ∷ []) ∙ ap (λ ys. ys ++ f x ∷ []) (map-reverse f xs) ∙ sym (reverse-append (f x ∷ []) (map f xs))
-
 -- the family at an index that is counted from the end
 pub family_given : (families : List Fam) (i : ℕ) → option_map read_family (slice_get (reverse families) i) ≡ slice_get (read_context families) i
-family_given families i = sym (slice_get-map read_family (reverse families) i) ∙ ap (λ xs. slice_get xs i) (map-reverse read_family families)
+family_given families i = sym (slice_get-map read_family (reverse families) i) ∙ ap (λ xs. slice_get xs i) (map_reversed read_family families)
 
 -- behind a binder
 pub family_bound : (family : Bor Fam) (outer : Bor Variables) (i j : ℕ) → i ≡ suc j → slice_get (read_variables outer.now) j ≡ slice_get (read_variables (variables.Bound family outer)) i

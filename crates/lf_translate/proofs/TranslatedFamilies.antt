@@ -15,7 +15,7 @@ use Rattle.lf_substitution_laws.proofs.Families.{erase_map}
 use Rattle.translation_meaning.specs.Heads.{FamilyHead, family_takes, head_takes_all}
 use Rattle.translation_meaning.specs.Translation.{translate_object, translate_family, translate_head, translate_kind, family_of, family_image, family_head_image, image_kind}
 use Rattle.translation_meaning.specs.Unmapped.{first_of, without_image, unmapped_object, unmapped_family, unmapped_atomic_family, unmapped_kind}
-use Rattle.translation_laws.proofs.Spines.{family_spine_taken}
+use Rattle.translation_laws.proofs.Spines.{family_spine_taken, spine_kept}
 use Rattle.term_trees.specs.Readings.{read_constant, read_family, read_kind, read_object, read_objects, read_arguments, read_class, read_value, arguments_of}
 use Rattle.base_types.specs.declared.qname.QName.{QName}
 use Rattle.term_trees.specs.declared.class.Class as code
@@ -93,13 +93,6 @@ module _ (along : HeadMap) where
     pub translated_pi_kind : (c : Box Fam Global) (d : Box kind.Kind Global) → read_family c.value ≡ translate_family along (read_family a.value) → read_kind d.value ≡ translate_kind along (read_kind k.value) → read_kind (kinds.Pi c d) ≡ translate_kind along (read_kind t)
     unfolding translate_kind
     translated_pi_kind c d domain body = read_kind_pi c d ∙ ap₂ PiKind domain body ∙ sym (ap (translate_kind along) reads_kind)
-
--- A family without binders has all arguments on its spine, whatever its kind.
-spine_kept : (k : Kind) (p : AtomicFamily) (ms : List Object) (q : AtomicFamily) → family_of (head_takes_all (FamilyHead zero (AtFamily p) k) ms) q ≡ AtFamily (family_apply_all p ms)
-unfolding head_takes_all
-spine_kept k p [] q = refl
-spine_kept Ty p (m ∷ ms) q = spine_kept Ty (FamilyApp p m) ms q
-spine_kept (PiKind a k) p (m ∷ ms) q = spine_kept (substitute_kind m (erase a) 0 k) (FamilyApp p m) ms q
 
 -- The image in its place.
 module _ (c : QName) (k : code.Class) (v : code_value.Value) (s : Spine) (p : AtomicFamily) where

@@ -14,7 +14,7 @@ use crate::TranslateFault;
 use crate::images::image;
 use crate::objects::translate_spine;
 use hereditary_subst::subst_fam;
-use lf_terms::{Class, Fam, HeadMap, Image, Kind, Memory, Obj, QName, Spine, Value, erase};
+use lf_terms::{Class, Fam, HeadMap, Kind, Memory, Obj, QName, Spine, Value, erase};
 use std::alloc::Global;
 
 /// The family with each constant replaced by its image: a family value takes arguments for its binders, the outermost
@@ -32,17 +32,24 @@ pub fn translate_fam(alloc: Global, map: &HeadMap, t: &Fam) -> Result<Fam, Trans
         Fam::At { head, spine } => {
             let image = image(alloc, map, head)?;
             let spine = translate_spine(alloc, map, spine)?;
-            Ok(put_in_place(alloc, head, image, spine)?)
+            Ok(family_in_place(alloc, head, &image.class, &image.value, spine)?)
         }
     }
 }
 
-/// The image of a family constant in its place, with the arguments. An image of another level leaves the constant, or
-/// has no domains: no typed map has one.
-fn put_in_place(alloc: Global, constant: &QName, image: &Image, spine: Spine) -> Result<Fam, Memory>
-    ensures { IfOk result (λ a. (p : AtomicFamily) → read_family a ≡ family_of (head_takes_all (family_image (read_constant constant.now) (read_class image.now.class) (read_value image.now.value)) (read_arguments spine)) p) }
+/// What stands in place of a family constant of this classifier with this value, with the arguments: in place of one
+/// that is translated, its image, and in place of a defined one, its value. A value of another level leaves the
+/// constant, or has no domains: no typed map and no coherent theory has one.
+pub fn family_in_place(
+    alloc: Global,
+    constant: &QName,
+    class: &Class,
+    value: &Value,
+    spine: Spine,
+) -> Result<Fam, Memory>
+    ensures { IfOk result (λ a. (p : AtomicFamily) → read_family a ≡ family_of (head_takes_all (family_image (read_constant constant.now) (read_class class.now) (read_value value.now)) (read_arguments spine)) p) }
 {
-    match &image.value {
+    match value {
         Value::Same(other) => Ok(Fam::At {
             head: other.copy(alloc)?,
             spine,
@@ -51,7 +58,7 @@ fn put_in_place(alloc: Global, constant: &QName, image: &Image, spine: Spine) ->
             head: constant.copy(alloc)?,
             spine,
         }),
-        Value::Fam { binders, body } => match &image.class {
+        Value::Fam { binders, body } => match class {
             Class::Kind(kind) => Ok(filled(alloc, *binders, body, kind, spine)?),
             Class::Fam(_) => {
                 let no_domains = Kind::Ty;

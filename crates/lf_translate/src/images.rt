@@ -27,22 +27,25 @@ pub(crate) fn image<'a>(
     }
 }
 
-/// The image of an object constant in its place, with the arguments. The same constant keeps them on its spine; a term
-/// takes them at the erasure of its classifier. An image of another level leaves the constant: no typed map has one.
-pub(crate) fn put_in_place(
+/// What stands in place of an object constant of this classifier with this value, with the arguments: in place of one
+/// that is translated, its image, and in place of a defined one, its value. The same constant keeps the arguments on its
+/// spine; a term takes them at the erasure of its classifier. A value of another level leaves the constant: no typed
+/// map and no coherent theory has one.
+pub fn object_in_place(
     alloc: Global,
     constant: &QName,
-    image: &Image,
+    class: &Class,
+    value: &Value,
     spine: Spine,
 ) -> Result<Obj, Memory>
-    ensures { IfOk result (λ m. read_object m ≡ object_of (takes_all (object_image (read_constant constant.now) (read_class image.now.class) (read_value image.now.value)) (read_arguments spine))) }
+    ensures { IfOk result (λ m. read_object m ≡ object_of (takes_all (object_image (read_constant constant.now) (read_class class.now) (read_value value.now)) (read_arguments spine))) }
 {
-    match &image.value {
+    match value {
         Value::Same(other) => Ok(Obj::At {
             head: Head::Con(other.copy(alloc)?),
             spine,
         }),
-        Value::Term(object) => match &image.class {
+        Value::Term(object) => match class {
             Class::Fam(family) => {
                 let simple = erase(alloc, family)?;
                 Ok(reduce(alloc, object, &simple, spine.as_slice())?)

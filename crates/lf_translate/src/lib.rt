@@ -9,8 +9,9 @@ mod maps;
 mod objects;
 mod values;
 
-pub use families::{translate_fam, translate_kind};
+pub use families::{family_in_place, translate_fam, translate_kind};
 pub use fault::TranslateFault;
+pub use images::object_in_place;
 pub use maps::{compose, differ};
 pub use objects::translate_obj;
-pub use values::{translate_class, translate_value};
+pub use values::{family_value, object_value, translate_class, translate_value};

@@ -7,7 +7,7 @@ ghost use Rattle.lf_translate.specs.Answers.{Answers};
 ghost use Rattle.lf_translate.specs.Spines.{unmapped_arguments};
 
 use crate::TranslateFault;
-use crate::images::{image, put_in_place};
+use crate::images::{image, object_in_place};
 use lf_terms::{Head, HeadMap, Obj, Spine};
 use std::alloc::Global;
 
@@ -32,7 +32,7 @@ pub fn translate_obj(alloc: Global, map: &HeadMap, t: &Obj) -> Result<Obj, Trans
             Head::Con(constant) => {
                 let image = image(alloc, map, constant)?;
                 let spine = translate_spine(alloc, map, spine)?;
-                Ok(put_in_place(alloc, constant, image, spine)?)
+                Ok(object_in_place(alloc, constant, &image.class, &image.value, spine)?)
             }
         },
     }

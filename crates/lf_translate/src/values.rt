@@ -40,8 +40,8 @@ pub fn translate_value(alloc: Global, map: &HeadMap, t: &Value) -> Result<Value,
     }
 }
 
-/// The value of an object.
-fn object_value(object: Obj) -> Value
+/// The value of an object. A bare constant is the same as that constant.
+pub fn object_value(object: Obj) -> Value
     ensures { read_value result ≡ meant.object_value (read_object object) }
 {
     match object {
@@ -65,8 +65,8 @@ fn headed_value(head: Head, spine: Spine) -> Value
     }
 }
 
-/// The value of a family with so many binders.
-fn family_value(binders: u32, body: Fam) -> Value
+/// The value of a family with so many binders. A bare constant under none is the same as that constant.
+pub fn family_value(binders: u32, body: Fam) -> Value
     ensures { read_value result ≡ meant.family_value binders (read_family body) }
 {
     if binders != 0 {

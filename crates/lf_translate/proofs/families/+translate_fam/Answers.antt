@@ -58,15 +58,15 @@ returns-in_err-spine-in-At t c =
     let constant = read_constant at.head in
     rw (p.1, p.2) (names_second c.in_err-spine-in-At.field-0.0 (without_image constant (image_of along constant)) (unmapped_arguments along (read_arguments at.spine)) (unmapped_family along (read_family c.args.t.now)) (unmapped_at along c.args.t.now at.head at.spine at.is) (ap (without_image constant) c.in_ok-image-in-At.ensures.found) c.in_err-spine-in-At.ensures)
 
-pub returns-in_ok-put_in_place-in-At : goal.returns-in_ok-put_in_place-in-At
-returns-in_ok-put_in_place-in-At t c =
+pub returns-in_ok-family_in_place-in-At : goal.returns-in_ok-family_in_place-in-At
+returns-in_ok-family_in_place-in-At t c =
     let along = read_map c.args.map.now in
     let at = c.in-At in
     let constant = read_constant at.head in
     let image = read_image c.in_ok-image-in-At.image.now in
     let found = c.in_ok-image-in-At.ensures.found in
     let spine = c.in_ok-spine-in-At in
-    let put = c.in_ok-put_in_place-in-At in (
+    let put = c.in_ok-family_in_place-in-At in (
       none_at_all (without_image constant (image_of along constant)) (unmapped_arguments along (read_arguments at.spine)) (unmapped_family along (read_family c.args.t.now)) (unmapped_at along c.args.t.now at.head at.spine at.is) (ap (without_image constant) found) spine.ensures.0,
       translated_at along c.args.t.now at.head at.spine at.is spine.spine spine.ensures.1 image found put.field-0 put.ensures,
     )

@@ -64,8 +64,8 @@ translate_obj-returns-in_err-spine-in-Con t c =
     let rest = unmapped_arguments along (read_arguments at.spine) in
     rw (p.1, p.2) (names_second c.in_err-spine-in-Con.field-0.0 first rest (unmapped_object along (read_object c.args.t.now)) (unmapped_at along c.args.t.now at.head at.spine at.is) (head_unmapped along at.head c.in-Con.constant image c.in-Con.is c.in_ok-image-in-Con.ensures.found) c.in_err-spine-in-Con.ensures)
 
-pub translate_obj-returns-in_ok-put_in_place-in-Con : goal.translate_obj-returns-in_ok-put_in_place-in-Con
-translate_obj-returns-in_ok-put_in_place-in-Con t c =
+pub translate_obj-returns-in_ok-object_in_place-in-Con : goal.translate_obj-returns-in_ok-object_in_place-in-Con
+translate_obj-returns-in_ok-object_in_place-in-Con t c =
     let along = read_map c.args.map.now in
     let at = c.in-At in
     let spine = c.in_ok-spine-in-Con in
@@ -74,7 +74,7 @@ translate_obj-returns-in_ok-put_in_place-in-Con t c =
     let first = unmapped_atomic along (read_head at.head) in
     let rest = unmapped_arguments along (read_arguments at.spine) in
     let whole = unmapped_at along c.args.t.now at.head at.spine at.is in
-    let put = c.in_ok-put_in_place-in-Con in (
+    let put = c.in_ok-object_in_place-in-Con in (
       none_at_all first rest (unmapped_object along (read_object c.args.t.now)) whole (head_unmapped along at.head c.in-Con.constant image c.in-Con.is found) spine.ensures.0,
       translated_constant along c.args.t.now at.head at.spine at.is spine.spine spine.ensures.1 c.in-Con.constant image put.field-0 c.in-Con.is found put.ensures,
     )

@@ -1,0 +1,128 @@
+-- What the heads of the code stand for, step by step.
+use Rattle.std.proofs.Common.{◌≡◌, ℕ, Option, true, false, Bool, List, [], ◌∷◌, ◌++◌, map, Some, None, Result, Ok, IfOk, sym, ap, ap₂, ◌∙◌, subst}
+use Rattle.std.specs.Option.{option_map}
+use Rattle.std.proofs.lemmas.List.{map-append}
+use Rattle.lf_meaning.specs.Terms.{Object, At, Var, Con, Family, Pi, AtFamily, AtomicFamily, FamilyCon, Kind, Ty, PiKind, apply_all, family_apply_all}
+use Rattle.lf_meaning.specs.Equality.{same_family}
+use Rattle.lf_meaning.specs.Replacement.{object_of, takes_all}
+use Rattle.translation_meaning.specs.Translation.{object_image, family_image, family_of}
+use Rattle.translation_meaning.specs.Heads as heads
+use Rattle.translation_meaning.specs.Heads.{head_takes, head_takes_all}
+use Rattle.expansion_meaning.specs.NameHeads.{class_head, declared_head}
+use Rattle.expansion_meaning.specs.Expansion as expansion
+use Rattle.text_meaning.specs.Tokens.{Span}
+use Rattle.term_trees.specs.Readings.{arguments_of, read_arguments, read_class, read_constant, read_declaration, read_family, read_head, read_kind, read_object, read_objects, read_value}
+use Rattle.term_trees.specs.declared.fam.Fam.{Fam}
+use Rattle.term_trees.specs.declared.flat_decl.FlatDecl.{FlatDecl}
+use Rattle.term_trees.specs.declared.class.Value as code
+use Rattle.term_trees.specs.declared.kind.Kind as code_kind
+use Rattle.term_trees.specs.declared.kind.Kind.TheVariants as kinds
+use Rattle.answer_meaning.specs.Answers.{◌>>=◌}
+use Rattle.expansion_meaning.specs.Answers.{must}
+use Rattle.expansion_meaning.specs.Rules.{Rule}
+use Rattle.term_trees.specs.declared.obj.Obj.{Obj}
+use Rattle.term_trees.specs.declared.obj.Obj.TheVariants as objs
+use Rattle.term_trees.specs.declared.obj.Head.TheVariants as head
+use Rattle.term_trees.specs.declared.fam.Fam.TheVariants as fams
+use Rattle.base_types.specs.declared.qname.QName.{QName}
+use Rattle.term_trees.proofs.ReadingEquations.{read_object_at, read_family_at, read_kind_ty}
+use Rattle.term_trees.specs.declared.obj.Spine.{Spine}
+use Rattle.elaborate.specs.LentValues.{value_of}
+use Rattle.elaborate.specs.HeadStates.{BeginsWith, Classifies, Stands}
+use Rattle.elaborate.specs.declared.heads.Classifier.{Classifier}
+use Rattle.elaborate.specs.declared.heads.Classifier.TheVariants as classifiers
+use Rattle.elaborate.specs.declared.heads.Start.{Start}
+use Rattle.elaborate.specs.declared.heads.Start.TheVariants as starts
+use Rattle.elaborate.specs.declared.heads.Head.{Head}
+use Rattle.elaborate.specs.declared.lent.Lent.{Lent}
+use Rattle.elaborate.proofs.TakenArguments.{takes_one_more, atomic_is, constant_kept, family_kept, value_taken, family_value_taken}
+
+-- The spine with one argument more.
+argument_added : (before after : Spine) (m : Obj) → arguments_of after ≡ arguments_of before ++ m ∷ [] → read_arguments after ≡ read_arguments before ++ read_object m ∷ []
+argument_added before after m h = ap read_objects h ∙ map-append read_object (arguments_of before) (m ∷ [])
+
+pub one_more : (own : Head) (spine : Spine) (classifier : Classifier) (m : Obj) (head : heads.Head) → Stands own head
+    → arguments_of spine ≡ arguments_of own.spine ++ m ∷ []
+    → Classifies classifier (head_takes head (read_object m))
+    → Stands (record { start = own.start; spine = spine; classifier = classifier }) (head_takes head (read_object m))
+one_more own spine classifier m head stands added classifies = record {
+  first = stands.first;
+  begins = stands.begins;
+  takes = ap (head_takes_all stands.first) (argument_added own.spine spine m added)
+    ∙ takes_one_more stands.first (read_arguments own.spine) (read_object m)
+    ∙ ap (λ h. head_takes h (read_object m)) stands.takes;
+  classifies = classifies;
+}
+
+-- A head that begins at a variable.
+pub variable_first : (own : Head) (i : ℕ) (o : Object) (a : Family) → own.start ≡ starts.Variable i → Stands own (heads.ObjectHead o a) → At (apply_all (Var i) (read_arguments own.spine)) ≡ o
+variable_first own i o a is stands =
+    let begins : BeginsWith (starts.Variable i) stands.first = subst (λ s. BeginsWith s stands.first) is stands.begins in
+    atomic_is (Var i) begins.0 (read_arguments own.spine) o a (ap (λ h. head_takes_all h (read_arguments own.spine)) (sym begins.1) ∙ stands.takes)
+
+-- A declared constant with its arguments: its value takes them, or it keeps them.
+module _ (d : FlatDecl) (spine : Spine) (value : Option code.Value) (is : d.value ≡ value) where
+  begins : {head : heads.Head} → head_takes_all (declared_head (read_declaration d)) (read_arguments spine) ≡ head
+      → head_takes_all (class_head (read_constant d.name) (read_class d.class) (option_map read_value value)) (read_arguments spine) ≡ head
+  begins h = ap (λ v. head_takes_all (class_head (read_constant d.name) (read_class d.class) (option_map read_value v)) (read_arguments spine)) (sym is) ∙ h
+
+pub object_valued : (d : FlatDecl) (spine : Spine) (v : code.Value) (m : Obj) (o : Object) (a : Family) → d.value ≡ Some v
+    → read_object m ≡ object_of (takes_all (object_image (read_constant d.name) (read_class d.class) (read_value v)) (read_arguments spine))
+    → head_takes_all (declared_head (read_declaration d)) (read_arguments spine) ≡ heads.ObjectHead o a → read_object m ≡ o
+object_valued d spine v m o a is placed h =
+    placed ∙ value_taken (read_constant d.name) (read_class d.class) (read_value v) (read_arguments spine) o a (begins d spine (Some v) is h)
+
+pub object_unvalued : (d : FlatDecl) (spine : Spine) (q : QName) (o : Object) (a : Family) → d.value ≡ None → q ≡ d.name
+    → head_takes_all (declared_head (read_declaration d)) (read_arguments spine) ≡ heads.ObjectHead o a → read_object (objs.At (head.Con q) spine) ≡ o
+object_unvalued d spine q o a is copied h =
+    read_object_at (head.Con q) spine
+    ∙ ap (λ x. At (apply_all (Con (read_constant x)) (read_arguments spine))) copied
+    ∙ constant_kept (read_constant d.name) (read_class d.class) (read_arguments spine) o a (begins d spine None is h)
+
+pub family_valued : (d : FlatDecl) (spine : Spine) (v : code.Value) (b : Fam) (n : ℕ) (f : Family) (k : Kind) → d.value ≡ Some v
+    → ((p : AtomicFamily) → read_family b ≡ family_of (head_takes_all (family_image (read_constant d.name) (read_class d.class) (read_value v)) (read_arguments spine)) p)
+    → head_takes_all (declared_head (read_declaration d)) (read_arguments spine) ≡ heads.FamilyHead n f k → read_family b ≡ f
+family_valued d spine v b n f k is placed h =
+    let p = FamilyCon (read_constant d.name) in
+    placed p ∙ family_value_taken (read_constant d.name) (read_class d.class) (read_value v) (read_arguments spine) n f k p (begins d spine (Some v) is h)
+
+pub family_unvalued : (d : FlatDecl) (spine : Spine) (q : QName) (n : ℕ) (f : Family) (k : Kind) → d.value ≡ None → q ≡ d.name
+    → head_takes_all (declared_head (read_declaration d)) (read_arguments spine) ≡ heads.FamilyHead n f k → read_family (fams.At q spine) ≡ f
+family_unvalued d spine q n f k is copied h =
+    read_family_at q spine
+    ∙ ap (λ x. AtFamily (family_apply_all (FamilyCon (read_constant x)) (read_arguments spine))) copied
+    ∙ family_kept (read_constant d.name) (read_class d.class) (read_arguments spine) n f k (begins d spine None is h)
+
+-- The classifier of an object is a family, that of a family a kind.
+object_of_family : (family : Lent Fam) (f : heads.Head) → Classifies (classifiers.Family family) f → (o : Object) × (f ≡ heads.ObjectHead o (read_family (value_of family)))
+object_of_family family (heads.ObjectHead o a) h = (o, ap (λ x. heads.ObjectHead o x) (sym h))
+object_of_family family (heads.FamilyHead n b k) h = absurd h
+
+family_of_kind : (kind : Lent code_kind.Kind) (f : heads.Head) → Classifies (classifiers.Kind kind) f → (n : ℕ) × (b : Family) × (f ≡ heads.FamilyHead n b (read_kind (value_of kind)))
+family_of_kind kind (heads.ObjectHead o a) h = absurd h
+family_of_kind kind (heads.FamilyHead n b k) h = (n, b, ap (λ x. heads.FamilyHead n b x) (sym h))
+
+-- The object of a head that stands at its family.
+pub object_stands : (span : Span) (own : Head) (family : Lent Fam) (t : Fam) (q : QName) (s : Spine) (m : Obj) (f : heads.Head) → own.classifier ≡ classifiers.Family family → t ≡ fams.At q s
+    → same_family (read_family (value_of family)) (read_family t) ≡ true → Stands own f → ((o : Object) (a : Family) → Stands own (heads.ObjectHead o a) → read_object m ≡ o)
+    → expansion.object_at span (read_family t) f ≡ Ok (read_object m)
+object_stands span own family t q s m f is atomic same stands object =
+    let classified : Classifies (classifiers.Family family) f = subst (λ x. Classifies x f) is stands.classifies in
+    let found = object_of_family family f classified in
+    let p = family_apply_all (FamilyCon (read_constant q)) (read_arguments s) in
+    let target : read_family t ≡ AtFamily p = ap read_family atomic ∙ read_family_at q s in
+    let tested : same_family (read_family (value_of family)) (AtFamily p) ≡ true = ap (same_family (read_family (value_of family))) (sym target) ∙ same in
+    ap₂ (expansion.object_at span) target found.1
+    ∙ ap (λ b. must b span Rule.Mismatch >>= (λ _. Ok found.0)) tested
+    ∙ ap Ok (sym (object found.0 (read_family (value_of family)) (subst (Stands own) found.1 stands)))
+
+-- The family of a head at `type`.
+pub family_stands : (span : Span) (own : Head) (kind : Lent code_kind.Kind) (b : Fam) (f : heads.Head) → own.classifier ≡ classifiers.Kind kind → value_of kind ≡ kinds.Ty → Stands own f
+    → ((n : ℕ) (a : Family) (k : Kind) → Stands own (heads.FamilyHead n a k) → read_family b ≡ a) → expansion.family_at_type span f ≡ Ok (read_family b)
+family_stands span own kind b f is type stands family =
+    let classified : Classifies (classifiers.Kind kind) f = subst (λ x. Classifies x f) is stands.classifies in
+    let found = family_of_kind kind f classified in
+    let k = read_kind (value_of kind) in
+    ap (expansion.family_at_type span) found.2
+    ∙ ap (λ j. expansion.family_at_type span (heads.FamilyHead found.0 found.1 j)) (ap read_kind type ∙ read_kind_ty)
+    ∙ ap Ok (sym (family found.0 found.1 k (subst (Stands own) found.2 stands)))

@@ -1,0 +1,35 @@
+use Rattle.std.proofs.Common.{ap, ap₂, subst, ◌∙◌}
+use Rattle.expansion_meaning.specs.Values.{expand_class}
+use Rattle.expansion_meaning.specs.Stands.{StandsClass}
+use Rattle.expansion_laws.proofs.ValuesStand.{class_sound, class_complete}
+use Rattle.term_trees.specs.Readings.{read_class}
+use Rattle.mmt_syntax.specs.Readings.{read_expr}
+use Rattle.names.specs.Readings.{read_locals, read_scope}
+use Rattle.elaborate.specs.Steps.{class_answer}
+use Rattle.elaborate.specs.Answers.{Expands}
+use Rattle.elaborate.proofs.PublicAnswers.{stands_by, only_by, class_alone}
+use Rattle.elaborate.proofs.calls.elab_class.Goals as goal
+
+pub returns-clause-answer : goal.returns-clause-answer
+returns-clause-answer c =
+    let scope = read_scope c.args.scope.now in
+    let locals = c.in_ok-new.ensures.locals ∙ ap read_locals c.new-no_vars.ensures in
+    let same = ap₂ (λ s l. class_answer s l (read_expr c.args.expr.now)) c.in_ok-new.ensures.scope locals ∙ class_alone scope (read_expr c.args.expr.now) in
+    let answered = subst (Expands read_class c.class.result) same c.class.ensures in
+    answered
+
+pub returns-clause-stands : goal.returns-clause-stands
+returns-clause-stands c =
+    let scope = read_scope c.args.scope.now in
+    let locals = c.in_ok-new.ensures.locals ∙ ap read_locals c.new-no_vars.ensures in
+    let same = ap₂ (λ s l. class_answer s l (read_expr c.args.expr.now)) c.in_ok-new.ensures.scope locals ∙ class_alone scope (read_expr c.args.expr.now) in
+    let answered = subst (Expands read_class c.class.result) same c.class.ensures in
+    stands_by read_class (StandsClass scope (read_expr c.args.expr.now)) (expand_class scope (read_expr c.args.expr.now)) (class_sound scope (read_expr c.args.expr.now)) c.class.result answered
+
+pub returns-clause-only : goal.returns-clause-only
+returns-clause-only c =
+    let scope = read_scope c.args.scope.now in
+    let locals = c.in_ok-new.ensures.locals ∙ ap read_locals c.new-no_vars.ensures in
+    let same = ap₂ (λ s l. class_answer s l (read_expr c.args.expr.now)) c.in_ok-new.ensures.scope locals ∙ class_alone scope (read_expr c.args.expr.now) in
+    let answered = subst (Expands read_class c.class.result) same c.class.ensures in
+    only_by read_class (StandsClass scope (read_expr c.args.expr.now)) (expand_class scope (read_expr c.args.expr.now)) (class_complete scope (read_expr c.args.expr.now)) c.class.result answered

@@ -1,0 +1,21 @@
+use Rattle.std.proofs.Common.{ap₂, subst}
+use Rattle.expansion_meaning.specs.Expansion.{expand_kind}
+use Rattle.expansion_meaning.specs.Stands.{StandsKind}
+use Rattle.expansion_laws.proofs.Sound.{kind_sound}
+use Rattle.expansion_laws.proofs.Complete.{kind_complete}
+use Rattle.term_trees.specs.Readings.{read_kind}
+use Rattle.mmt_syntax.specs.Readings.{read_expr}
+use Rattle.names.specs.Readings.{read_locals, read_scope}
+use Rattle.elaborate.specs.Answers.{Expands}
+use Rattle.elaborate.proofs.PublicAnswers.{stands_by, only_by}
+use Rattle.elaborate.proofs.calls.elab_kind.Goals as goal
+
+pub returns-clause-stands : goal.returns-clause-stands
+returns-clause-stands c =
+    stands_by read_kind (StandsKind (read_scope c.args.scope.now) (read_locals c.args.vars.now) (read_expr c.args.expr.now)) (expand_kind (read_scope c.args.scope.now) (read_locals c.args.vars.now) (read_expr c.args.expr.now)) (kind_sound (read_expr c.args.expr.now) (read_scope c.args.scope.now) (read_locals c.args.vars.now)) c.kind.result
+      (subst (Expands read_kind c.kind.result) (ap₂ (λ s l. expand_kind s l (read_expr c.args.expr.now)) c.in_ok-new.ensures.scope c.in_ok-new.ensures.locals) c.kind.ensures)
+
+pub returns-clause-only : goal.returns-clause-only
+returns-clause-only c =
+    only_by read_kind (StandsKind (read_scope c.args.scope.now) (read_locals c.args.vars.now) (read_expr c.args.expr.now)) (expand_kind (read_scope c.args.scope.now) (read_locals c.args.vars.now) (read_expr c.args.expr.now)) (kind_complete (read_expr c.args.expr.now) (read_scope c.args.scope.now) (read_locals c.args.vars.now)) c.kind.result
+      (subst (Expands read_kind c.kind.result) (ap₂ (λ s l. expand_kind s l (read_expr c.args.expr.now)) c.in_ok-new.ensures.scope c.in_ok-new.ensures.locals) c.kind.ensures)

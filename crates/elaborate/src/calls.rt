@@ -1,0 +1,93 @@
+//! Expansion over a scope and variables that are handed in.
+ghost use Rattle.std.specs.Prelude.{IfOk};
+ghost use Rattle.lf_meaning.specs.Terms as terms;
+ghost use Rattle.lf_meaning.specs.Signatures as signatures;
+ghost use Rattle.expansion_meaning.specs.Expansion.{expand_family, expand_kind, expand_object};
+ghost use Rattle.expansion_meaning.specs.Values.{expand_class, expand_value};
+ghost use Rattle.expansion_meaning.specs.Stands.{StandsClass, StandsFamily, StandsKind, StandsObject, StandsValue};
+ghost use Rattle.term_trees.specs.Readings.{read_class, read_family, read_kind, read_object, read_value};
+ghost use Rattle.mmt_syntax.specs.Readings.{read_expr};
+ghost use Rattle.names.specs.Readings.{read_locals, read_scope};
+ghost use Rattle.elaborate.specs.Answers.{BreaksNothing, Expands};
+
+use crate::context::Context;
+use crate::fault::ElabFault;
+use crate::kinds::{class, kind};
+use crate::terms::{family, object};
+use crate::values::value;
+use lf_terms::{Class, Fam, Kind, Obj, Value};
+use mmt_syntax::Expr;
+use names::{Scope, Vars};
+use std::alloc::Global;
+
+/// The kind that an expression stands for: `type`, or a Π of a family and a kind. Ok exactly where it stands for one,
+/// and with that; else `Broken` has the first rule that is broken, at the part of the text that breaks it. All calls of
+/// this crate recurse as deep as the expression is nested, and as the terms that they meet.
+pub fn elab_kind(
+    alloc: Global,
+    scope: &Scope<'_>,
+    vars: &Vars,
+    expr: &Expr,
+) -> Result<Kind, ElabFault>
+    ensures answer { Expands read_kind result (expand_kind (read_scope scope.now) (read_locals vars.now) (read_expr expr.now)) }
+    ensures stands { IfOk result (λ kind. StandsKind (read_scope scope.now) (read_locals vars.now) (read_expr expr.now) (read_kind kind)) }
+    ensures only { (kind : terms.Kind) → StandsKind (read_scope scope.now) (read_locals vars.now) (read_expr expr.now) kind → BreaksNothing result }
+{
+    kind(alloc, &Context::new(scope, vars)?, expr)
+}
+
+/// The family that an expression stands for, as `elab_kind` says it of kinds.
+pub fn elab_fam(
+    alloc: Global,
+    scope: &Scope<'_>,
+    vars: &Vars,
+    expr: &Expr,
+) -> Result<Fam, ElabFault>
+    ensures answer { Expands read_family result (expand_family (read_scope scope.now) (read_locals vars.now) (read_expr expr.now)) }
+    ensures stands { IfOk result (λ family. StandsFamily (read_scope scope.now) (read_locals vars.now) (read_expr expr.now) (read_family family)) }
+    ensures only { (family : terms.Family) → StandsFamily (read_scope scope.now) (read_locals vars.now) (read_expr expr.now) family → BreaksNothing result }
+{
+    family(alloc, &Context::new(scope, vars)?, expr)
+}
+
+/// The object that an expression stands for at a family, as `elab_kind` says it of kinds.
+pub fn elab_obj(
+    alloc: Global,
+    scope: &Scope<'_>,
+    vars: &Vars,
+    expr: &Expr,
+    fam: &Fam,
+) -> Result<Obj, ElabFault>
+    ensures answer { Expands read_object result (expand_object (read_scope scope.now) (read_locals vars.now) (read_expr expr.now) (read_family fam.now)) }
+    ensures stands { IfOk result (λ object. StandsObject (read_scope scope.now) (read_locals vars.now) (read_expr expr.now) (read_family fam.now) (read_object object)) }
+    ensures only { (object : terms.Object) → StandsObject (read_scope scope.now) (read_locals vars.now) (read_expr expr.now) (read_family fam.now) object → BreaksNothing result }
+{
+    object(alloc, &Context::new(scope, vars)?, expr, fam)
+}
+
+/// The class that an expression stands for where no variable is around it: a kind where it ends in `type`, else a
+/// family; as `elab_kind` says it of kinds.
+pub fn elab_class(alloc: Global, scope: &Scope<'_>, expr: &Expr) -> Result<Class, ElabFault>
+    ensures answer { Expands read_class result (expand_class (read_scope scope.now) (read_expr expr.now)) }
+    ensures stands { IfOk result (λ class. StandsClass (read_scope scope.now) (read_expr expr.now) (read_class class)) }
+    ensures only { (class : signatures.Class) → StandsClass (read_scope scope.now) (read_expr expr.now) class → BreaksNothing result }
+{
+    let no_vars = Vars::new(alloc);
+    class(alloc, &Context::new(scope, &no_vars)?, expr)
+}
+
+/// The value that an expression stands for at a class where no variable is around it, as `elab_kind` says it of kinds.
+/// One name gives the value of its constant, which has just that class, or the constant itself where it has none.
+pub fn elab_value(
+    alloc: Global,
+    scope: &Scope<'_>,
+    expr: &Expr,
+    class: &Class,
+) -> Result<Value, ElabFault>
+    ensures answer { Expands read_value result (expand_value (read_scope scope.now) (read_expr expr.now) (read_class class.now)) }
+    ensures stands { IfOk result (λ value. StandsValue (read_scope scope.now) (read_expr expr.now) (read_class class.now) (read_value value)) }
+    ensures only { (value : signatures.Value) → StandsValue (read_scope scope.now) (read_expr expr.now) (read_class class.now) value → BreaksNothing result }
+{
+    let no_vars = Vars::new(alloc);
+    value(alloc, &Context::new(scope, &no_vars)?, expr, class)
+}

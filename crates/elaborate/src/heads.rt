@@ -1,0 +1,231 @@
+//! Heads with the arguments that they have taken.
+ghost use Rattle.std.specs.Prelude.{◌≡◌, ℕ, IfOk};
+ghost use Rattle.std.specs.Option.{option_map};
+ghost use Rattle.lf_meaning.specs.Terms as terms;
+ghost use Rattle.translation_meaning.specs.Heads as meant;
+ghost use Rattle.translation_meaning.specs.Heads.{head_takes_all};
+ghost use Rattle.expansion_meaning.specs.NameHeads.{declared_head};
+ghost use Rattle.expansion_meaning.specs.Expansion.{domain_of};
+ghost use Rattle.expansion_meaning.specs.Expansion as expansion;
+ghost use Rattle.term_trees.specs.Readings.{read_arguments, read_declaration, read_family, read_object};
+ghost use Rattle.mmt_syntax.specs.Readings.{read_span};
+ghost use Rattle.elaborate.specs.HeadStates.{BodyAt, KindAt, Classifies, Stands};
+ghost use Rattle.elaborate.specs.Answers.{Expands};
+
+use crate::fault::{ElabFault, broken};
+use crate::lent::Lent;
+use hereditary_subst::{subst_fam, subst_kind};
+use lf_terms::{Fam, FlatDecl, Head as TermHead, Kind, Memory, Obj, Span, Spine, erase, same_fam};
+use lf_translate::{family_in_place, object_in_place};
+use mmt_interface::Rule;
+use std::alloc::Global;
+
+/// The two levels of heads.
+#[derive(Clone, Copy)]
+pub(crate) enum Level {
+    Objects,
+    Families,
+}
+
+/// Where a head begins: at a variable, which is the number of binders between it and its own, or at a declared constant.
+#[derive(Drop)]
+pub(crate) enum Start<'a> {
+    Variable(u32),
+    Constant(&'a FlatDecl),
+}
+
+/// The classifier that is left after the arguments so far.
+#[derive(Drop)]
+pub(crate) enum Classifier<'a> {
+    Family(Lent<'a, Fam>),
+    Kind(Lent<'a, Kind>),
+}
+
+/// A head, its arguments so far from left to right, and its classifier so far. A constant that has a value stands for it
+/// only when all arguments are there, so that the value takes them at once.
+#[derive(Drop)]
+pub(crate) struct Head<'a> {
+    pub(crate) start: Start<'a>,
+    pub(crate) spine: Spine,
+    pub(crate) classifier: Classifier<'a>,
+}
+
+impl<'a> Classifier<'a> {
+    /// The domain of the next argument. None where the classifier is no Π.
+    pub(crate) fn domain(&self) -> Option<&Fam>
+        ensures { (head : meant.Head) → Classifies self.now head → option_map (λ a. read_family a.now) result ≡ domain_of head }
+    {
+        match self {
+            Classifier::Family(family) => match family.get() {
+                Fam::Pi(domain, _) => Some(domain),
+                Fam::At { .. } => None,
+            },
+            Classifier::Kind(kind) => match kind.get() {
+                Kind::Pi(domain, _) => Some(domain),
+                Kind::Ty => None,
+            },
+        }
+    }
+
+    /// The classifier after one argument more. One that is no Π stays: no head takes an argument then.
+    fn after(self, alloc: Global, argument: &Obj) -> Result<Classifier<'a>, Memory>
+        ensures { IfOk result (λ after. (head : meant.Head) → Classifies self.entry head → Classifies after (meant.head_takes head (read_object argument.now))) }
+    {
+        match self {
+            Classifier::Family(family) => Ok(Classifier::Family(body_at(alloc, family, argument)?)),
+            Classifier::Kind(kind) => Ok(Classifier::Kind(kind_at(alloc, kind, argument)?)),
+        }
+    }
+}
+
+/// The body of a Π with the argument in place of its variable.
+fn body_at<'a>(
+    alloc: Global,
+    family: Lent<'a, Fam>,
+    argument: &Obj,
+) -> Result<Lent<'a, Fam>, Memory>
+    ensures { IfOk result (λ after. BodyAt family.entry (read_object argument.now) after) }
+{
+    let body = match family.get() {
+        Fam::At { .. } => return Ok(family),
+        Fam::Pi(domain, body) => {
+            let simple = Box::new(alloc, erase(alloc, domain)?)?;
+            subst_fam(alloc, argument, &simple, 0, body)?
+        }
+    };
+    Ok(Lent::Made(Box::new(alloc, body)?))
+}
+
+/// The kind behind the domain of a Π kind, with the argument in place of the variable.
+fn kind_at<'a>(
+    alloc: Global,
+    kind: Lent<'a, Kind>,
+    argument: &Obj,
+) -> Result<Lent<'a, Kind>, Memory>
+    ensures { IfOk result (λ after. KindAt kind.entry (read_object argument.now) after) }
+{
+    let rest = match kind.get() {
+        Kind::Ty => return Ok(kind),
+        Kind::Pi(domain, rest) => {
+            let simple = Box::new(alloc, erase(alloc, domain)?)?;
+            subst_kind(alloc, argument, &simple, 0, rest)?
+        }
+    };
+    Ok(Lent::Made(Box::new(alloc, rest)?))
+}
+
+impl<'a> Head<'a> {
+    /// The head after one argument more.
+    pub(crate) fn takes(self, alloc: Global, argument: Obj) -> Result<Head<'a>, Memory>
+        ensures { IfOk result (λ after. (head : meant.Head) → Stands self.entry head → Stands after (meant.head_takes head (read_object argument))) }
+    {
+        let Head {
+            start,
+            mut spine,
+            classifier,
+        } = self;
+        let classifier = classifier.after(alloc, &argument)?;
+        spine.add(argument)?;
+        Ok(Head {
+            start,
+            spine,
+            classifier,
+        })
+    }
+
+    /// The object that the head and its arguments are: the value of a defined constant takes them hereditarily.
+    fn into_object(self, alloc: Global) -> Result<Obj, Memory>
+        ensures { IfOk result (λ m. (object : terms.Object) (family : terms.Family) → Stands self.entry (meant.ObjectHead object family) → read_object m ≡ object) }
+    {
+        let Head { start, spine, .. } = self;
+        match start {
+            Start::Variable(index) => Ok(Obj::At {
+                head: TermHead::Var(index),
+                spine,
+            }),
+            Start::Constant(decl) => object_of(alloc, decl, spine),
+        }
+    }
+
+    /// The family that the head and its arguments are, as `into_object` says it of objects.
+    fn into_family(self, alloc: Global) -> Result<Fam, Memory>
+        ensures { IfOk result (λ a. (binders : ℕ) (family : terms.Family) (kind : terms.Kind) → Stands self.entry (meant.FamilyHead binders family kind) → read_family a ≡ family) }
+    {
+        let Head { start, spine, .. } = self;
+        match start {
+            Start::Constant(decl) => family_of(alloc, decl, spine),
+            // no head of families begins at a variable
+            Start::Variable(_) => Err(Memory),
+        }
+    }
+
+    /// The object where one is wanted at a family: a name or an application stands at an atomic family alone, and there
+    /// only where it has just this one.
+    pub(crate) fn object_at(
+        self,
+        alloc: Global,
+        span: Span,
+        family: &Fam,
+    ) -> Result<Obj, ElabFault>
+        ensures { (head : meant.Head) → Stands self.entry head → Expands read_object result (expansion.object_at (read_span span) (read_family family.now) head) }
+    {
+        if let Fam::Pi(_, _) = family {
+            return Err(broken(span, Rule::NotCanonical));
+        }
+        match &self.classifier {
+            Classifier::Family(found) if same_fam(found.get(), family) => Ok(self.into_object(alloc)?),
+            Classifier::Family(_) => Err(broken(span, Rule::Mismatch)),
+            Classifier::Kind(_) => Err(broken(span, Rule::Level)),
+        }
+    }
+
+    /// The family where one is wanted: that of a head whose kind so far is `type`.
+    pub(crate) fn family_at_type(self, alloc: Global, span: Span) -> Result<Fam, ElabFault>
+        ensures { (head : meant.Head) → Stands self.entry head → Expands read_family result (expansion.family_at_type (read_span span) head) }
+    {
+        match &self.classifier {
+            Classifier::Kind(kind) => match kind.get() {
+                Kind::Ty => Ok(self.into_family(alloc)?),
+                Kind::Pi(_, _) => Err(broken(span, Rule::NotCanonical)),
+            },
+            Classifier::Family(_) => Err(broken(span, Rule::Level)),
+        }
+    }
+}
+
+/// A defined constant stands for its value, which takes the arguments; another one keeps them.
+fn object_of(alloc: Global, decl: &FlatDecl, spine: Spine) -> Result<Obj, Memory>
+    ensures { IfOk result (λ m. (object : terms.Object) (family : terms.Family) → head_takes_all (declared_head (read_declaration decl.now)) (read_arguments spine) ≡ meant.ObjectHead object family → read_object m ≡ object) }
+{
+    match &decl.value {
+        Some(value) => Ok(object_in_place(
+            alloc,
+            &decl.name,
+            &decl.class,
+            value,
+            spine,
+        )?),
+        None => Ok(Obj::At {
+            head: TermHead::Con(decl.name.copy(alloc)?),
+            spine,
+        }),
+    }
+}
+
+fn family_of(alloc: Global, decl: &FlatDecl, spine: Spine) -> Result<Fam, Memory>
+    ensures { IfOk result (λ a. (binders : ℕ) (family : terms.Family) (kind : terms.Kind) → head_takes_all (declared_head (read_declaration decl.now)) (read_arguments spine) ≡ meant.FamilyHead binders family kind → read_family a ≡ family) }
+{
+    match &decl.value {
+        Some(value) => Ok(family_in_place(
+            alloc,
+            &decl.name,
+            &decl.class,
+            value,
+            spine,
+        )?),
+        None => Ok(Fam::At {
+            head: decl.name.copy(alloc)?,
+            spine,
+        }),
+    }
+}

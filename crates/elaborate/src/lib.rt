@@ -1,0 +1,16 @@
+//! Expansion (this profile): the terms that written expressions stand for, with the first fault where one stands for none.
+//! Heads take their arguments hereditarily (Harper and Licata 2007, section 2).
+#![tactic(auto)]
+
+mod calls;
+mod context;
+mod fault;
+mod given;
+mod heads;
+mod kinds;
+mod lent;
+mod terms;
+mod values;
+
+pub use calls::{elab_class, elab_fam, elab_kind, elab_obj, elab_value};
+pub use fault::ElabFault;
