@@ -1,2 +1,3 @@
 pub mod CoherenceLaws
 pub mod InclusionLaws
+pub mod BuildingLaws
