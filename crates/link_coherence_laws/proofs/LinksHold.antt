@@ -21,6 +21,7 @@ use Rattle.link_meaning.specs.Coverings.{first_covering, value_by, covered_value
 use Rattle.link_meaning.specs.Passes.{reached_by, induced_constant, is_own, image_by, mapping_to, map_all}
 use Rattle.link_meaning.specs.Induced.{defined_by, induced_with}
 use Rattle.link_meaning.specs.LinkMaps.{IsSettled}
+use Rattle.link_laws.proofs.Listing.{same_length}
 use Rattle.link_laws.proofs.Covered.{there_refused, first_is_covering}
 use Rattle.link_laws.proofs.Valued.{own_sound}
 use Rattle.link_laws.proofs.Following.{Follows, walk_follows}
@@ -50,15 +51,6 @@ names_more so_far m done d e n = mapped so_far ∙ ap₂ (λ x y. x ++ y ∷ [])
     declared : (xs : Signature) → declared_names (xs ++ d ∷ []) ≡ declared_names xs ++ d.name ∷ []
     declared [] = refl
     declared (x ∷ xs) = ap (λ z. x.name ∷ z) (declared xs)
-
-same_length : (so_far : HeadMap) (done : Signature) → mapped_names so_far ≡ declared_names done → length so_far ≡ length done
-same_length [] [] e = refl
-same_length [] (d ∷ done) e = absurd (cc)
-same_length (m ∷ so_far) [] e = absurd (cc)
-same_length (m ∷ so_far) (d ∷ done) e = ap suc (same_length so_far done (rest e))
-  where
-    rest : {A : Type 0} {x y : A} {xs ys : List A} → x ∷ xs ≡ y ∷ ys → xs ≡ ys
-    rest h = cc
 
 map_more : (done : Signature) (to more : Signature) (so_far : HeadMap) (d : Declaration) (m : Mapping) → IsCoherentMap done to so_far → Grows to more → m.name ≡ d.name → ClassHolds more m.image.class → ValueHolds more m.image.class m.image.value → AlikeClasses m.image.class d.class
     → IsCoherentMap (done ++ d ∷ []) more (so_far ++ m ∷ [])

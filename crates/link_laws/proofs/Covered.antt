@@ -99,7 +99,7 @@ module _ (setting : Setting) (assigned : List Assigned) (theory : Name) where
   covering_member place first by s t =
       filter_map_in (cover_by setting.environment theory) assigned (Covering first by) (record { first = first; map = by.map }) (member_at assigned place (Covering first by) s) (ap (λ b. cover_if b first by.map) t)
 
-  first_map_is : (covers : List Cover) (along : HeadMap) → first_map covers ≡ Some along → (cover : Cover) × Member cover covers × (cover.map ≡ along)
+  pub first_map_is : (covers : List Cover) (along : HeadMap) → first_map covers ≡ Some along → (cover : Cover) × Member cover covers × (cover.map ≡ along)
   first_map_is [] along h = absurd (cc)
   first_map_is (cover ∷ covers) along h = (cover, inl refl, same_Some _ _ h)
 

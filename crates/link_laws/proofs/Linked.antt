@@ -18,7 +18,7 @@ use Rattle.link_meaning.specs.Refusals.{or_refused, each}
 use Rattle.link_meaning.specs.Assignments.{Setting, included_theories, Assigned, Covering, Sharing, Giving, label_along, read_assigns}
 use Rattle.link_meaning.specs.Coverings.{Cover, covers_of, first_covering, covered_test, covered_tests, covered_value}
 use Rattle.link_meaning.specs.Passes.{reached_by, is_own, image_by, map_all, shares, shared_test, assigned_map, link_map}
-use Rattle.link_meaning.specs.Equations.{IsCovering, CoveringsGive, HasValueBy, IsShared, MeetsEquations}
+use Rattle.link_meaning.specs.Equations.{IsCovering, IsCovered, CoveringsGive, HasValueBy, IsShared, MeetsEquations}
 use Rattle.link_meaning.specs.LinkMaps.{IsSettled}
 use Rattle.link_laws.specs.LinkLaws.{PassesMeetEquations, OneMapMeetsEquations, LinkMapMeetsEquations, OneMapOfLink}
 use Rattle.link_laws.proofs.Reading.{assigns_sound, assigns_complete}
@@ -134,7 +134,7 @@ module _ (setting : Setting) (assigned : List Assigned) (settled : IsSettled set
 
   -- ---- from the passes to the equations
 
-  tests_of : covered_tests setting assigned ≡ Ok tt → (theory : Name) → Member theory (included_theories setting) → Tested setting assigned theory
+  pub tests_of : covered_tests setting assigned ≡ Ok tt → (theory : Name) → Member theory (included_theories setting) → Tested setting assigned theory
   unfolding covered_tests
   tests_of h theory m = test_gives setting assigned theory tt (each_passed (covered_test setting assigned) (included_theories setting) tt h theory m)
 
@@ -164,29 +164,38 @@ module _ (setting : Setting) (assigned : List Assigned) (settled : IsSettled set
 
   -- ---- and back
 
-  tested_by : (along : HeadMap) → MeetsEquations setting assigned along → (theory : Name) → Member theory (included_theories setting) → covered_test setting assigned theory ≡ Ok tt
-  tested_by along m theory t =
-      let s : sees (included_theories setting) theory ≡ true = member_among (included_theories setting) theory t in
-      let c = m.covered theory s in
+  -- the coverings of a theory pass their tests, where they give each of its constants one value
+  pub tested_by : ((theory : Name) → sees (included_theories setting) theory ≡ true → IsCovered setting assigned theory)
+      → ((theory : Name) → Member theory (included_theories setting) → (d : Declaration) → Member d (own_part setting.environment theory) → (value : Value) × CoveringsGive setting assigned d value)
+      → (theory : Name) → Member theory (included_theories setting) → covered_test setting assigned theory ≡ Ok tt
+  tested_by covered given theory t =
+      let c = covered theory (member_among (included_theories setting) theory t) in
       let f = some_first setting assigned theory c.0 c.1 in
-      test_by setting assigned theory (record { first = f.0; is = f.1; agree = λ cover n d o. agreed s f.0 f.1 cover n d o })
+      test_by setting assigned theory (record { first = f.0; is = f.1; agree = agreed f.0 f.1 })
     where
-      agreed : sees (included_theories setting) theory ≡ true → (first : HeadMap) → first_covering setting assigned theory ≡ Some first → (cover : Cover) → Member cover (covers_of setting assigned theory) → (d : Declaration) → Member d (own_part setting.environment theory)
+      agreed : (first : HeadMap) → first_covering setting assigned theory ≡ Some first → (cover : Cover) → Member cover (covers_of setting assigned theory) → (d : Declaration) → Member d (own_part setting.environment theory)
           → agree (value_in first d.name) (value_in cover.map d.name) ≡ true
-      agreed s first e cover n d o =
+      agreed first e cover n d o =
           let named : d.name.theory ≡ theory = own_named setting.environment settled.coherent theory d o in
-          let p = placed flat d (append_left (own_parts setting.environment (included_theories setting)) (own_part setting.environment setting.domain) d (flat_map_in (own_part setting.environment) (included_theories setting) theory d t o)) in
-          let x = mapping_there along flat m.names p.0 d p.1 in
-          let g : CoveringsGive setting assigned d x.0.image.value = subst (λ b. HasValueBy setting assigned b (translate_class along d.class) (option_map (translate_value along) d.value) d x.0.image.value)
-          (own_by d theory named (includes_other setting.environment settled.coherent setting.domain theory s)) (m.values p.0 x.0 d x.1 p.1) in
-          agree_by (value_in first d.name) (value_in cover.map d.name) x.0.image.value
-          (g.give first (subst (λ z. IsCovering setting assigned z first) (sym named) (first_is_covering setting assigned theory first e)))
-          (g.give cover.map (subst (λ z. IsCovering setting assigned z cover.map) (sym named) (cover_is_covering setting assigned theory cover n)))
+          let g = given theory t d o in
+          agree_by (value_in first d.name) (value_in cover.map d.name) g.0
+          ((g.1).give first (subst (λ z. IsCovering setting assigned z first) (sym named) (first_is_covering setting assigned theory first e)))
+          ((g.1).give cover.map (subst (λ z. IsCovering setting assigned z cover.map) (sym named) (cover_is_covering setting assigned theory cover n)))
+
+  given_by : (along : HeadMap) → MeetsEquations setting assigned along → (theory : Name) → Member theory (included_theories setting) → (d : Declaration) → Member d (own_part setting.environment theory) → (value : Value) × CoveringsGive setting assigned d value
+  given_by along m theory t d o =
+      let named : d.name.theory ≡ theory = own_named setting.environment settled.coherent theory d o in
+      let p = placed flat d (append_left (own_parts setting.environment (included_theories setting)) (own_part setting.environment setting.domain) d (flat_map_in (own_part setting.environment) (included_theories setting) theory d t o)) in
+      let x = mapping_there along flat m.names p.0 d p.1 in (
+        x.0.image.value,
+        subst (λ b. HasValueBy setting assigned b (translate_class along d.class) (option_map (translate_value along) d.value) d x.0.image.value)
+            (own_by d theory named (includes_other setting.environment settled.coherent setting.domain theory (member_among (included_theories setting) theory t))) (m.values p.0 x.0 d x.1 p.1),
+      )
 
   pub passes_complete : (along : HeadMap) → MeetsEquations setting assigned along → assigned_map setting assigned ≡ Ok along
   unfolding assigned_map covered_tests
   passes_complete along m =
-      goes_by (covered_tests setting assigned) _ tt along (each_passes (covered_test setting assigned) (included_theories setting) (tested_by along m))
+      goes_by (covered_tests setting assigned) _ tt along (each_passes (covered_test setting assigned) (included_theories setting) (tested_by m.covered (given_by along m)))
       (goes_by (map_all setting assigned [] flat) _ along along
       (follows_walk setting assigned flat [] along
       (meets_follows setting assigned flat [] [] along (declarations_hold setting.environment settled.coherent setting.domain settled.theory) refl

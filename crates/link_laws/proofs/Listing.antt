@@ -1,5 +1,5 @@
 -- Lists: members by place, tests of all, and maps that have the names of declarations.
-use Rattle.std.proofs.Common.{◌≡◌, ℕ, zero, suc, Bool, true, false, cond, List, [], ◌∷◌, ◌++◌, slice_get, Option, Some, Ok, inl, inr, refl, sym, ap, ◌∙◌}
+use Rattle.std.proofs.Common.{◌≡◌, ℕ, zero, suc, Bool, true, false, cond, List, [], ◌∷◌, ◌++◌, length, slice_get, Option, Some, Ok, inl, inr, refl, sym, ap, ◌∙◌}
 use Rattle.std.specs.Prelude.{⊤}
 use Rattle.lf_meaning.specs.Terms.{Constant}
 use Rattle.lf_meaning.specs.Signatures.{Class, Declaration, Signature, same_constant, declaration_of, class_of}
@@ -45,6 +45,12 @@ first_name_same m ms d ds e = first_same e
 
 pub rest_names_same : (m : Mapping) (ms : HeadMap) (d : Declaration) (ds : Signature) → mapped_names (m ∷ ms) ≡ declared_names (d ∷ ds) → mapped_names ms ≡ declared_names ds
 rest_names_same m ms d ds e = rest_same e
+
+pub same_length : (along : HeadMap) (declarations : Signature) → mapped_names along ≡ declared_names declarations → length along ≡ length declarations
+same_length [] [] e = refl
+same_length [] (d ∷ ds) e = absurd (cc)
+same_length (m ∷ ms) [] e = absurd (cc)
+same_length (m ∷ ms) (d ∷ ds) e = ap suc (same_length ms ds (rest_same e))
 
 -- what is found in front is found in the whole
 front_by : (b : Bool) (x : Image) (o q : Option Image) (image : Image) → cond b (Some x) o ≡ Some image → (o ≡ Some image → q ≡ Some image) → cond b (Some x) q ≡ Some image
