@@ -1,9 +1,9 @@
 -- Laws of a theory that is being built (this profile). It stands over what is known of others; no library is spoken of.
-use Rattle.std.specs.Prelude.{◌≡◌, false, List, [], ◌∷◌, Option, Some, Ok, IsSome}
+use Rattle.std.specs.Prelude.{◌≡◌, false, List, Option, Some, Ok, IsSome}
 use Rattle.name_meaning.specs.Names.{Name}
 use Rattle.lf_meaning.specs.Signatures.{Class, Value}
 use Rattle.lf_meaning.specs.HeadMaps.{HeadMap}
-use Rattle.library_meaning.specs.Faces.{TheoryFace, ViewFace, IsAbsent, Environment, theory_of, flat_signature}
+use Rattle.library_meaning.specs.Faces.{TheoryFace, IsAbsent, Environment, theory_of, flat_signature}
 use Rattle.library_meaning.specs.Closure.{with_inclusion}
 use Rattle.library_meaning.specs.Holding.{ClassHolds, OptionalValueHolds}
 use Rattle.library_meaning.specs.Coherence.{IsCoherentTheory, IsCoherentView, IsCoherent}

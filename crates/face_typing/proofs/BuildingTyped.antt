@@ -1,7 +1,5 @@
 -- A theory that is being built is well typed at each time.
-use Rattle.std.proofs.Common.{◌≡◌, List, [], ◌∷◌, Ok, ap, subst}
-use Rattle.library_meaning.specs.Faces.{TheoryFace, Environment}
-use Rattle.text_meaning.specs.Trees.{Decl}
+use Rattle.std.proofs.Common.{[], ◌∷◌, subst}
 use Rattle.verdict_meaning.specs.Modules.{declare, declare_all}
 use Rattle.link_laws.proofs.Covered.{good_same}
 use Rattle.link_typing.proofs.LinkInterface.{LinksAreTyped}

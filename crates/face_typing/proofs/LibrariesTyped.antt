@@ -1,5 +1,5 @@
 -- The faces of all accepted modules of a library are well typed, and so flat signatures, views and structures.
-use Rattle.std.proofs.Common.{List, ◌≡◌, ℕ, zero, suc, Bool, true, false, ◌++◌, length, Option, Some, None, Ok, Err, refl, sym, ap, ◌∙◌, subst}
+use Rattle.std.proofs.Common.{List, ◌≡◌, ℕ, zero, suc, Bool, true, false, ◌++◌, length, Option, Some, None, Ok, Err, refl, sym, ◌∙◌, subst}
 use Rattle.std.specs.Prelude.{⊤}
 use Rattle.lf_meaning.specs.Judgements.{IsSignature}
 use Rattle.name_meaning.specs.Names.{same_name as same_bytes, Name, Text, is_among}

@@ -1,19 +1,19 @@
 -- What a structure induces, by place.
-use Rattle.std.proofs.Common.{◌≡◌, ◌≢◌, ℕ, Bool, true, false, cond, List, ◌++◌, length, slice_get, Option, Some, None, is_some, option_map, refl, sym, ap, ◌∙◌, subst}
+use Rattle.std.proofs.Common.{◌≡◌, ◌≢◌, ℕ, Bool, true, false, cond, List, slice_get, Some, None, is_some, option_map, refl, ap, ◌∙◌}
 use Rattle.name_meaning.specs.Names.{Name}
 use Rattle.lf_meaning.specs.Terms.{Constant}
 use Rattle.lf_meaning.specs.Signatures.{Value, SameAs, TermValue, FamilyValue, Declaration, Signature, same_constant}
-use Rattle.lf_meaning.specs.HeadMaps.{Image, HeadMap, image_of}
+use Rattle.lf_meaning.specs.HeadMaps.{HeadMap}
 use Rattle.lf_term_laws.proofs.Equality.{same_constant_sound}
 use Rattle.list_laws.proofs.Members.{Member, append_right, place_member, kept_length, kept_at}
 use Rattle.library_meaning.specs.Faces.{own_part, own_parts, flat_of}
 use Rattle.link_meaning.specs.Assignments.{Setting, included_theories, Assigned}
 use Rattle.link_meaning.specs.Passes.{induced_constant}
 use Rattle.link_meaning.specs.Equations.{MeetsEquations}
-use Rattle.link_meaning.specs.Induced.{defined_by, induced_with, induced_from, induced}
+use Rattle.link_meaning.specs.Induced.{defined_by, induced_with, induced_from}
 use Rattle.link_meaning.specs.LinkMaps.{IsSettled}
 use Rattle.holding_laws.proofs.Translating.{Placed, placed_in}
-use Rattle.link_coherence_laws.specs.InducedConstants.{IsInducedBy, IsInducedAt, InducedByPlace}
+use Rattle.link_coherence_laws.specs.InducedConstants.{IsInducedAt, InducedByPlace}
 use Rattle.link_coherence_laws.proofs.Onces.{member_declared}
 use Rattle.link_coherence_laws.proofs.WordsHold.{flat_once}
 use Rattle.link_coherence_laws.proofs.LinksHold.{undefined_itself}

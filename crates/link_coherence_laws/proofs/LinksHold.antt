@@ -1,5 +1,5 @@
 -- The map of a link is coherent, and so are the constants that a structure induces.
-use Rattle.std.proofs.Common.{◌≡◌, ℕ, suc, ◌<◌, Bool, true, false, cond, List, [], ◌∷◌, ◌++◌, length, take, slice_get, Option, Some, None, option_map, Ok, ◌⊎◌, inl, inr, ⊎_elim, refl, sym, ap, ap₂, ◌∙◌, subst, true≢false, append_assoc, append-nil, arith}
+use Rattle.std.proofs.Common.{◌≡◌, ℕ, ◌<◌, Bool, true, false, cond, List, [], ◌∷◌, ◌++◌, length, take, slice_get, Option, Some, None, option_map, Ok, ◌⊎◌, inl, inr, ⊎_elim, refl, sym, ap, ap₂, ◌∙◌, subst, true≢false, append_assoc, append-nil, arith}
 use Rattle.name_meaning.specs.Names.{Name, Path}
 use Rattle.lf_meaning.specs.Terms.{Constant}
 use Rattle.lf_meaning.specs.Signatures.{Class, FamilyClass, KindClass, Value, SameAs, TermValue, FamilyValue, Declaration, Signature, same_constant, undefined_class, declared_class, class_of}
@@ -280,11 +280,11 @@ module _ (setting : Setting) where
     held_by false ind class definition d value e m o k h g =
         included_held ind class d value m o k (there_refused (covered_value setting assigned d) setting.span Rule.IncludeNotCovered (d.name.theory ∷ []) value h) e
 
-    walk : (ds done : Signature) (so_far rest : HeadMap) (ind : Signature) → flat ≡ done ++ ds → Follows setting assigned ds so_far rest → State done so_far ind → State flat (so_far ++ rest) (ind ++ added_all ds rest)
-    walk [] done so_far rest ind e f s =
-        subst (λ z. State z (so_far ++ rest) (ind ++ [])) (sym (e ∙ append-nil done))
+    walk : (ds later done : Signature) (so_far rest : HeadMap) (ind : Signature) → flat ≡ done ++ (ds ++ later) → Follows setting assigned ds so_far rest → State done so_far ind → State (done ++ ds) (so_far ++ rest) (ind ++ added_all ds rest)
+    walk [] later done so_far rest ind e f s =
+        subst (λ z. State z (so_far ++ rest) (ind ++ [])) (sym (append-nil done))
         (subst (λ z. State done z (ind ++ [])) (sym (ap (λ z. so_far ++ z) f ∙ append-nil so_far)) (subst (State done so_far) (sym (append-nil ind)) s))
-    walk (d ∷ ds) done so_far rest ind e f s =
+    walk (d ∷ ds) later done so_far rest ind e f s =
         let m : Mapping = mapping_to so_far d f.value in
         let into : MapsInto done (before ++ ind) so_far = coherent_maps_into done (before ++ ind) so_far s.map_is in
         let hold = declared done e in
@@ -293,39 +293,40 @@ module _ (setting : Setting) where
         let due = value_due (is_own setting d) ind (translate_class so_far d.class) (option_map (translate_value so_far) d.value) d f.value refl s.once (there e) class definition (translated_alike so_far d.class) f.is in
         let held = held_by (is_own setting d) ind (translate_class so_far d.class) (option_map (translate_value so_far) d.value) d f.value refl (there e) s.once (translated_alike so_far d.class) f.is in
         let next = step (is_own setting d) setting.structure done so_far ind d m refl refl (there e) (others e) s refl class due held (translated_alike so_far d.class) in
-        let end = walk ds (done ++ d ∷ []) (so_far ++ m ∷ []) f.more (ind ++ added d m) (e ∙ sym (append_assoc done (d ∷ []) ds)) f.follow next in
-        subst (λ z. State flat (so_far ++ z) (ind ++ added_all (d ∷ ds) z)) (sym f.parts)
-        (subst (λ z. State flat z (ind ++ (added d m ++ added_all ds f.more))) (append_assoc so_far (m ∷ []) f.more)
-        (subst (State flat ((so_far ++ m ∷ []) ++ f.more)) (append_assoc ind (added d m) (added_all ds f.more)) end))
+        let end = walk ds later (done ++ d ∷ []) (so_far ++ m ∷ []) f.more (ind ++ added d m) (e ∙ sym (append_assoc done (d ∷ []) (ds ++ later))) f.follow next in
+        subst (λ z. State (done ++ d ∷ ds) (so_far ++ z) (ind ++ added_all (d ∷ ds) z)) (sym f.parts)
+        (subst (λ z. State (done ++ d ∷ ds) z (ind ++ (added d m ++ added_all ds f.more))) (append_assoc so_far (m ∷ []) f.more)
+        (subst (State (done ++ d ∷ ds) ((so_far ++ m ∷ []) ++ f.more)) (append_assoc ind (added d m) (added_all ds f.more))
+        (subst (λ z. State z ((so_far ++ m ∷ []) ++ f.more) ((ind ++ added d m) ++ added_all ds f.more)) (append_assoc done (d ∷ []) ds) end)))
       where
-        there : flat ≡ done ++ d ∷ ds → Member d flat
-        there e = subst (Member d) (sym e) (append_right done (d ∷ ds) d (inl refl))
+        there : flat ≡ done ++ d ∷ (ds ++ later) → Member d flat
+        there e = subst (Member d) (sym e) (append_right done (d ∷ (ds ++ later)) d (inl refl))
 
-        others : flat ≡ done ++ d ∷ ds → (x : Declaration) → Member x done → Member x flat × (x.name ≡ d.name → ⊥)
-        others e x p = (subst (Member x) (sym e) (append_left done (d ∷ ds) x p), once_apart done (d ∷ ds) (subst Once e flat_is_once) x d p (inl refl))
+        others : flat ≡ done ++ d ∷ (ds ++ later) → (x : Declaration) → Member x done → Member x flat × (x.name ≡ d.name → ⊥)
+        others e x p = (subst (Member x) (sym e) (append_left done (d ∷ (ds ++ later)) x p), once_apart done (d ∷ (ds ++ later)) (subst Once e flat_is_once) x d p (inl refl))
 
-        at : (ys : Signature) → slice_get (ys ++ d ∷ ds) (length ys) ≡ Some d
+        at : (ys : Signature) → slice_get (ys ++ d ∷ (ds ++ later)) (length ys) ≡ Some d
         at [] = refl
         at (y ∷ ys) = at ys
 
-        declared : (xs : Signature) → flat ≡ xs ++ d ∷ ds → ClassHolds xs d.class × OptionalValueHolds xs d.class d.value
+        declared : (xs : Signature) → flat ≡ xs ++ d ∷ (ds ++ later) → ClassHolds xs d.class × OptionalValueHolds xs d.class d.value
         declared xs e =
             let h = subst DeclarationsHold e (declarations_hold setting.environment ok.coherent setting.domain ok.theory) (length xs) d (at xs) in
-            let front : take (length xs) (xs ++ d ∷ ds) ≡ xs = take_front xs (d ∷ ds) (length xs) (omega arith) ∙ take_length xs in
+            let front : take (length xs) (xs ++ d ∷ (ds ++ later)) ≡ xs = take_front xs (d ∷ (ds ++ later)) (length xs) (omega arith) ∙ take_length xs in
             (subst (λ z. ClassHolds z d.class) front h.0, subst (λ z. OptionalValueHolds z d.class d.value) front h.1)
 
-    -- ---- the whole map
+    -- ---- the map of a front, and the whole map
 
-    pub record MapHolds (along : HeadMap) : Type 0 where
-      pub map_is : IsCoherentMap flat (before ++ added_all flat along) along
-      pub once : Once (before ++ added_all flat along)
-      pub holds : HoldAfter before (added_all flat along)
+    pub record MapHolds (front : Signature) (along : HeadMap) : Type 0 where
+      pub map_is : IsCoherentMap front (before ++ added_all front along) along
+      pub once : Once (before ++ added_all front along)
+      pub holds : HoldAfter before (added_all front along)
 
-    pub map_holds : (along : HeadMap) → map_all setting assigned [] flat ≡ Ok along → MapHolds along
-    map_holds along h =
-        let w = walk_follows setting assigned flat [] along h in
-        let s = walk flat [] [] w.0 [] refl w.2 start in
-        subst MapHolds (sym w.1) (record { map_is = s.map_is; once = s.once; holds = s.holds })
+    pub front_holds : (front back : Signature) (along : HeadMap) → flat ≡ front ++ back → map_all setting assigned [] front ≡ Ok along → MapHolds front along
+    front_holds front back along e h =
+        let w = walk_follows setting assigned front [] along h in
+        let s = walk front back [] [] w.0 [] e w.2 start in
+        subst (MapHolds front) (sym w.1) (record { map_is = s.map_is; once = s.once; holds = s.holds })
       where
         start : State [] [] []
         start =
@@ -335,3 +336,6 @@ module _ (setting : Setting) where
               holds = tt;
               from = λ e q. absurd q;
             }
+
+    pub map_holds : (along : HeadMap) → map_all setting assigned [] flat ≡ Ok along → MapHolds flat along
+    map_holds along h = front_holds flat [] along (sym (append-nil flat)) h

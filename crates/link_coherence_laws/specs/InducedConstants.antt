@@ -1,7 +1,7 @@
 -- The constants that a structure induces, by place (Rabe and Kohlhase 2013, section 3: flattening of structures).
 use Rattle.std.specs.Prelude.{◌≡◌, ◌≢◌, ℕ, List, length, slice_get, Some, None}
 use Rattle.name_meaning.specs.Names.{Name}
-use Rattle.lf_meaning.specs.Signatures.{Value, SameAs, Declaration}
+use Rattle.lf_meaning.specs.Signatures.{SameAs, Declaration}
 use Rattle.lf_meaning.specs.HeadMaps.{Image, HeadMap, image_of}
 use Rattle.translation_meaning.specs.Translation.{translate_class}
 use Rattle.library_meaning.specs.Faces.{own_part}
