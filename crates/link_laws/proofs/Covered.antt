@@ -4,7 +4,7 @@ use Rattle.std.specs.Prelude.{⊤}
 use Rattle.name_meaning.specs.Names.{Name}
 use Rattle.lf_meaning.specs.Signatures.{Value, Declaration, Signature}
 use Rattle.lf_term_laws.proofs.Equality.{same_value_sound, same_value_itself}
-use Rattle.list_laws.proofs.Members.{Member, find_none, in_option, option_first, option_rest}
+use Rattle.list_laws.proofs.Members.{Member, find_none, in_filter_map, filter_map_in}
 use Rattle.lf_meaning.specs.HeadMaps.{HeadMap}
 use Rattle.translation_meaning.specs.Differ.{value_in, agree, agree_on, differ_from, differ}
 use Rattle.library_meaning.specs.Faces.{own_part}
@@ -60,21 +60,6 @@ pub all_agree : (place : ℕ) (a b : HeadMap) (ds : Signature) → ((d : Declara
 unfolding differ_from
 all_agree place a b [] h = refl
 all_agree place a b (c ∷ ds) h = ap (λ t. cond t (differ_from (suc place) a b ds) (Some place)) (h c (inl refl)) ∙ all_agree (suc place) a b ds (λ d m. h d (inr m))
-
--- ---- members of what is filtered and mapped
-
-pub in_filter_map : {A B : Type 0} (f : A → Option B) (xs : List A) (y : B) → Member y (filter_map f xs) → (x : A) × Member x xs × (f x ≡ Some y)
-in_filter_map f [] y m = absurd m
-in_filter_map f (x ∷ xs) y m = by (in_option (f x) (filter_map f xs) y m) (in_filter_map f xs y)
-  where
-    by : (f x ≡ Some y) ⊎ Member y (filter_map f xs) → (Member y (filter_map f xs) → (z : _) × Member z xs × (f z ≡ Some y)) → (z : _) × Member z (x ∷ xs) × (f z ≡ Some y)
-    by (inl e) g = (x, inl refl, e)
-    by (inr n) g = let q = g n in (q.0, inr q.1, q.2)
-
-pub filter_map_in : {A B : Type 0} (f : A → Option B) (xs : List A) (x : A) (y : B) → Member x xs → f x ≡ Some y → Member y (filter_map f xs)
-filter_map_in f [] x y m e = absurd m
-filter_map_in f (z ∷ xs) x y (inl q) e = option_first (f z) (filter_map f xs) y (ap f (sym q) ∙ e)
-filter_map_in f (z ∷ xs) x y (inr m) e = option_rest (f z) (filter_map f xs) y (filter_map_in f xs x y m e)
 
 module _ (setting : Setting) (assigned : List Assigned) (theory : Name) where
   cover_if_is : (b : Bool) (first : Span) (along : HeadMap) (cover : Cover) → cover_if b first along ≡ Some cover → (b ≡ true) × (cover.map ≡ along)

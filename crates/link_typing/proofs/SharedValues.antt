@@ -5,7 +5,7 @@ use Rattle.lf_meaning.specs.Terms.{Constant}
 use Rattle.lf_meaning.specs.Signatures.{Class, Value, Declaration, Signature, class_of}
 use Rattle.lf_meaning.specs.Judgements.{Fits, IsDeclaration, IsSignature}
 use Rattle.lf_typing.proofs.Growing.{signature_shrinks}
-use Rattle.list_laws.proofs.Members.{Member, in_append, append_left, append_right}
+use Rattle.list_laws.proofs.Members.{Member, in_append, append_left, append_right, filter_map_in}
 use Rattle.lf_meaning.specs.HeadMaps.{Image, HeadMap, image_of}
 use Rattle.translation_meaning.specs.Translation.{translate_class, translate_value, translate_image, compose}
 use Rattle.translation_meaning.specs.Differ.{value_in}
@@ -24,7 +24,6 @@ use Rattle.link_meaning.specs.Assignments.{Setting, Assigned, Sharing}
 use Rattle.link_meaning.specs.Passes.{ByStructure, reached_by, is_own}
 use Rattle.link_meaning.specs.Equations.{IsDefinition, OwnHasValue, HasValueBy, MeetsEquations}
 use Rattle.link_meaning.specs.Induced.{induced_with}
-use Rattle.link_laws.proofs.Covered.{filter_map_in}
 use Rattle.link_laws.proofs.Linked.{own_named}
 use Rattle.holding_laws.specs.HoldingLaws.{Grows}
 use Rattle.holding_laws.specs.ExpansionHolds.{scope_signature}

@@ -142,6 +142,20 @@ pub option_rest : {A : Type 0} (o : Option A) (xs : List A) (x : A) → Member x
 option_rest None xs x m = m
 option_rest (Some y) xs x m = inr m
 
+-- members of what is kept
+pub in_filter_map : {A B : Type 0} (f : A → Option B) (xs : List A) (y : B) → Member y (filter_map f xs) → (x : A) × Member x xs × (f x ≡ Some y)
+in_filter_map f [] y m = absurd m
+in_filter_map f (x ∷ xs) y m = by (in_option (f x) (filter_map f xs) y m) (in_filter_map f xs y)
+  where
+    by : (f x ≡ Some y) ⊎ Member y (filter_map f xs) → (Member y (filter_map f xs) → (z : _) × Member z xs × (f z ≡ Some y)) → (z : _) × Member z (x ∷ xs) × (f z ≡ Some y)
+    by (inl e) g = (x, inl refl, e)
+    by (inr n) g = let q = g n in (q.0, inr q.1, q.2)
+
+pub filter_map_in : {A B : Type 0} (f : A → Option B) (xs : List A) (x : A) (y : B) → Member x xs → f x ≡ Some y → Member y (filter_map f xs)
+filter_map_in f [] x y m e = absurd m
+filter_map_in f (z ∷ xs) x y (inl q) e = option_first (f z) (filter_map f xs) y (ap f (sym q) ∙ e)
+filter_map_in f (z ∷ xs) x y (inr m) e = option_rest (f z) (filter_map f xs) y (filter_map_in f xs x y m e)
+
 -- where a function gives something of each member, all are kept in their places
 module _ {A B : Type 0} (f : A → Option B) where
   length_with : (x : A) (xs : List A) (o : Option B) → f x ≡ o → is_some o ≡ true → length (filter_map f xs) ≡ length xs → length (filter_map f (x ∷ xs)) ≡ length (x ∷ xs)
