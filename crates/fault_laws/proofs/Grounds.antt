@@ -22,6 +22,7 @@ use Rattle.verdict_laws.proofs.Verdicts.{not_ungrounded, among_ungrounded, ungro
 use Rattle.fault_laws.specs.RulesBroken.{IsOneOf, grounded_rules}
 use Rattle.fault_laws.specs.FaultLaws.{VerdictsStandInTexts, CyclesAreUngrounded, VerdictsDecideGrounds}
 use Rattle.fault_laws.proofs.ModuleFaults.{refused_within, grounded_breaks}
+use Rattle.list_laws.proofs.Options.{some_of}
 
 -- ---- the verdict on a text
 
@@ -44,13 +45,9 @@ cycle_grounds library name text refusal e h c = by (is_among (ungrounded_names d
 has_text : (library : Library) (name : Name) (verdict : Verdict) → verdict_of library name ≡ Some verdict → is_present library name ≡ true
 has_text library name verdict h = sym (verdict_exactly library name) ∙ ap is_some h
 
-text_there : (o : Option Text) → is_some o ≡ true → (text : Text) × (o ≡ Some text)
-text_there None h = absurd (true≢false (sym h))
-text_there (Some text) h = (text, refl)
-
 refused_grounds : (library : Library) (name : Name) (refusal : Refusal) → verdict_of library name ≡ Some (Refused refusal) → refusal.rule ≡ Rule.Cycle → is_ungrounded dependencies library name ≡ true
 refused_grounds library name refusal h c =
-    let t = text_there (text_of library name) (has_text library name (Refused refusal) h) in
+    let t = some_of (text_of library name) (has_text library name (Refused refusal) h) in
     cycle_grounds library name t.0 refusal t.1 h c
 
 cycle_told : (library : Library) (name : Name) → IsCycle library name → (refusal : Refusal) × (verdict_of library name ≡ Some (Refused refusal)) × (refusal.rule ≡ Rule.Cycle)

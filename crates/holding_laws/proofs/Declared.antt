@@ -13,15 +13,6 @@ use Rattle.holding_laws.proofs.Growing.{class_grows, optional_grows}
 use Rattle.std.proofs.lemmas.Option.{same_Some}
 use Rattle.lf_term_laws.proofs.Declarations.{declared_some, declaration_front}
 
-pub place_of : {A : Type 0} (xs : List A) (x : A) → Member x xs → (i : ℕ) × (slice_get xs i ≡ Some x)
-place_of [] x m = absurd m
-place_of (y ∷ ys) x (inl e) = (zero, ap Some (sym e))
-place_of (y ∷ ys) x (inr m) = let p = place_of ys x m in (suc p.0, p.1)
-
-front_by : (b : Bool) (x d : Declaration) (o q : Option Declaration) → cond b (Some x) o ≡ Some d → (o ≡ Some d → q ≡ Some d) → cond b (Some x) q ≡ Some d
-front_by true x d o q h f = h
-front_by false x d o q h f = f h
-
 -- a signature grows at its end
 pub front_grows : (xs ys : Signature) → Grows xs (xs ++ ys)
 front_grows xs ys c class h =

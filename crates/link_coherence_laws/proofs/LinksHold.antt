@@ -4,7 +4,7 @@ use Rattle.name_meaning.specs.Names.{Name, Path}
 use Rattle.lf_meaning.specs.Terms.{Constant}
 use Rattle.lf_meaning.specs.Signatures.{Class, FamilyClass, KindClass, Value, SameAs, TermValue, FamilyValue, Declaration, Signature, same_constant, undefined_class, declared_class, class_of}
 use Rattle.lf_term_laws.proofs.Equality.{same_constant_itself}
-use Rattle.list_laws.proofs.Members.{Member, in_append, append_left, append_right, in_flat_map, place_member}
+use Rattle.list_laws.proofs.Members.{Member, in_append, append_left, append_right, in_flat_map, place_member, placed}
 use Rattle.name_laws.proofs.Order.{member_among, same_sound}
 use Rattle.list_laws.proofs.Places.{place_within, take_front, take_length, get_more}
 use Rattle.lf_meaning.specs.HeadMaps.{Mapping, HeadMap}
@@ -21,7 +21,7 @@ use Rattle.link_meaning.specs.Coverings.{first_covering, value_by, covered_value
 use Rattle.link_meaning.specs.Passes.{reached_by, induced_constant, is_own, image_by, mapping_to, map_all}
 use Rattle.link_meaning.specs.Induced.{defined_by, induced_with}
 use Rattle.link_meaning.specs.LinkMaps.{IsSettled}
-use Rattle.link_laws.proofs.Listing.{same_length}
+use Rattle.link_laws.proofs.Listing.{same_length, names_last}
 use Rattle.link_laws.proofs.Covered.{there_refused, first_is_covering}
 use Rattle.link_laws.proofs.Valued.{own_sound}
 use Rattle.link_laws.proofs.Following.{Follows, walk_follows}
@@ -30,7 +30,7 @@ use Rattle.holding_laws.specs.HoldingLaws.{Grows}
 use Rattle.holding_laws.specs.TranslationHolds.{MapsInto}
 use Rattle.holding_laws.specs.ExpansionHolds.{scope_signature}
 use Rattle.holding_laws.proofs.Growing.{class_grows, value_grows, optional_grows}
-use Rattle.holding_laws.proofs.Declared.{place_of, front_grows, class_in, class_at, value_at}
+use Rattle.holding_laws.proofs.Declared.{front_grows, class_in, class_at, value_at}
 use Rattle.holding_laws.proofs.Expanding.{DeclaredHolds}
 use Rattle.holding_laws.proofs.Translating.{coherent_maps_into, class_translated, value_translated, translated_alike, value_at_alike, alike_through, alike_back}
 use Rattle.link_coherence_laws.proofs.Onces.{Apart, Once, once_append, once_names, once_apart, member_declared, HoldAfter, after_declarations, hold_append}
@@ -41,23 +41,12 @@ use Rattle.std.proofs.lemmas.Option.{same_Some}
 
 -- ---- one more mapping
 
-names_more : (so_far : HeadMap) (m : Mapping) (done : Signature) (d : Declaration) → mapped_names so_far ≡ declared_names done → m.name ≡ d.name → mapped_names (so_far ++ m ∷ []) ≡ declared_names (done ++ d ∷ [])
-names_more so_far m done d e n = mapped so_far ∙ ap₂ (λ x y. x ++ y ∷ []) e n ∙ sym (declared done)
-  where
-    mapped : (xs : HeadMap) → mapped_names (xs ++ m ∷ []) ≡ mapped_names xs ++ m.name ∷ []
-    mapped [] = refl
-    mapped (x ∷ xs) = ap (λ z. x.name ∷ z) (mapped xs)
-
-    declared : (xs : Signature) → declared_names (xs ++ d ∷ []) ≡ declared_names xs ++ d.name ∷ []
-    declared [] = refl
-    declared (x ∷ xs) = ap (λ z. x.name ∷ z) (declared xs)
-
 map_more : (done : Signature) (to more : Signature) (so_far : HeadMap) (d : Declaration) (m : Mapping) → IsCoherentMap done to so_far → Grows to more → m.name ≡ d.name → ClassHolds more m.image.class → ValueHolds more m.image.class m.image.value → AlikeClasses m.image.class d.class
     → IsCoherentMap (done ++ d ∷ []) more (so_far ++ m ∷ [])
 map_more done to more so_far d m k g n c v a =
     let q = map_grows done to more so_far g k in
     record {
-      names = names_more so_far m done d k.names n;
+      names = names_last so_far m done d k.names n;
       holds = λ i x h. ⊎_elim (λ p. q.holds i x p) (λ p. subst (λ (z : Mapping). ClassHolds more z.image.class × ValueHolds more z.image.class z.image.value) p.1 (c, v)) (get_more so_far m x i h);
       alike = λ i x e h l. by i x e (get_more so_far m x i h) (get_more done d e i l);
     }
@@ -131,14 +120,14 @@ module _ (setting : Setting) where
       where
         by : (o : Option TheoryFace) → theory_of setting.environment setting.domain ≡ o → Member d (own_of o) → 0 < length d.name.path
         by None e n = absurd n
-        by (Some face) e n = let p = place_of face.own d n in (theory_at setting.environment ok.coherent setting.domain face e).own_paths p.0 d p.1
+        by (Some face) e n = let p = placed face.own d n in (theory_at setting.environment ok.coherent setting.domain face e).own_paths p.0 d p.1
 
     -- what the scope declares, over more
     scope_declares : (signature : Signature) → Once (before ++ signature) → (d : Declaration) → Member d before → DeclaredHolds (before ++ signature) d
     scope_declares signature o d m =
         let n = append_left before signature d m in
-        let p = place_of (before ++ signature) d n in
-        let q = place_of before d m in
+        let p = placed (before ++ signature) d n in
+        let q = placed before d m in
         record {
           class = class_in (before ++ signature) (once_names (before ++ signature) o) p.0 d p.1;
           class_holds = class_grows before (before ++ signature) (front_grows before signature) d.class (class_at before (after_declarations before ok.holds) q.0 d q.1);

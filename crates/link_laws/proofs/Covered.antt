@@ -4,7 +4,7 @@ use Rattle.std.specs.Prelude.{⊤}
 use Rattle.name_meaning.specs.Names.{Name}
 use Rattle.lf_meaning.specs.Signatures.{Value, Declaration, Signature}
 use Rattle.lf_term_laws.proofs.Equality.{same_value_sound, same_value_itself}
-use Rattle.list_laws.proofs.Members.{Member, find_none, in_filter_map, filter_map_in}
+use Rattle.list_laws.proofs.Members.{Member, find_none, in_filter_map, filter_map_in, placed, place_member}
 use Rattle.lf_meaning.specs.HeadMaps.{HeadMap}
 use Rattle.translation_meaning.specs.Differ.{value_in, agree, agree_on, differ_from, differ}
 use Rattle.library_meaning.specs.Faces.{own_part}
@@ -15,7 +15,6 @@ use Rattle.link_meaning.specs.Refusals.{Outcome, or_refused}
 use Rattle.link_meaning.specs.Assignments.{Setting, is_or_includes, Assigned, Covering, Sharing, Giving}
 use Rattle.link_meaning.specs.Coverings.{Cover, cover_if, cover_by, covers_of, is_identity_covering, identity_on, first_map, covering_by, first_covering, disagrees, none_disagrees, covered_test, value_by, covered_value}
 use Rattle.link_meaning.specs.Equations.{IsCovering, ByIdentity, ByAssignment, CoveringsGive}
-use Rattle.link_laws.proofs.Listing.{placed, member_at}
 use Rattle.std.proofs.lemmas.Option.{same_Some}
 use Rattle.list_laws.proofs.Answers.{came_by, goes_by}
 
@@ -82,7 +81,7 @@ module _ (setting : Setting) (assigned : List Assigned) (theory : Name) where
   covering_member : (place : ℕ) (first : Span) (by : Link) → slice_get assigned place ≡ Some (Covering first by) → is_or_includes setting.environment by.domain theory ≡ true
       → Member (record { first = first; map = by.map }) (covers_of setting assigned theory)
   covering_member place first by s t =
-      filter_map_in (cover_by setting.environment theory) assigned (Covering first by) (record { first = first; map = by.map }) (member_at assigned place (Covering first by) s) (ap (λ b. cover_if b first by.map) t)
+      filter_map_in (cover_by setting.environment theory) assigned (Covering first by) (record { first = first; map = by.map }) (place_member assigned place (Covering first by) s) (ap (λ b. cover_if b first by.map) t)
 
   pub first_map_is : (covers : List Cover) (along : HeadMap) → first_map covers ≡ Some along → (cover : Cover) × Member cover covers × (cover.map ≡ along)
   first_map_is [] along h = absurd (cc)

@@ -7,7 +7,7 @@ use Rattle.lf_meaning.specs.HeadMaps.{Image, Mapping, HeadMap, image_of}
 use Rattle.lf_term_laws.proofs.Equality.{same_constant_itself}
 use Rattle.translation_meaning.specs.Translation.{translate_class, translate_value}
 use Rattle.translation_meaning.specs.Differ.{value_in}
-use Rattle.list_laws.proofs.Members.{Member, append_left, in_flat_map, flat_map_in}
+use Rattle.list_laws.proofs.Members.{Member, append_left, in_flat_map, flat_map_in, placed, place_member}
 use Rattle.list_laws.proofs.Places.{place_within, get_front, take_front, take_length}
 use Rattle.list_laws.proofs.Answers.{came_by, goes_by, bind_assoc}
 use Rattle.name_laws.proofs.Order.{among_member, member_among}
@@ -26,7 +26,7 @@ use Rattle.link_meaning.specs.Equations.{IsCovered, CoveringsGive}
 use Rattle.link_meaning.specs.CoveringMaps.{included_part, cover_all, covering_map, MeetsCoverings}
 use Rattle.link_meaning.specs.LinkMaps.{IsSettled}
 use Rattle.link_laws.specs.CoveringLaws.{CoveringMapMeetsCoverings, OneMapMeetsCoverings, CoveringsRefuseByTests, CoveringRules, later_passes, LinksBeginWithCoverings, LinkMapsBeginWithCoverings}
-use Rattle.link_laws.proofs.Listing.{placed, member_at, each_passes, mapping_there, same_length}
+use Rattle.link_laws.proofs.Listing.{each_passes, mapping_there, same_length}
 use Rattle.link_laws.proofs.Following.{Meets, walk_follows, follows_walk, follows_meets, meets_follows}
 use Rattle.link_laws.proofs.Covered.{good_same, there_refused, agree_sound, first_map_is, first_is_covering, Tested, coverings_give, given_covered}
 use Rattle.link_laws.proofs.Linked.{own_named, declarations_hold, includes_other, own_by, included_in, tests_of, tested_by}
@@ -136,7 +136,7 @@ module _ (setting : Setting) (assigned : List Assigned) (settled : IsSettled set
       record {
         names = n.names;
         classes = n.classes;
-        values = λ i x d p q. given (tests_of setting assigned settled c.came) along d x.image.value (member_at part i d q) (n.values i x d p q);
+        values = λ i x d p q. given (tests_of setting assigned settled c.came) along d x.image.value (place_member part i d q) (n.values i x d p q);
         covered = λ theory s. covered (tests_of setting assigned settled c.came) theory s;
       }
     where
@@ -164,7 +164,7 @@ module _ (setting : Setting) (assigned : List Assigned) (settled : IsSettled set
 
       valued : (i : ℕ) (x : Mapping) (d : Declaration) → slice_get along i ≡ Some x → slice_get part i ≡ Some d → image_value setting assigned along d ≡ Ok x.image.value
       valued i x d p q =
-          sym (image_is along d (not_own d (member_at part i d q)))
+          sym (image_is along d (not_own d (place_member part i d q)))
           ∙ ap (λ o. or_refused o setting.span Rule.IncludeNotCovered (d.name.theory ∷ [])) (given_covered setting assigned d x.image.value (m.values i x d p q))
 
   -- ---- where the tests pass, all images are there

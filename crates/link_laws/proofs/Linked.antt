@@ -3,7 +3,7 @@ use Rattle.std.proofs.Common.{◌≡◌, ◌≢◌, Bool, true, false, List, [],
 use Rattle.std.specs.List.{list_all}
 use Rattle.name_meaning.specs.Names.{Name, Path, same_name}
 use Rattle.lf_meaning.specs.Signatures.{Class, Value, Declaration, Signature}
-use Rattle.list_laws.proofs.Members.{Member, all_at, all_of, in_append, append_left, in_flat_map, flat_map_in}
+use Rattle.list_laws.proofs.Members.{Member, all_at, all_of, in_append, append_left, in_flat_map, flat_map_in, placed, place_member}
 use Rattle.name_laws.proofs.Order.{among_member, member_among, same_sound, same_itself}
 use Rattle.lf_meaning.specs.HeadMaps.{HeadMap}
 use Rattle.translation_meaning.specs.Translation.{translate_class, translate_value}
@@ -22,12 +22,13 @@ use Rattle.link_meaning.specs.Equations.{IsCovering, IsCovered, CoveringsGive, H
 use Rattle.link_meaning.specs.LinkMaps.{IsSettled}
 use Rattle.link_laws.specs.LinkLaws.{PassesMeetEquations, OneMapMeetsEquations, LinkMapMeetsEquations, OneMapOfLink}
 use Rattle.link_laws.proofs.Reading.{assigns_sound, assigns_complete}
-use Rattle.link_laws.proofs.Listing.{placed, member_at, each_passed, each_passes, mapping_there}
+use Rattle.link_laws.proofs.Listing.{each_passed, each_passes, mapping_there}
 use Rattle.link_laws.proofs.Following.{Meets, walk_follows, follows_walk, follows_meets, meets_follows}
 use Rattle.link_laws.proofs.Covered.{good_same, there_refused, agree_sound, agree_by, cover_is_covering, first_is_covering, some_first, Tested, test_gives, test_by, coverings_give, given_covered}
 use Rattle.link_laws.proofs.Valued.{demand_holds, demand_by, own_sound, own_complete}
 use Rattle.std.proofs.lemmas.Option.{same_Some}
 use Rattle.list_laws.proofs.Answers.{came_by, goes_by}
+use Rattle.list_laws.proofs.Options.{some_of}
 
 -- ---- what coherence says of a domain
 
@@ -36,10 +37,6 @@ known_theory IsAbsent face h = absurd (cc)
 known_theory IsRefused face h = absurd (cc)
 known_theory (IsTheory found) face h = ap IsTheory (same_Some _ _ h)
 known_theory (IsView found) face h = absurd (cc)
-
-pub some_theory : (o : Option TheoryFace) → is_some o ≡ true → (face : TheoryFace) × (o ≡ Some face)
-some_theory None h = absurd (true≢false (sym h))
-some_theory (Some face) h = (face, refl)
 
 module _ (environment : Environment) (coherent : IsCoherent environment) where
   named_by : (theory : Name) (o : Option TheoryFace) → theory_of environment theory ≡ o → (d : Declaration) → Member d (own_of o) → d.name.theory ≡ theory
@@ -55,7 +52,7 @@ module _ (environment : Environment) (coherent : IsCoherent environment) where
 
   pub declarations_hold : (theory : Name) → is_some (theory_of environment theory) ≡ true → DeclarationsHold (flat_of environment theory)
   declarations_hold theory h =
-      let f = some_theory (theory_of environment theory) h in
+      let f = some_of (theory_of environment theory) h in
       subst DeclarationsHold (ap (λ o. own_parts environment (includes_of o) ++ own_of o) (sym f.1)) (coherent.theories theory f.0 (known_theory (environment theory) f.0 f.1)).holds
 
   pub includes_other : (theory other : Name) → sees (includes_of (theory_of environment theory)) other ≡ true → other ≢ theory
@@ -151,15 +148,15 @@ module _ (setting : Setting) (assigned : List Assigned) (settled : IsSettled set
       record {
         names = n.names;
         classes = n.classes;
-        values = λ i x d p q. value_sound (tests_of c.came) (is_own setting d) (translate_class along d.class) (option_map (translate_value along) d.value) d x.image.value refl (member_at flat i d q) (n.values i x d p q);
+        values = λ i x d p q. value_sound (tests_of c.came) (is_own setting d) (translate_class along d.class) (option_map (translate_value along) d.value) d x.image.value refl (place_member flat i d q) (n.values i x d p q);
         covered = λ theory p.
             let t = tests_of c.came theory (among_member (included_theories setting) theory p) in
             (t.first, first_is_covering setting assigned theory t.first t.is);
         shared = λ i target structure first by p j d q. shares_sound along structure by d
             (all_at (shares along structure by) (shared_part structure) d
             (demand_holds (list_all (shares along structure by) (shared_part structure)) first Rule.MorphismsDisagree (label_along setting target) tt
-            (each_passed (shared_test setting along) assigned tt (subst (λ z. each (shared_test setting z) assigned ≡ Ok tt) e s.came) (Sharing target structure first by) (member_at assigned i (Sharing target structure first by) p)))
-            (member_at (shared_part structure) j d q));
+            (each_passed (shared_test setting along) assigned tt (subst (λ z. each (shared_test setting z) assigned ≡ Ok tt) e s.came) (Sharing target structure first by) (place_member assigned i (Sharing target structure first by) p)))
+            (place_member (shared_part structure) j d q));
       }
 
   -- ---- and back
