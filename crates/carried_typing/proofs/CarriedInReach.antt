@@ -27,7 +27,7 @@ use Rattle.judged_laws.specs.CarryingLaws.{IsTranslated}
 use Rattle.judged_laws.proofs.Translated.{carry_is_translation}
 use Rattle.carried_typing.specs.CarriedTyping.{IsCarried, HaveReachOf, FacesCarryTyping, FacesCarryAlike}
 use Rattle.carried_typing.proofs.Carried.{translated_from, translated_to}
-use Rattle.list_laws.proofs.Members.{placed}
+use Rattle.list_laws.proofs.Members.{member_place}
 
 -- ---- two environments that are alike on a view and its ends
 
@@ -91,7 +91,7 @@ module _ (library : Library) (name : Name) where
           same = same;
           includes = λ x face other n e m. there_reached other ((reach_coherent.theories x face e).includes other (member_among face.includes other m));
           domains = λ x face structure n e m.
-              let p = placed face.structures structure m in
+              let p = member_place face.structures structure m in
               there_reached structure.domain ((reach_coherent.theories x face e).domains p.0 structure p.1);
           ends = λ x face n e. there_reached face.domain ((reach_coherent.views x face e).domain);
         }

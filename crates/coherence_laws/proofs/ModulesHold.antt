@@ -4,7 +4,7 @@ use Rattle.std.specs.Prelude.{⊤}
 use Rattle.std.proofs.lemmas.Bool.{or_cases}
 use Rattle.name_meaning.specs.Names.{Name, Path, same_name}
 use Rattle.lf_meaning.specs.Signatures.{Class, Value, Declaration}
-use Rattle.list_laws.proofs.Members.{Member, in_append, append_left, in_flat_map, place_member, placed}
+use Rattle.list_laws.proofs.Members.{Member, in_append, append_left, in_flat_map, place_member, member_place}
 use Rattle.name_laws.proofs.Order.{among_member, member_among}
 use Rattle.lf_meaning.specs.HeadMaps.{HeadMap}
 use Rattle.library_meaning.specs.Faces.{TheoryFace, ViewFace, Known, IsAbsent, IsRefused, IsTheory, IsView, theory_face, Environment, theory_of, structure_of, includes_of, own_of, own_part, own_parts, flat_signature, flat_of}
@@ -116,7 +116,7 @@ module _ (environment : Environment) (coherent : IsCoherent environment) where
 
     fresh_by : (name : Name) → structure_of here.structures name ≡ None → (d : Declaration) → Member d here.own → (rest : Path) → d.name.path ≡ name ∷ rest → 0 < length rest → ⊥
     fresh_by name v d m rest e l =
-        let p = placed here.own d m in
+        let p = member_place here.own d m in
         let k = c.induced p.0 d p.1 (subst (λ z. 1 < length z) (sym e) (omega (arith, l))) in
         no_structure here.structures name v k.structure (place_member here.structures k.place k.structure k.found) (heads (sym k.path ∙ e))
       where

@@ -8,7 +8,7 @@ use Rattle.lf_meaning.specs.Judgements.{Checks, Synthesises, IsFamily, IsKind, I
 use Rattle.lf_typing.proofs.Declared.{class_more}
 use Rattle.lf_typing.proofs.Typed.{more_checks, more_family, more_kind}
 use Rattle.lf_typing.proofs.HeadTyping.{synthesised_is_family}
-use Rattle.list_laws.proofs.Members.{Member, placed}
+use Rattle.list_laws.proofs.Members.{Member, member_place}
 use Rattle.list_laws.proofs.Places.{split_at}
 use Rattle.translation_meaning.specs.Heads.{Head, ObjectHead, FamilyHead}
 use Rattle.translation_meaning.specs.Translation.{object_value, family_value}
@@ -226,7 +226,7 @@ module _ (scope : Scope) (sig : Signature) (typed : IsSignature sig) (knows : (d
 
 pub scope_knows : (scope : Scope) → IsTypedScope scope → (d : Declaration) → Member d (scope_signature scope) → DeclaredTyped (scope_signature scope) d
 scope_knows scope ok d m =
-    let p = placed (scope_signature scope) d m in
+    let p = member_place (scope_signature scope) d m in
     let before : Signature = take p.0 (scope_signature scope) in
     let after : Signature = drop (suc p.0) (scope_signature scope) in
     let parts : scope_signature scope ≡ before ++ (d ∷ after) = split_at (scope_signature scope) p.0 d p.1 in

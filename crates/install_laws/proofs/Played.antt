@@ -3,7 +3,7 @@ use Rattle.std.proofs.Common.{◌≡◌, ℕ, ◌-◌, ◌<◌, ◌≤◌, Bool,
 use Rattle.std.proofs.lemmas.Option.{same_Some}
 use Rattle.std.proofs.lemmas.Bool.Decides.{nat_tests}
 use Rattle.name_meaning.specs.Names.{Name}
-use Rattle.list_laws.proofs.Members.{Member, in_append, append_left, in_map, in_filter_map, placed, place_member}
+use Rattle.list_laws.proofs.Members.{Member, in_append, append_left, in_map, in_filter_map, member_place, place_member}
 use Rattle.log_meaning.specs.Log.{Log, names_of, library_of, version_of}
 use Rattle.walk_meaning.specs.Walks.{Dependencies, is_grounded}
 use Rattle.board_meaning.specs.Events.{History, log_of, version_after}
@@ -25,10 +25,10 @@ use Rattle.install_laws.proofs.Tellings.{stay_backed}
 
 backed_append : (dependencies : Dependencies) (H : History) (xs ys : List Telling) → AreBacked dependencies H xs → AreBacked dependencies H ys → AreBacked dependencies H (xs ++ ys)
 backed_append dependencies H xs ys f g place t s =
-    ⊎_elim (λ m. let p = placed xs t m in f p.0 t p.1) (λ m. let p = placed ys t m in g p.0 t p.1) (in_append xs ys t (place_member (xs ++ ys) place t s))
+    ⊎_elim (λ m. let p = member_place xs t m in f p.0 t p.1) (λ m. let p = member_place ys t m in g p.0 t p.1) (in_append xs ys t (place_member (xs ++ ys) place t s))
 
 backed_front : (dependencies : Dependencies) (H : History) (xs ys : List Telling) → AreBacked dependencies H (xs ++ ys) → AreBacked dependencies H xs
-backed_front dependencies H xs ys f place t s = let p = placed (xs ++ ys) t (append_left xs ys t (place_member xs place t s)) in f p.0 t p.1
+backed_front dependencies H xs ys f place t s = let p = member_place (xs ++ ys) t (append_left xs ys t (place_member xs place t s)) in f p.0 t p.1
 
 -- ---- the version of what a command tells
 

@@ -4,7 +4,7 @@ use Rattle.name_meaning.specs.Names.{Name, Path}
 use Rattle.lf_meaning.specs.Terms.{Constant}
 use Rattle.lf_meaning.specs.Signatures.{Class, FamilyClass, KindClass, Value, SameAs, TermValue, FamilyValue, Declaration, Signature, same_constant, undefined_class, declared_class, class_of}
 use Rattle.lf_term_laws.proofs.Equality.{same_constant_itself}
-use Rattle.list_laws.proofs.Members.{Member, in_append, append_left, append_right, in_flat_map, place_member, placed}
+use Rattle.list_laws.proofs.Members.{Member, in_append, append_left, append_right, in_flat_map, place_member, member_place}
 use Rattle.name_laws.proofs.Order.{member_among, same_sound}
 use Rattle.list_laws.proofs.Places.{place_within, take_front, take_length, get_more}
 use Rattle.lf_meaning.specs.HeadMaps.{Mapping, HeadMap}
@@ -120,14 +120,14 @@ module _ (setting : Setting) where
       where
         by : (o : Option TheoryFace) → theory_of setting.environment setting.domain ≡ o → Member d (own_of o) → 0 < length d.name.path
         by None e n = absurd n
-        by (Some face) e n = let p = placed face.own d n in (theory_at setting.environment ok.coherent setting.domain face e).own_paths p.0 d p.1
+        by (Some face) e n = let p = member_place face.own d n in (theory_at setting.environment ok.coherent setting.domain face e).own_paths p.0 d p.1
 
     -- what the scope declares, over more
     scope_declares : (signature : Signature) → Once (before ++ signature) → (d : Declaration) → Member d before → DeclaredHolds (before ++ signature) d
     scope_declares signature o d m =
         let n = append_left before signature d m in
-        let p = placed (before ++ signature) d n in
-        let q = placed before d m in
+        let p = member_place (before ++ signature) d n in
+        let q = member_place before d m in
         record {
           class = class_in (before ++ signature) (once_names (before ++ signature) o) p.0 d p.1;
           class_holds = class_grows before (before ++ signature) (front_grows before signature) d.class (class_at before (after_declarations before ok.holds) q.0 d q.1);

@@ -4,7 +4,7 @@ use Rattle.std.specs.Prelude.{⊤}
 use Rattle.name_meaning.specs.Names.{Name}
 use Rattle.lf_meaning.specs.Signatures.{Value, Declaration, Signature}
 use Rattle.lf_term_laws.proofs.Equality.{same_value_sound, same_value_itself}
-use Rattle.list_laws.proofs.Members.{Member, find_none, in_filter_map, filter_map_in, placed, place_member}
+use Rattle.list_laws.proofs.Members.{Member, find_none, in_filter_map, filter_map_in, member_place, place_member}
 use Rattle.lf_meaning.specs.HeadMaps.{HeadMap}
 use Rattle.translation_meaning.specs.Differ.{value_in, agree, agree_on, differ_from, differ}
 use Rattle.library_meaning.specs.Faces.{own_part}
@@ -75,7 +75,7 @@ module _ (setting : Setting) (assigned : List Assigned) (theory : Name) where
   pub cover_is_covering : (cover : Cover) → Member cover (covers_of setting assigned theory) → IsCovering setting assigned theory cover.map
   cover_is_covering cover m =
       let q = in_filter_map (cover_by setting.environment theory) assigned cover m in
-      let p = placed assigned q.0 q.1 in
+      let p = member_place assigned q.0 q.1 in
       by_assigned q.0 p.0 cover p.1 q.2
 
   covering_member : (place : ℕ) (first : Span) (by : Link) → slice_get assigned place ≡ Some (Covering first by) → is_or_includes setting.environment by.domain theory ≡ true

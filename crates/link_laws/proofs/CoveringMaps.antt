@@ -7,7 +7,7 @@ use Rattle.lf_meaning.specs.HeadMaps.{Image, Mapping, HeadMap, image_of}
 use Rattle.lf_term_laws.proofs.Equality.{same_constant_itself}
 use Rattle.translation_meaning.specs.Translation.{translate_class, translate_value}
 use Rattle.translation_meaning.specs.Differ.{value_in}
-use Rattle.list_laws.proofs.Members.{Member, append_left, in_flat_map, flat_map_in, placed, place_member}
+use Rattle.list_laws.proofs.Members.{Member, append_left, in_flat_map, flat_map_in, member_place, place_member}
 use Rattle.list_laws.proofs.Places.{place_within, get_front, take_front, take_length}
 use Rattle.list_laws.proofs.Answers.{came_by, goes_by, bind_assoc}
 use Rattle.name_laws.proofs.Order.{among_member, member_among}
@@ -158,7 +158,7 @@ module _ (setting : Setting) (assigned : List Assigned) (settled : IsSettled set
     where
       given : (theory : Name) → Member theory (included_theories setting) → (d : Declaration) → Member d (own_part setting.environment theory) → (value : Value) × CoveringsGive setting assigned d value
       given theory t d o =
-          let p = placed part d (flat_map_in (own_part setting.environment) (included_theories setting) theory d t o) in
+          let p = member_place part d (flat_map_in (own_part setting.environment) (included_theories setting) theory d t o) in
           let x = mapping_there along part m.names p.0 d p.1 in
           (x.0.image.value, m.values p.0 x.0 d x.1 p.1)
 

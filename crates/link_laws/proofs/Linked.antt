@@ -3,7 +3,7 @@ use Rattle.std.proofs.Common.{◌≡◌, ◌≢◌, Bool, true, false, List, [],
 use Rattle.std.specs.List.{list_all}
 use Rattle.name_meaning.specs.Names.{Name, Path, same_name}
 use Rattle.lf_meaning.specs.Signatures.{Class, Value, Declaration, Signature}
-use Rattle.list_laws.proofs.Members.{Member, all_at, all_of, in_append, append_left, in_flat_map, flat_map_in, placed, place_member}
+use Rattle.list_laws.proofs.Members.{Member, all_at, all_of, in_append, append_left, in_flat_map, flat_map_in, member_place, place_member}
 use Rattle.name_laws.proofs.Order.{among_member, member_among, same_sound, same_itself}
 use Rattle.lf_meaning.specs.HeadMaps.{HeadMap}
 use Rattle.translation_meaning.specs.Translation.{translate_class, translate_value}
@@ -43,7 +43,7 @@ module _ (environment : Environment) (coherent : IsCoherent environment) where
   named_by theory None e d m = absurd m
   named_by theory (Some face) e d m =
       let c = coherent.theories theory face (known_theory (environment theory) face e) in
-      let p = placed face.own d m in
+      let p = member_place face.own d m in
       c.own_named p.0 d p.1
 
   -- an own constant has the theory's name
@@ -182,7 +182,7 @@ module _ (setting : Setting) (assigned : List Assigned) (settled : IsSettled set
   given_by : (along : HeadMap) → MeetsEquations setting assigned along → (theory : Name) → Member theory (included_theories setting) → (d : Declaration) → Member d (own_part setting.environment theory) → (value : Value) × CoveringsGive setting assigned d value
   given_by along m theory t d o =
       let named : d.name.theory ≡ theory = own_named setting.environment settled.coherent theory d o in
-      let p = placed flat d (append_left (own_parts setting.environment (included_theories setting)) (own_part setting.environment setting.domain) d (flat_map_in (own_part setting.environment) (included_theories setting) theory d t o)) in
+      let p = member_place flat d (append_left (own_parts setting.environment (included_theories setting)) (own_part setting.environment setting.domain) d (flat_map_in (own_part setting.environment) (included_theories setting) theory d t o)) in
       let x = mapping_there along flat m.names p.0 d p.1 in (
         x.0.image.value,
         subst (λ b. HasValueBy setting assigned b (translate_class along d.class) (option_map (translate_value along) d.value) d x.0.image.value)
@@ -200,8 +200,8 @@ module _ (setting : Setting) (assigned : List Assigned) (settled : IsSettled set
       (goes_by (each (shared_test setting along) assigned) _ tt along
       (each_passes (shared_test setting along) assigned
       (λ a n. shared_by along a (λ target structure first by e d k.
-      let p = placed assigned a n in
-      let q = placed (shared_part structure) d k in
+      let p = member_place assigned a n in
+      let q = member_place (shared_part structure) d k in
       m.shared p.0 target structure first by (p.1 ∙ ap Some e) q.0 d q.1)))
       refl))
 

@@ -10,10 +10,10 @@ module _ {A : Type 0} where
   Member x [] = ⊥
   Member x (y ∷ ys) = (x ≡ y) ⊎ Member x ys
 
-  pub placed : (xs : List A) (x : A) → Member x xs → (i : ℕ) × (slice_get xs i ≡ Some x)
-  placed [] x m = absurd m
-  placed (y ∷ ys) x (inl e) = (zero, ap Some (sym e))
-  placed (y ∷ ys) x (inr m) = let p = placed ys x m in (suc p.0, p.1)
+  pub member_place : (xs : List A) (x : A) → Member x xs → (i : ℕ) × (slice_get xs i ≡ Some x)
+  member_place [] x m = absurd m
+  member_place (y ∷ ys) x (inl e) = (zero, ap Some (sym e))
+  member_place (y ∷ ys) x (inr m) = let p = member_place ys x m in (suc p.0, p.1)
 
   pub any_found : (p : A → Bool) (xs : List A) → list_any p xs ≡ true → (x : A) × Member x xs × (p x ≡ true)
   any_found p [] h = absurd (true≢false (sym h))
