@@ -7,7 +7,6 @@ use Rattle.list_laws.proofs.Members.{Member}
 use Rattle.lf_meaning.specs.HeadMaps.{Image, Mapping, HeadMap, image_of}
 use Rattle.library_meaning.specs.Coherence.{declared_names, mapped_names}
 use Rattle.link_meaning.specs.Refusals.{Outcome, each}
-use Rattle.std.proofs.lemmas.Option.{same_Some}
 use Rattle.list_laws.proofs.Lists.{first_same, rest_same, map_last}
 use Rattle.lf_term_laws.proofs.Declarations.{declared_some, image_front}
 use Rattle.list_laws.proofs.Answers.{came_by, goes_by}
