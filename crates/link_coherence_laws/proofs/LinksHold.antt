@@ -13,7 +13,7 @@ use Rattle.translation_meaning.specs.Differ.{value_in}
 use Rattle.library_meaning.specs.Words.{Link}
 use Rattle.library_meaning.specs.Faces.{TheoryFace, theory_of, own_of, own_part, own_parts, flat_of}
 use Rattle.library_meaning.specs.Holding.{SameLevel, ClassHolds, ValueHolds, OptionalValueHolds, AlikeClasses}
-use Rattle.library_meaning.specs.Coherence.{DeclarationsHold, declared_names, mapped_names, IsCoherentMap}
+use Rattle.library_meaning.specs.Coherence.{DeclarationsHold, IsCoherentMap}
 use Rattle.text_meaning.specs.Tokens.{Span}
 use Rattle.expansion_meaning.specs.Rules.{Rule}
 use Rattle.link_meaning.specs.Assignments.{Setting, included_theories, Assigned, Covering}
