@@ -105,7 +105,6 @@ or_true : (b : Bool) → (b || true) ≡ true
 or_true true = refl
 or_true false = refl
 
-
 module _ (dependencies : Dependencies) (H : History) (e : Entry) (c : ℕ) (l : IsLegal dependencies H) (f : MayFollow dependencies H e) (h : e.event ≡ Install c) (n : Name) (named : claim_at H c ≡ Some n) where
   makes : (x : Name) → stands dependencies (H ++ e ∷ []) x ≡ (stands dependencies H x || same_name x n)
   makes x = install_makes_told dependencies H e c x l f h ∙ ap (λ (o : Option Name). stands dependencies H x || is_name x o) named

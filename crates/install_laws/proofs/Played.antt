@@ -108,7 +108,7 @@ fewer_told judging (command ∷ commands) count more log l =
         → (rest : List Telling) × (told_within judging (more - length (command_text judging log command)) (log_after log command) commands ≡ told_within judging (count - length (command_text judging log command)) (log_after log command) commands ++ rest)
         → (rest : List Telling)
         × (cond c [] (command_told judging log command ++ told_within judging (more - length (command_text judging log command)) (log_after log command) commands)
-            ≡ cond b [] (command_told judging log command ++ told_within judging (count - length (command_text judging log command)) (log_after log command) commands) ++ rest)
+        ≡ cond b [] (command_told judging log command ++ told_within judging (count - length (command_text judging log command)) (log_after log command) commands) ++ rest)
     by true c e g r = (cond c [] (command_told judging log command ++ told_within judging (more - length (command_text judging log command)) (log_after log command) commands), refl)
     by false true e g r = absurd (grind (arith, nat_tests, e, g, l))
     by false false e g r = (r.0, ap (λ z. command_told judging log command ++ z) r.1 ∙ sym (append_assoc (command_told judging log command) _ r.0))

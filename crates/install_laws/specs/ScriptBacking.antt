@@ -26,7 +26,7 @@ abbrev pub PlayedIsBacked : Type 0
 PlayedIsBacked =
     (judging : Judging) (history : History) (count : ℕ) (bytes : List ℕ)
     → ((done more : List Command) (command : Command) → commands_of (script_of bytes) ≡ done ++ command ∷ more → length (spoken_text judging [] done) < count
-        → StandsAt judging history (log_through [] done) command)
+    → StandsAt judging history (log_through [] done) command)
     → BacksScript judging history count bytes
 
 -- Where more bytes are written than the lines of the commands have, all that the script tells is backed.
