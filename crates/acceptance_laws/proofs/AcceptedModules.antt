@@ -10,7 +10,7 @@ use Rattle.text_meaning.specs.TextAnswers.{read}
 use Rattle.library_meaning.specs.Faces.{TheoryFace, Environment, theory_of}
 use Rattle.expansion_meaning.specs.Rules.{Rule}
 use Rattle.link_meaning.specs.Refusals.{demand}
-use Rattle.link_laws.proofs.Linked.{known_theory, some_theory}
+use Rattle.link_laws.proofs.Linked.{known_theory}
 use Rattle.link_laws.proofs.Valued.{demand_by}
 use Rattle.text_meaning.specs.Dependencies.{dependencies}
 use Rattle.verdict_meaning.specs.Modules.{known_theory as theory_known, module_test}
@@ -24,6 +24,7 @@ use Rattle.coherence_laws.proofs.AcceptedTrees.{from_library}
 use Rattle.std.proofs.lemmas.Option.{same_Some}
 use Rattle.name_laws.proofs.Order.{same_itself}
 use Rattle.list_laws.proofs.Answers.{goes_by}
+use Rattle.list_laws.proofs.Options.{some_of}
 
 -- ---- tests that are passed
 
@@ -32,7 +33,7 @@ module _ (environment : Environment) (label : Path) (written : Written) where
   test_passed face e = ap (theory_known written.span label) (known_theory (environment (first_name written.path)) face e)
 
   pub some_passes : is_some (theory_of environment (first_name written.path)) ≡ true → (face : TheoryFace) × (module_test environment label written ≡ Ok face)
-  some_passes s = let f = some_theory (theory_of environment (first_name written.path)) s in (f.0, test_passed f.0 f.1)
+  some_passes s = let f = some_of (theory_of environment (first_name written.path)) s in (f.0, test_passed f.0 f.1)
 
 -- ---- from the verdict to the tests, and back
 

@@ -4,7 +4,7 @@ use Rattle.std.specs.Prelude.{⊤}
 use Rattle.name_meaning.specs.Names.{Name, Path, same_name}
 use Rattle.lf_meaning.specs.Signatures.{Class, Value, Declaration, Signature}
 use Rattle.lf_term_laws.proofs.Equality.{pointwise_sound}
-use Rattle.list_laws.proofs.Members.{find_found, place_member}
+use Rattle.list_laws.proofs.Members.{find_found, place_member, member_place}
 use Rattle.lf_meaning.specs.HeadMaps.{HeadMap}
 use Rattle.library_meaning.specs.Faces.{StructureFace, TheoryFace, Environment, theory_of, structure_of}
 use Rattle.library_meaning.specs.Resolution.{Scope, has_path, own_at}
@@ -13,7 +13,6 @@ use Rattle.text_meaning.specs.Trees.{Expr, Written, Assign, Decl, IncludeDecl, S
 use Rattle.expansion_meaning.specs.Rules.{Rule}
 use Rattle.expansion_meaning.specs.Values.{expand_class, expand_value}
 use Rattle.expansion_laws.proofs.ValuesStand.{class_sound, class_complete, value_sound, value_complete}
-use Rattle.holding_laws.proofs.Declared.{place_of}
 use Rattle.link_meaning.specs.Refusals.{labelled}
 use Rattle.link_meaning.specs.Passes.{link_map}
 use Rattle.link_meaning.specs.LinkMaps.{IsMapOfLink}
@@ -38,7 +37,7 @@ nobody_at own path f = by (own_at own path) refl
     by None e = refl
     by (Some d) e =
         let m = find_found (has_path path) own d e in
-        let p = place_of own d m.0 in
+        let p = member_place own d m.0 in
         absurd (f p.0 d p.1 (pointwise_sound same_name same_sound d.name.path path m.1))
 
 no_structure_at : (structures : List StructureFace) (name : Name) → ((i : ℕ) (x : StructureFace) → slice_get structures i ≡ Some x → x.name ≡ name → ⊥) → structure_of structures name ≡ None
@@ -48,7 +47,7 @@ no_structure_at structures name f = by (structure_of structures name) refl
     by None e = refl
     by (Some x) e =
         let q = structure_found structures name x e in
-        let p = place_of structures x q.0 in
+        let p = member_place structures x q.0 in
         absurd (f p.0 x p.1 q.1)
 
 new_sound : (here : TheoryFace) (name : Written) (done : ⊤) → unused_test here name ≡ Ok done → IsNew here (first_name name.path)

@@ -4,7 +4,7 @@ use Rattle.std.specs.Prelude.{⊤}
 use Rattle.std.specs.List.{list_any, cons_option}
 use Rattle.name_meaning.specs.Names.{Name, Path, same_name}
 use Rattle.lf_meaning.specs.Signatures.{Class, Value, Declaration, Signature}
-use Rattle.list_laws.proofs.Members.{Member}
+use Rattle.list_laws.proofs.Members.{Member, place_member}
 use Rattle.name_laws.proofs.Order.{among_member}
 use Rattle.lf_meaning.specs.HeadMaps.{HeadMap}
 use Rattle.translation_meaning.specs.Translation.{translate_class, translate_value}
@@ -21,7 +21,6 @@ use Rattle.link_meaning.specs.Coverings.{cover_if, cover_by, covers_of, is_none_
 use Rattle.link_meaning.specs.Passes.{Reached, ByNone, ByValue, ByStructure, reached_by, is_own}
 use Rattle.link_meaning.specs.Equations.{IsCovering, ByIdentity, ByAssignment, CoveringsGive, IsCopied, IsUnassigned, OwnHasValue, HasValueBy, MeetsEquations}
 use Rattle.link_meaning.specs.LinkMaps.{IsSettled, IsMapOfLink}
-use Rattle.link_laws.proofs.Listing.{member_at}
 use Rattle.link_laws.proofs.Linked.{included_in}
 use Rattle.acceptance_laws.proofs.Alike.{Alike, alike_back, scope_over, AllNamed, DomainsNamed, theory_alike, part_alike, includes_named, included_parts_alike, structures_named, flat_alike, stands_for_alike}
 use Rattle.acceptance_laws.proofs.StandsAlike.{value_alike}
@@ -147,7 +146,7 @@ module _ (here : Option TheoryFace) (domain codomain : Name) (own : Signature) (
       covering_alike : (theory : Name) (along : HeadMap) → names theory ≡ true → IsCovering (link_over first) assigned theory along → IsCovering (link_over second) assigned theory along
       covering_alike theory along n (ByIdentity i q) = ByIdentity (sym (identity_covering_alike theory) ∙ i) (q ∙ ap identity_map (part_alike names first second alike theory n))
       covering_alike theory along n (ByAssignment place at by s t q) =
-          ByAssignment place at by s (sym (is_or_alike by.domain theory (items (Covering at by) (member_at assigned place (Covering at by) s))) ∙ t) q
+          ByAssignment place at by s (sym (is_or_alike by.domain theory (items (Covering at by) (place_member assigned place (Covering at by) s))) ∙ t) q
 
   -- ---- the equations
 
@@ -187,14 +186,14 @@ module _ (here : Option TheoryFace) (domain codomain : Name) (own : Signature) (
             names = m.names ∙ ap declared_names flat;
             classes = λ i x d p q. m.classes i x d p (at i d q);
             values = λ i x d p q.
-                due_alike (is_own (link_over first) d) (translate_class along d.class) (option_map (translate_value along) d.value) d x.image.value refl (member_at (flat_of first domain) i d (at i d q)) (m.values i x d p (at i d q));
+                due_alike (is_own (link_over first) d) (translate_class along d.class) (option_map (translate_value along) d.value) d x.image.value refl (place_member (flat_of first domain) i d (at i d q)) (m.values i x d p (at i d q));
             covered = λ theory s.
                 let t : sees (included_theories (link_over first)) theory ≡ true = ap (λ l. sees l theory) (included_same names first second alike named) ∙ s in
                 let c = m.covered theory t in
                 (c.0, covering_alike names first second alike named assigned items theory c.0 (includes_named names first second alike domain named.domain_is theory (among_member (included_theories (link_over first)) theory t)) c.1);
             shared = λ i target shared place by p j d q.
                 m.shared i target shared place by p j d
-                (ap (λ z. slice_get z j) (included_parts_alike names first second alike shared.domain (items (Sharing target shared place by) (member_at assigned i (Sharing target shared place by) p))) ∙ q);
+                (ap (λ z. slice_get z j) (included_parts_alike names first second alike shared.domain (items (Sharing target shared place by) (place_member assigned i (Sharing target shared place by) p))) ∙ q);
           }
         where
           flat : flat_of first domain ≡ flat_of second domain

@@ -4,12 +4,11 @@ use Rattle.std.proofs.Common.{◌≡◌, ◌↔◌, ℕ, zero, suc, Bool, true, 
 use Rattle.std.proofs.lemmas.Bool.{cases_Bool}
 use Rattle.name_meaning.specs.Names.{Name, same_name, is_among}
 use Rattle.log_meaning.specs.Log.{Library}
-use Rattle.list_laws.proofs.Members.{Member, map_in}
+use Rattle.list_laws.proofs.Members.{Member, map_in, member_place}
 use Rattle.name_laws.proofs.Order.{member_among, same_sound}
 use Rattle.walk_meaning.specs.Walks.{of_text, direct, walking, is_grounded}
 use Rattle.walk_laws.proofs.Walking.{present_in, depends_present}
 use Rattle.walk_laws.proofs.Reaching.{reach_closed, reach_first}
-use Rattle.holding_laws.proofs.Declared.{place_of}
 use Rattle.text_meaning.specs.Trees.{Written, Assign, Decl, Module, SigModule, ViewModule}
 use Rattle.lf_meaning.specs.HeadMaps.{HeadMap}
 use Rattle.library_meaning.specs.Faces.{TheoryFace, ViewFace, theory_face, Environment, theory_of, flat_signature}
@@ -49,7 +48,7 @@ module _ (library : Library) (name : Name) where
         same = λ x n. known_here library name x true n ∙ sym (told_under library x);
         includes = λ x face other n e m. there_reached other ((coherent.theories x face e).includes other (member_among face.includes other m));
         domains = λ x face structure n e m.
-            let p = place_of face.structures structure m in
+            let p = member_place face.structures structure m in
             there_reached structure.domain ((coherent.theories x face e).domains p.0 structure p.1);
         ends = λ x face n e. there_reached face.domain ((coherent.views x face e).domain);
       }

@@ -1,5 +1,6 @@
 -- How many verdicts stand.
 use Rattle.std.proofs.Common.{◌≡◌, ℕ, suc, ◌≤◌, Bool, true, false, cond, List, [], ◌∷◌, ◌++◌, ◌||◌, length, filter, slice_get, Option, Some, None, is_some, inl, inr, refl, sym, ap, ◌∙◌, subst, true≢false, arith}
+use Rattle.std.proofs.Math.Bool.{or-false}
 use Rattle.std.specs.List.{list_all}
 use Rattle.std.proofs.lemmas.Bool.{and_parts}
 use Rattle.name_meaning.specs.Names.{Name, same_name, comes_before, is_among, is_ascending}
@@ -104,10 +105,6 @@ or_true : (b : Bool) → (b || true) ≡ true
 or_true true = refl
 or_true false = refl
 
-or_false : (b : Bool) → (b || false) ≡ b
-or_false true = refl
-or_false false = refl
-
 module _ (dependencies : Dependencies) (H : History) (e : Entry) (c : ℕ) (l : IsLegal dependencies H) (f : MayFollow dependencies H e) (h : e.event ≡ Install c) (n : Name) (named : claim_at H c ≡ Some n) where
   makes : (x : Name) → stands dependencies (H ++ e ∷ []) x ≡ (stands dependencies H x || same_name x n)
   makes x = install_makes_told dependencies H e c x l f h ∙ ap (λ (o : Option Name). stands dependencies H x || is_name x o) named
@@ -124,7 +121,7 @@ module _ (dependencies : Dependencies) (H : History) (e : Entry) (c : ℕ) (l : 
       stood = makes n ∙ ap (λ (b : Bool). stands dependencies H n || b) (same_itself n) ∙ or_true (stands dependencies H n)
 
       others : (x : Name) → same_name x n ≡ false → stands dependencies (H ++ e ∷ []) x ≡ stands dependencies H x
-      others x s = makes x ∙ ap (λ (b : Bool). stands dependencies H x || b) s ∙ or_false (stands dependencies H x)
+      others x s = makes x ∙ ap (λ (b : Bool). stands dependencies H x || b) s ∙ or-false (stands dependencies H x)
 
       present : Member n (names_of (library_after H))
       present = subst (Member n) (same_names H e (ap edit_of h)) (standing_present dependencies (H ++ e ∷ []) (legal_more dependencies H e l f) n stood)

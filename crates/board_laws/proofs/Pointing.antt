@@ -17,6 +17,7 @@ use Rattle.board_laws.specs.PointLaws.{IsSeenAfter}
 use Rattle.list_laws.proofs.Places.{place_within, get_front, get_last, get_take, get_behind, take_front, take_length, length_take}
 use Rattle.board_machine_laws.proofs.Claiming.{claim_within, claim_front}
 use Rattle.board_laws.proofs.Legality.{edit_event_edit, close_event, claim_event, follows_event, legal_call}
+use Rattle.list_laws.proofs.Options.{some_of}
 
 pub seen_point : (dependencies : Dependencies) (seen : History) (pass : ℕ) → IsLegal dependencies seen → IsPoint dependencies seen pass seen
 seen_point dependencies seen pass l = record { goes_on = record { later = []; begins = sym (append-nil seen); others = refl }; legal = l }
@@ -194,10 +195,6 @@ wants_are_seen subject seen pass call after w =
     )
 
 -- ---- the job of a claim
-
-some_of : {A : Type 0} (o : Option A) → is_some o ≡ true → (x : A) × (o ≡ Some x)
-some_of None h = absurd (true≢false (sym h))
-some_of (Some x) h = (x, refl)
 
 -- a claim that may be ended is one of the history
 open_claim : (H : History) (pass c : ℕ) → may_call H pass (InstallCall c) ≡ true → c < length H

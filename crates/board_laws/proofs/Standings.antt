@@ -20,6 +20,7 @@ use Rattle.board_meaning.specs.Legal.{IsLegal}
 use Rattle.list_laws.proofs.Places.{place_within}
 use Rattle.board_machine_laws.proofs.Claiming.{claim_within, claim_front, is_name_some, some_is_name, agrees_since}
 use Rattle.board_laws.proofs.Legality.{legal_claim, legal_install}
+use Rattle.list_laws.proofs.Options.{some_of}
 
 pub installed_is : (e : Event) (c : ℕ) → installed_claim e ≡ Some c → e ≡ Install c
 installed_is (EditMade edit) c h = absurd (cc)
@@ -139,10 +140,6 @@ module _ (dependencies : Dependencies) (H : History) (l : IsLegal dependencies H
       let q = in_filter_map (λ (entry : Entry). installed_claim entry.event) H c m in
       let r = legal_install dependencies H l q.0 c q.1 q.2 q.3 in
       (q.0, place_within H q.0 q.1 q.2, (and_parts (is_open (take q.0 H) c) (is_by q.1.pass (slice_get (take q.0 H) c)) r.0).0, r.1)
-
-  some_of : {A : Type 0} (o : Option A) → is_some o ≡ true → (x : A) × (o ≡ Some x)
-  some_of None h = absurd (true≢false (sym h))
-  some_of (Some x) h = (x, refl)
 
   pub installed_claimed : (c : ℕ) → Member c (installed_claims H) → (n : Name) × (claim_at H c ≡ Some n)
   unfolding is_open

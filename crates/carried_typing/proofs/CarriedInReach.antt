@@ -8,7 +8,6 @@ use Rattle.log_meaning.specs.Log.{Library, is_present}
 use Rattle.name_laws.proofs.Order.{among_member, member_among}
 use Rattle.walk_meaning.specs.Reach.{reach}
 use Rattle.walk_laws.proofs.Reaching.{reach_first}
-use Rattle.holding_laws.proofs.Declared.{place_of}
 use Rattle.library_meaning.specs.Faces.{IsView, theory_face, Environment, theory_of}
 use Rattle.library_meaning.specs.Coherence.{IsCoherent}
 use Rattle.link_laws.proofs.Linked.{known_theory}
@@ -28,6 +27,7 @@ use Rattle.judged_laws.specs.CarryingLaws.{IsTranslated}
 use Rattle.judged_laws.proofs.Translated.{carry_is_translation}
 use Rattle.carried_typing.specs.CarriedTyping.{IsCarried, HaveReachOf, FacesCarryTyping, FacesCarryAlike}
 use Rattle.carried_typing.proofs.Carried.{translated_from, translated_to}
+use Rattle.list_laws.proofs.Members.{member_place}
 
 -- ---- two environments that are alike on a view and its ends
 
@@ -91,7 +91,7 @@ module _ (library : Library) (name : Name) where
           same = same;
           includes = λ x face other n e m. there_reached other ((reach_coherent.theories x face e).includes other (member_among face.includes other m));
           domains = λ x face structure n e m.
-              let p = place_of face.structures structure m in
+              let p = member_place face.structures structure m in
               there_reached structure.domain ((reach_coherent.theories x face e).domains p.0 structure p.1);
           ends = λ x face n e. there_reached face.domain ((reach_coherent.views x face e).domain);
         }

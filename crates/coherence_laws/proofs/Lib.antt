@@ -5,3 +5,4 @@ pub mod LibrariesHold
 pub mod AcceptedTrees
 pub mod SizesHold
 pub mod InclusionsReached
+pub mod BuildingHolds

@@ -4,7 +4,7 @@ use Rattle.std.specs.Prelude.{⊤}
 use Rattle.std.proofs.lemmas.Bool.{or_cases}
 use Rattle.name_meaning.specs.Names.{Name, Path, same_name}
 use Rattle.lf_meaning.specs.Signatures.{Class, Value, Declaration}
-use Rattle.list_laws.proofs.Members.{Member, in_append, append_left, in_flat_map, place_member}
+use Rattle.list_laws.proofs.Members.{Member, in_append, append_left, in_flat_map, place_member, member_place}
 use Rattle.name_laws.proofs.Order.{among_member, member_among}
 use Rattle.lf_meaning.specs.HeadMaps.{HeadMap}
 use Rattle.library_meaning.specs.Faces.{TheoryFace, ViewFace, Known, IsAbsent, IsRefused, IsTheory, IsView, theory_face, Environment, theory_of, structure_of, includes_of, own_of, own_part, own_parts, flat_signature, flat_of}
@@ -29,7 +29,6 @@ use Rattle.link_laws.proofs.Linked.{own_named}
 use Rattle.verdict_meaning.specs.Modules.{known_theory as theory_known, module_test, scope_in, is_used, unused_test, declared_value, structure_setting, declare, declare_all, empty_theory, view_setting, checked_view}
 use Rattle.holding_laws.specs.HoldingLaws.{Grows}
 use Rattle.holding_laws.specs.ExpansionHolds.{scope_signature, ScopeHolds}
-use Rattle.holding_laws.proofs.Declared.{place_of}
 use Rattle.holding_laws.proofs.Expanding.{standing_class_holds, standing_value_holds}
 use Rattle.link_coherence_laws.proofs.Onces.{Once, once_names, member_grows, HoldAfter}
 use Rattle.link_coherence_laws.specs.LinkTargets.{target_of, StructuresHold, HereHolds}
@@ -64,12 +63,13 @@ pub record Unused (here : TheoryFace) (name : Name) : Type 0 where
   pub constant : own_at here.own (name ∷ []) ≡ None
   pub structure : structure_of here.structures name ≡ None
 
+pub unused_where : (here : TheoryFace) (name : Name) → not (is_used here name) ≡ true → Unused here name
+unused_where here name h =
+    let q = neither (is_some (own_at here.own (name ∷ []))) (is_some (structure_of here.structures name)) h in
+    record { constant = none_of (own_at here.own (name ∷ [])) q.0; structure = none_of (structure_of here.structures name) q.1 }
+
 pub unused_by : (here : TheoryFace) (name : Written) (done : ⊤) → unused_test here name ≡ Ok done → Unused here (first_name name.path)
-unused_by here name done h =
-    let n : Name = first_name name.path in
-    let t = demand_holds (not (is_used here n)) name.span Rule.DuplicateName name.path done h in
-    let q = neither (is_some (own_at here.own (n ∷ []))) (is_some (structure_of here.structures n)) t in
-    record { constant = none_of (own_at here.own (n ∷ [])) q.0; structure = none_of (structure_of here.structures n) q.1 }
+unused_by here name done h = unused_where here (first_name name.path) (demand_holds (not (is_used here (first_name name.path))) name.span Rule.DuplicateName name.path done h)
 
 -- ---- the map of a link
 
@@ -90,7 +90,7 @@ module _ (environment : Environment) (coherent : IsCoherent environment) where
   -- ---- a theory
 
   module _ (here : TheoryFace) (c : IsCoherentTheory environment here.name here) (absent : environment here.name ≡ IsAbsent) where
-    here_ok : HereHolds environment (Some here)
+    pub here_ok : HereHolds environment (Some here)
     here_ok =
         record {
           absent = λ face e. subst (λ (z : TheoryFace). environment z.name ≡ IsAbsent) (same_Some _ _ e) absent;
@@ -116,7 +116,7 @@ module _ (environment : Environment) (coherent : IsCoherent environment) where
 
     fresh_by : (name : Name) → structure_of here.structures name ≡ None → (d : Declaration) → Member d here.own → (rest : Path) → d.name.path ≡ name ∷ rest → 0 < length rest → ⊥
     fresh_by name v d m rest e l =
-        let p = place_of here.own d m in
+        let p = member_place here.own d m in
         let k = c.induced p.0 d p.1 (subst (λ z. 1 < length z) (sym e) (omega (arith, l))) in
         no_structure here.structures name v k.structure (place_member here.structures k.place k.structure k.found) (heads (sym k.path ∙ e))
       where
@@ -148,6 +148,22 @@ module _ (environment : Environment) (coherent : IsCoherent environment) where
       pub named : next.name ≡ here.name
       pub is : IsCoherentTheory environment next.name next
 
+    -- a structure, the link of which has a map
+    pub structure_next : (name : Written) (from : Name) (assigns : List Assign) (along : HeadMap) → is_some (theory_of environment from) ≡ true → Unused here (first_name name.path) → link_map (structure_setting environment here name from) assigns ≡ Ok along
+        → Next (with_structure here (structure_setting environment here name from) (first_name name.path) along)
+    structure_next name from assigns along s unused l =
+        let ok = setting_ok name from s unused.structure in
+        let m = link_holds (structure_setting environment here name from) ok assigns along l in
+        let e = added_is_induced (structure_setting environment here name from) ok (first_name name.path) (flat_signature environment here ++ added_all (structure_setting environment here name from) (flat_of environment from) along) along refl m.0 in
+        record {
+          named = refl;
+          is = structure_step environment coherent here c absent (structure_setting environment here name from) ok (first_name name.path) along refl refl unused.constant unused.structure
+              (subst (λ z. IsCoherentMap (flat_of environment from) (flat_signature environment here ++ z) along) e m.0)
+              (subst (λ z. Once (flat_signature environment here ++ z)) e m.1)
+              (subst (HoldAfter (flat_signature environment here)) e m.2) s
+              (induced_members (structure_setting environment here name from) ok (first_name name.path) (flat_signature environment here ++ added_all (structure_setting environment here name from) (flat_of environment from) along) along m.0);
+        }
+
     pub declare_holds : (decl : Decl) (next : TheoryFace) → declare environment here decl ≡ Ok next → Next next
     declare_holds (IncludeDecl included) next h =
         let t = came_by (module_test environment included.path included) _ next h in
@@ -171,21 +187,6 @@ module _ (environment : Environment) (coherent : IsCoherent environment) where
         let unused = unused_by here name u.item u.came in
         let s : is_some (theory_of environment from) ≡ true = ap is_some (theory_there environment from t.item (known_by_test domain.span name.path (environment from) t.item t.came)) in
         subst Next (good_same l.goes) (structure_next name from assigns l.item s unused l.came)
-      where
-        structure_next : (name : Written) (from : Name) (assigns : List Assign) (along : HeadMap) → is_some (theory_of environment from) ≡ true → Unused here (first_name name.path) → link_map (structure_setting environment here name from) assigns ≡ Ok along
-            → Next (with_structure here (structure_setting environment here name from) (first_name name.path) along)
-        structure_next name from assigns along s unused l =
-            let ok = setting_ok name from s unused.structure in
-            let m = link_holds (structure_setting environment here name from) ok assigns along l in
-            let e = added_is_induced (structure_setting environment here name from) ok (first_name name.path) (flat_signature environment here ++ added_all (structure_setting environment here name from) (flat_of environment from) along) along refl m.0 in
-            record {
-              named = refl;
-              is = structure_step environment coherent here c absent (structure_setting environment here name from) ok (first_name name.path) along refl refl unused.constant unused.structure
-                  (subst (λ z. IsCoherentMap (flat_of environment from) (flat_signature environment here ++ z) along) e m.0)
-                  (subst (λ z. Once (flat_signature environment here ++ z)) e m.1)
-                  (subst (HoldAfter (flat_signature environment here)) e m.2) s
-                  (induced_members (structure_setting environment here name from) ok (first_name name.path) (flat_signature environment here ++ added_all (structure_setting environment here name from) (flat_of environment from) along) along m.0);
-            }
 
   pub record Whole (name : Name) (face : TheoryFace) : Type 0 where
     pub named : face.name ≡ name
@@ -233,6 +234,21 @@ module _ (environment : Environment) (coherent : IsCoherent environment) where
   view_ok name domain target codomain s e =
       between_holds (view_setting environment name domain target codomain) coherent (view_is_between name domain target codomain s e)
 
+  -- a view, the link of which has a map
+  pub view_next : (name : Written) (from to : Name) (target : TheoryFace) (assigns : List Assign) (along : HeadMap) → is_some (theory_of environment from) ≡ true → theory_of environment to ≡ Some target → link_map (view_setting environment name from target to) assigns ≡ Ok along
+      → IsCoherentView environment (first_name name.path) (record { name = first_name name.path; domain = from; codomain = to; map = along })
+  view_next name from to target assigns along s t l =
+      let ok = view_ok name from target to s t in
+      let m = link_holds (view_setting environment name from target to) ok assigns along l in
+      let n = nothing_added (view_setting environment name from target to) (flat_of environment from) along refl in
+      record {
+        named = refl;
+        domain = s;
+        codomain = ap is_some t;
+        map_is = subst (λ z. IsCoherentMap (flat_of environment from) z along) (append-nil (flat_signature environment target) ∙ ap (λ o. own_parts environment (includes_of o) ++ own_of o) (sym t))
+            (subst (λ z. IsCoherentMap (flat_of environment from) (flat_signature environment target ++ z) along) n m.0);
+      }
+
   pub view_holds : (name domain codomain : Written) (assigns : List Assign) (face : ViewFace) → checked_view environment name domain codomain assigns ≡ Ok face → IsCoherentView environment face.name face × (face.name ≡ first_name name.path)
   view_holds name domain codomain assigns face h =
       let a = came_by (module_test environment name.path domain) _ face h in
@@ -243,17 +259,3 @@ module _ (environment : Environment) (coherent : IsCoherent environment) where
       let s = theory_there environment from a.item (known_by_test domain.span name.path (environment from) a.item a.came) in
       let t = theory_there environment to b.item (known_by_test codomain.span name.path (environment to) b.item b.came) in
       subst (λ (z : ViewFace). IsCoherentView environment z.name z × (z.name ≡ first_name name.path)) (good_same l.goes) (view_next name from to b.item assigns l.item (ap is_some s) t l.came, refl)
-    where
-      view_next : (name : Written) (from to : Name) (target : TheoryFace) (assigns : List Assign) (along : HeadMap) → is_some (theory_of environment from) ≡ true → theory_of environment to ≡ Some target → link_map (view_setting environment name from target to) assigns ≡ Ok along
-          → IsCoherentView environment (first_name name.path) (record { name = first_name name.path; domain = from; codomain = to; map = along })
-      view_next name from to target assigns along s t l =
-          let ok = view_ok name from target to s t in
-          let m = link_holds (view_setting environment name from target to) ok assigns along l in
-          let n = nothing_added (view_setting environment name from target to) (flat_of environment from) along refl in
-          record {
-            named = refl;
-            domain = s;
-            codomain = ap is_some t;
-            map_is = subst (λ z. IsCoherentMap (flat_of environment from) z along) (append-nil (flat_signature environment target) ∙ ap (λ o. own_parts environment (includes_of o) ++ own_of o) (sym t))
-                (subst (λ z. IsCoherentMap (flat_of environment from) (flat_signature environment target ++ z) along) n m.0);
-          }

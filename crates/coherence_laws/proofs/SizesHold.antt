@@ -2,13 +2,14 @@
 use Rattle.std.proofs.Common.{◌≡◌, ℕ, length, ◌++◌, Some, refl, sym, ap, ◌∙◌}
 use Rattle.name_meaning.specs.Names.{Name}
 use Rattle.log_meaning.specs.Log.{Library}
-use Rattle.library_meaning.specs.Faces.{TheoryFace, Environment, flat_signature}
+use Rattle.library_meaning.specs.Faces.{TheoryFace, Environment, flat_signature, flat_of}
 use Rattle.verdict_meaning.specs.Verdicts.{Theory, Accepted}
 use Rattle.verdict_meaning.specs.Rounds.{verdicts, known_of, verdict_of, told_by, known_to}
-use Rattle.coherence_laws.specs.CoherenceLaws.{SizesAreLengths, GroundedKnowSizes, ClosedHaveSizes}
+use Rattle.coherence_laws.specs.CoherenceLaws.{SizesAreLengths, GroundedKnowSizes, ClosedHaveSizes, MapsHaveLengths}
 use Rattle.coherence_laws.proofs.Transfer.{Extends, parts_same}
 use Rattle.coherence_laws.proofs.LibrariesHold.{extends_to, theory_shown, sound, tells_more, accepted_theory, closed_extends, grounded_short}
 use Rattle.coherence_laws.proofs.AcceptedTrees.{from_declarations, from_library}
+use Rattle.link_laws.proofs.Listing.{same_length}
 
 -- over all that knows what the theory knows
 size_over : (library : Library) (name : Name) (face : TheoryFace) (size : ℕ) (more : Environment) → Extends (known_to library name) more
@@ -29,3 +30,6 @@ grounded_know_sizes library name other face size g m h =
 
 pub closed_have_sizes : ClosedHaveSizes
 closed_have_sizes library names name face size c m h = size_over library name face size (known_of names (verdicts library)) (closed_extends library names c name m) h
+
+pub maps_have_lengths : MapsHaveLengths
+maps_have_lengths environment name face coherent e = same_length face.map (flat_of environment face.domain) (coherent.views name face e).map_is.names

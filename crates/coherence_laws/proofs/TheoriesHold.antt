@@ -5,7 +5,7 @@ use Rattle.std.proofs.lemmas.Bool.{and_from}
 use Rattle.name_meaning.specs.Names.{Name, Path, same_name}
 use Rattle.lf_meaning.specs.Terms.{Constant}
 use Rattle.lf_meaning.specs.Signatures.{Class, Value, Declaration, Signature, declaration_of}
-use Rattle.list_laws.proofs.Members.{Member, in_append, append_left, append_right, in_flat_map, flat_map_in, find_none, place_member}
+use Rattle.list_laws.proofs.Members.{Member, in_append, append_left, append_right, in_flat_map, flat_map_in, find_none, place_member, member_place}
 use Rattle.name_laws.proofs.Order.{among_member, member_among, same_sound, same_itself}
 use Rattle.list_laws.proofs.Places.{get_more, place_within, get_front, get_last}
 use Rattle.lf_meaning.specs.HeadMaps.{HeadMap}
@@ -20,7 +20,7 @@ use Rattle.link_meaning.specs.Assignments.{Setting}
 use Rattle.link_meaning.specs.Induced.{induced, with_structure}
 use Rattle.link_laws.proofs.Linked.{own_named}
 use Rattle.holding_laws.specs.HoldingLaws.{Grows}
-use Rattle.holding_laws.proofs.Declared.{place_of, front_grows}
+use Rattle.holding_laws.proofs.Declared.{front_grows}
 use Rattle.link_coherence_laws.proofs.Onces.{Once, once_append, once_names, names_once, once_right, member_grows, member_declared, HoldAfter, hold_append, hold_more, after_declarations, own_is_once, closure_once, closure_holds, declarations_from}
 use Rattle.link_coherence_laws.proofs.WordsHold.{map_grows, includes_closed, includes_theories, paths_of_theory, absent_is_none}
 use Rattle.link_coherence_laws.proofs.ImagesHold.{SettingHolds}
@@ -81,7 +81,7 @@ module _ (environment : Environment) (coherent : IsCoherent environment) where
 
   module _ (here : TheoryFace) (c : IsCoherentTheory environment here.name here) (absent : environment here.name ≡ IsAbsent) where
     named_here : (d : Declaration) → Member d here.own → d.name.theory ≡ here.name
-    named_here d m = let p = place_of here.own d m in c.own_named p.0 d p.1
+    named_here d m = let p = member_place here.own d m in c.own_named p.0 d p.1
 
     pub here_once : Once (flat_signature environment here)
     here_once = once_append (own_parts environment here.includes) here.own (closure_once environment coherent here.includes c.includes_closure) (names_once here.own c.own_once) (parts_apart here.includes here.own here.name c.includes_others named_here)
@@ -190,7 +190,7 @@ module _ (environment : Environment) (coherent : IsCoherent environment) where
         record {
           named = refl;
           own_named = λ i d p. ⊎_elim (λ q. named_here d q) (λ q. (let f = from d q in ap (λ z. z.theory) f.named ∙ codomain)) (in_own i d p);
-          own_paths = λ i d p. ⊎_elim (λ q. (let r = place_of here.own d q in c.own_paths r.0 d r.1)) (λ q. (let f = from d q in subst (λ (z : Constant). 0 < length z.path) (sym f.named) (omega arith))) (in_own i d p);
+          own_paths = λ i d p. ⊎_elim (λ q. (let r = member_place here.own d q in c.own_paths r.0 d r.1)) (λ q. (let f = from d q in subst (λ (z : Constant). 0 < length z.path) (sym f.named) (omega arith))) (in_own i d p);
           own_once = once_names own (once_right (own_parts environment here.includes) own whole);
           includes = c.includes;
           includes_closure = c.includes_closure;
@@ -241,13 +241,13 @@ module _ (environment : Environment) (coherent : IsCoherent environment) where
             rests h = cc
 
         free : {i : ℕ} (x : StructureFace) (d : Declaration) → (slice_get here.structures i ≡ Some x) ⊎ ((i ≡ length here.structures) × (new ≡ x)) → Member d here.own ⊎ Member d (induced setting name along) → d.name.path ≢ x.name ∷ []
-        free x d (inl p) (inl q) = let r = place_of here.own d q in c.structures_free _ r.0 x d p r.1
+        free x d (inl p) (inl q) = let r = member_place here.own d q in c.structures_free _ r.0 x d p r.1
         free x d (inr p) (inl q) = λ e. not_at here.own (name ∷ []) u d q (e ∙ ap (λ (z : StructureFace). z.name ∷ []) (sym p.1))
         free x d p (inr q) = λ e. (let f = from d q in single f.source x.name f.own (sym (ap (λ z. z.path) f.named) ∙ e))
 
         induced_by : (d : Declaration) → 1 < length d.name.path → Member d here.own ⊎ Member d (induced setting name along) → IsInduced environment (with_structure here setting name along) d
         induced_by d l (inl q) =
-            let r = place_of here.own d q in
+            let r = member_place here.own d q in
             let k = c.induced r.0 d r.1 l in
             record { place = k.place; structure = k.structure; rest = k.rest; source = k.source; found = get_front here.structures (new ∷ []) k.place (place_within here.structures k.place k.structure k.found) ∙ k.found; path = k.path; declared = k.declared; alike = k.alike }
         induced_by d l (inr q) =

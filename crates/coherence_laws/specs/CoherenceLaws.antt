@@ -2,7 +2,7 @@
 use Rattle.std.specs.Prelude.{◌≡◌, ℕ, true, List, length, Some}
 use Rattle.name_meaning.specs.Names.{Name, is_among}
 use Rattle.log_meaning.specs.Log.{Library, is_present}
-use Rattle.library_meaning.specs.Faces.{TheoryFace, flat_signature}
+use Rattle.library_meaning.specs.Faces.{TheoryFace, ViewFace, IsView, Environment, flat_signature, flat_of}
 use Rattle.library_meaning.specs.Coherence.{IsCoherent}
 use Rattle.text_meaning.specs.Dependencies.{dependencies}
 use Rattle.verdict_meaning.specs.Verdicts.{Theory, Accepted}
@@ -46,3 +46,7 @@ abbrev pub ClosedHaveSizes : Type 0
 ClosedHaveSizes =
     (library : Library) (names : List Name) (name : Name) (face : TheoryFace) (size : ℕ) → AreClosed library names → is_among names name ≡ true
     → verdict_of library name ≡ Some (Accepted (Theory face size)) → size ≡ length (flat_signature (known_of names (verdicts library)) face)
+
+-- The map of a view is as long as the flat signature of its domain, where all that is known is coherent.
+abbrev pub MapsHaveLengths : Type 0
+MapsHaveLengths = (environment : Environment) (name : Name) (face : ViewFace) → IsCoherent environment → environment name ≡ IsView face → length face.map ≡ length (flat_of environment face.domain)

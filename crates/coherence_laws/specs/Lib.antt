@@ -1,2 +1,4 @@
 pub mod CoherenceLaws
 pub mod InclusionLaws
+pub mod BuildingLaws
+pub mod LinksSoFar

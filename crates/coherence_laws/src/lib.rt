@@ -2,5 +2,6 @@
 //! code: each function here does nothing, and its contract is a law.
 #![tactic(auto)]
 
+pub mod building_laws;
 pub mod face_laws;
 pub mod inclusion_laws;

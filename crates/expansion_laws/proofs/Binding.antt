@@ -3,7 +3,6 @@ use Rattle.std.proofs.Common.{◌≡◌, Bool, true, false, Option, Some, None, 
 use Rattle.std.specs.Prelude.{⊤}
 use Rattle.text_meaning.specs.Tokens.{Span}
 use Rattle.expansion_meaning.specs.Rules.{Rule}
-use Rattle.answer_meaning.specs.Answers.{◌>>=◌}
 use Rattle.expansion_meaning.specs.Answers.{must, or_broken}
 use Rattle.list_laws.proofs.Answers.{ok_same}
 

@@ -8,7 +8,7 @@ use Rattle.lf_meaning.specs.Judgements.{Checks, Synthesises, IsFamily, IsKind, I
 use Rattle.lf_typing.proofs.Declared.{class_more}
 use Rattle.lf_typing.proofs.Typed.{more_checks, more_family, more_kind}
 use Rattle.lf_typing.proofs.HeadTyping.{synthesised_is_family}
-use Rattle.list_laws.proofs.Members.{Member}
+use Rattle.list_laws.proofs.Members.{Member, member_place}
 use Rattle.list_laws.proofs.Places.{split_at}
 use Rattle.translation_meaning.specs.Heads.{Head, ObjectHead, FamilyHead}
 use Rattle.translation_meaning.specs.Translation.{object_value, family_value}
@@ -22,7 +22,7 @@ use Rattle.translation_meaning.specs.AtomicFamilies.{IsAtomicFamily}
 use Rattle.expansion_meaning.specs.Stands.{BeginsAs, NameStands, StandsObject, StandsHead, StandsArguments, StandsFamily, StandsKind, StandsClass, StandsFamilyValue, NameGives, BuildsValue, StandsValue}
 use Rattle.holding_laws.specs.HoldingLaws.{Grows}
 use Rattle.holding_laws.specs.ExpansionHolds.{scope_signature}
-use Rattle.holding_laws.proofs.Declared.{place_of, class_in}
+use Rattle.holding_laws.proofs.Declared.{class_in}
 use Rattle.holding_laws.proofs.Expanding.{scope_member}
 use Rattle.expansion_typing.specs.TypingOfExpansion.{IsTypedScope, StandingObjectChecks, StandingHeadIsTyped, TakenArgumentsAreTyped, StandingFamilyIsFamily, StandingKindIsKind, StandingClassIsClass, StandingFamilyValueIsFamily, StandingValueFits}
 use Rattle.translation_sort_laws.proofs.KindDomains.{domains_append}
@@ -226,7 +226,7 @@ module _ (scope : Scope) (sig : Signature) (typed : IsSignature sig) (knows : (d
 
 pub scope_knows : (scope : Scope) → IsTypedScope scope → (d : Declaration) → Member d (scope_signature scope) → DeclaredTyped (scope_signature scope) d
 scope_knows scope ok d m =
-    let p = place_of (scope_signature scope) d m in
+    let p = member_place (scope_signature scope) d m in
     let before : Signature = take p.0 (scope_signature scope) in
     let after : Signature = drop (suc p.0) (scope_signature scope) in
     let parts : scope_signature scope ≡ before ++ (d ∷ after) = split_at (scope_signature scope) p.0 d p.1 in

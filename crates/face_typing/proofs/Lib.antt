@@ -3,3 +3,4 @@ pub mod TheoriesTyped
 pub mod ModulesTyped
 pub mod TypingTransfers
 pub mod LibrariesTyped
+pub mod BuildingTyped

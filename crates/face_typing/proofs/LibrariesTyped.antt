@@ -1,5 +1,5 @@
 -- The faces of all accepted modules of a library are well typed, and so flat signatures, views and structures.
-use Rattle.std.proofs.Common.{List, ◌≡◌, ℕ, zero, suc, Bool, true, false, ◌++◌, length, Option, Some, None, Ok, Err, refl, sym, ap, ◌∙◌, subst}
+use Rattle.std.proofs.Common.{List, ◌≡◌, ℕ, zero, suc, Bool, true, false, ◌++◌, length, Option, Some, None, Ok, Err, refl, sym, ◌∙◌, subst}
 use Rattle.std.specs.Prelude.{⊤}
 use Rattle.lf_meaning.specs.Judgements.{IsSignature}
 use Rattle.name_meaning.specs.Names.{same_name as same_bytes, Name, Text, is_among}
@@ -24,13 +24,13 @@ use Rattle.verdict_laws.proofs.Shortness.{Short, short_reached}
 use Rattle.verdict_laws.proofs.Rounds.{in_others}
 use Rattle.verdict_laws.proofs.Verdicts.{verdict_is_judged}
 use Rattle.coherence_laws.specs.CoherenceLaws.{AreClosed}
-use Rattle.coherence_laws.proofs.ModulesHold.{empty_holds, declare_all_holds}
+use Rattle.coherence_laws.proofs.ModulesHold.{empty_holds}
 use Rattle.coherence_laws.proofs.LibrariesHold.{cycle_refuses, absent_reach, others_not, extends_to, itself_absent, told, theory_shown, view_shown, Sound, verdict_text, verdict_reached, sound, tells_more, accepted_theory, accepted_view, library_coherent, listed, closed_extends, grounded_short}
 use Rattle.row_typing.specs.TypedFaces.{IsTypedTheory, IsTypedView, IsTypedEnvironment}
 use Rattle.face_typing.specs.FaceTypingLaws.{FacesAreTyped, TheoriesFlatten, ViewsCarryTyping, StructuresCarryTyping, GroundedKnowTyped, ClosedAreTyped, KnownViewsTranslate, KnownStructuresTranslate, KnownViewsCarryTyping, KnownStructuresCarryTyping}
-use Rattle.face_typing.specs.JudgedTyping.{DeclaredTheoriesAreTyped, DeclaredStructuresAreTyped, JudgedTheoriesAreTyped, JudgedViewsAreTyped}
+use Rattle.face_typing.specs.JudgedTyping.{JudgedTheoriesAreTyped, JudgedViewsAreTyped}
 use Rattle.link_typing.proofs.LinkInterface.{LinksAreTyped}
-use Rattle.face_typing.proofs.ModulesTyped.{declare_all_typed, structure_is_typed, empty_typed, view_typed}
+use Rattle.face_typing.proofs.ModulesTyped.{declare_all_typed, empty_typed, view_typed}
 use Rattle.face_typing.proofs.TypingTransfers.{theory_typing_transfers, view_typing_transfers}
 use Rattle.row_typing.proofs.ProperImages.{images_proper}
 use Rattle.std.proofs.lemmas.Option.{same_Some}
@@ -88,18 +88,6 @@ judged_theories_are_typed links environment name ungrounded text face size coher
 pub judged_views_are_typed : LinksAreTyped → JudgedViewsAreTyped
 judged_views_are_typed links environment name ungrounded text face coherent typed absent h =
     subst (HoldsTyped environment) h (judge_typed links environment coherent typed name absent ungrounded text)
-
--- ---- a theory that is being built
-
-pub declared_theories_are_typed : LinksAreTyped → DeclaredTheoriesAreTyped
-declared_theories_are_typed links environment name decls here coherent typed absent h =
-    declare_all_typed links environment coherent typed decls name (empty_theory name) here refl absent (empty_holds environment coherent name) (empty_typed links environment coherent typed name) h
-
-pub declared_structures_are_typed : LinksAreTyped → DeclaredStructuresAreTyped
-declared_structures_are_typed links environment name decls here written domain assigns along coherent typed absent h s v l =
-    let w = declare_all_holds environment coherent decls name (empty_theory name) here refl absent (empty_holds environment coherent name) h in
-    let t = declared_theories_are_typed links environment name decls here coherent typed absent h in
-    structure_is_typed links environment coherent typed here w.is (ap environment w.named ∙ absent) t written domain assigns along s v l
 
 -- ---- a library
 

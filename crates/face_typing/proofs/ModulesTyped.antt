@@ -35,14 +35,14 @@ module _ (links : LinksAreTyped) (environment : Environment) (coherent : IsCoher
   -- ---- a theory
 
   module _ (here : TheoryFace) (c : IsCoherentTheory environment here.name here) (absent : environment here.name ≡ IsAbsent) (t : IsTypedTheory environment here) where
-    here_typed : HereTyped environment (Some here)
+    pub here_typed : HereTyped environment (Some here)
     here_typed =
         record {
           signature = λ face e. subst (λ (z : TheoryFace). IsSignature (flat_signature environment z)) (same_Some _ _ e) t.signature;
           structures = λ face e. subst (λ (z : TheoryFace). (i : ℕ) (x : StructureFace) → slice_get z.structures i ≡ Some x → IsTypedMap (flat_of environment x.domain) (flat_signature environment z) x.map) (same_Some _ _ e) t.maps;
         }
 
-    scope_typed : IsTypedScope (scope_in environment here)
+    pub scope_typed : IsTypedScope (scope_in environment here)
     scope_typed = record { typed = t.signature; once = (scope_ok environment coherent here c absent).once }
 
     value_typed : (label : Path) (class : Class) (o : Option Expr) (value : Option Value) → IsClass (flat_signature environment here) class → declared_value (scope_in environment here) label class o ≡ Ok value → ValueFits (flat_signature environment here) value class
@@ -69,7 +69,7 @@ module _ (links : LinksAreTyped) (environment : Environment) (coherent : IsCoher
           subst (λ z. IsTypedMap (flat_of environment from) z along) (append_assoc (own_parts environment here.includes) here.own more) map_is,
         )
 
-    declare_typed : (decl : Decl) (next : TheoryFace) → declare environment here decl ≡ Ok next → IsTypedTheory environment next
+    pub declare_typed : (decl : Decl) (next : TheoryFace) → declare environment here decl ≡ Ok next → IsTypedTheory environment next
     declare_typed (IncludeDecl included) next h =
         let m = came_by (module_test environment included.path included) _ next h in
         let n : Name = first_name included.path in
@@ -102,6 +102,13 @@ module _ (links : LinksAreTyped) (environment : Environment) (coherent : IsCoher
 
   -- ---- a view
 
+  -- a view, the link of which has a map
+  pub view_next : (name : Written) (from to : Name) (target : TheoryFace) (assigns : List Assign) (along : HeadMap) → is_some (theory_of environment from) ≡ true → theory_of environment to ≡ Some target → link_map (view_setting environment name from target to) assigns ≡ Ok along
+      → IsTypedView environment (record { name = first_name name.path; domain = from; codomain = to; map = along })
+  view_next name from to target assigns along s t l =
+      between_typed links (view_setting environment name from target to) assigns along coherent typed
+      (view_is_between environment coherent name from target to s t) l
+
   pub view_typed : (name domain codomain : Written) (assigns : List Assign) (face : ViewFace) → checked_view environment name domain codomain assigns ≡ Ok face → IsTypedView environment face
   view_typed name domain codomain assigns face h =
       let a = came_by (module_test environment name.path domain) _ face h in
@@ -112,9 +119,3 @@ module _ (links : LinksAreTyped) (environment : Environment) (coherent : IsCoher
       let s = theory_there environment from a.item (known_by_test domain.span name.path (environment from) a.item a.came) in
       let t = theory_there environment to b.item (known_by_test codomain.span name.path (environment to) b.item b.came) in
       subst (IsTypedView environment) (good_same l.goes) (view_next name from to b.item assigns l.item (ap is_some s) t l.came)
-    where
-      view_next : (name : Written) (from to : Name) (target : TheoryFace) (assigns : List Assign) (along : HeadMap) → is_some (theory_of environment from) ≡ true → theory_of environment to ≡ Some target → link_map (view_setting environment name from target to) assigns ≡ Ok along
-          → IsTypedView environment (record { name = first_name name.path; domain = from; codomain = to; map = along })
-      view_next name from to target assigns along s t l =
-          between_typed links (view_setting environment name from target to) assigns along coherent typed
-          (view_is_between environment coherent name from target to s t) l

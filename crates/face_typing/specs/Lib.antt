@@ -1,2 +1,3 @@
 pub mod FaceTypingLaws
 pub mod JudgedTyping
+pub mod BuildingTyping

@@ -2,7 +2,8 @@
 
 ghost use Rattle.row_typing.specs.TypedLinks.{CoherentMapsAreProper};
 ghost use Rattle.face_typing.specs.FaceTypingLaws.{FacesAreTyped, GroundedKnowTyped, ClosedAreTyped, KnownViewsTranslate, KnownStructuresTranslate, KnownViewsCarryTyping, KnownStructuresCarryTyping, TheoriesFlatten, ViewsCarryTyping, StructuresCarryTyping};
-ghost use Rattle.face_typing.specs.JudgedTyping.{DeclaredTheoriesAreTyped, DeclaredStructuresAreTyped, JudgedTheoriesAreTyped, JudgedViewsAreTyped};
+ghost use Rattle.face_typing.specs.BuildingTyping.{BuiltScopesAreTyped, BuiltTheoriesAreTyped, EmptyIsTyped, InclusionsKeepTyped, ConstantsKeepTyped, StructuresKeepTyped, DeclarationsKeepTyped, AllDeclarationsKeepTyped, ViewsAreTyped};
+ghost use Rattle.face_typing.specs.JudgedTyping.{JudgedTheoriesAreTyped, JudgedViewsAreTyped};
 
 /// In each library the faces of accepted modules are well typed; so an accepted theory flattens to a well-typed signature, and
 /// an accepted view, and each structure, carries every typing judgement of its domain to one of its codomain.
@@ -33,11 +34,19 @@ pub fn law_carrying()
     ensures structures { KnownStructuresCarryTyping }
 {}
 
-/// Where all that is known of others is coherent and well typed, and nothing is known of a module itself, a theory is well typed
-/// after each of its declarations, and the map of a structure that is being declared is typed.
+/// Where all that is known of others is coherent and well typed, and nothing is known of a theory itself, it is well typed after
+/// each of its declarations: it begins so, and an inclusion, a constant and a structure keep it so. The map of a structure that
+/// is being declared is typed, and so is the map of a view.
 pub fn law_typed_declarations()
-    ensures theories { DeclaredTheoriesAreTyped }
-    ensures structures { DeclaredStructuresAreTyped }
+    ensures scope { BuiltScopesAreTyped }
+    ensures words { BuiltTheoriesAreTyped }
+    ensures empty { EmptyIsTyped }
+    ensures inclusions { InclusionsKeepTyped }
+    ensures constants { ConstantsKeepTyped }
+    ensures structures { StructuresKeepTyped }
+    ensures declaration { DeclarationsKeepTyped }
+    ensures theories { AllDeclarationsKeepTyped }
+    ensures views { ViewsAreTyped }
 {}
 
 /// So is what a text is accepted as: a theory, or the map of a view.

@@ -1,9 +1,8 @@
 -- The declarations of a signature whose names stand once, and that hold only what stands before them.
-use Rattle.std.proofs.Common.{◌≡◌, ℕ, zero, suc, Bool, true, false, cond, List, [], ◌∷◌, ◌++◌, take, drop, slice_get, Option, Some, refl, sym, ap, ◌∙◌, subst, inl, inr}
+use Rattle.std.proofs.Common.{◌≡◌, ℕ, zero, suc, Bool, true, false, cond, [], ◌∷◌, ◌++◌, take, drop, slice_get, Some, refl, sym, ap, ◌∙◌, subst}
 use Rattle.lf_meaning.specs.Terms.{Constant}
 use Rattle.lf_meaning.specs.Signatures.{Declaration, Signature, same_constant, declaration_of, undefined_class, declared_class, class_of}
 use Rattle.lf_term_laws.proofs.Equality.{same_constant_sound, same_constant_itself}
-use Rattle.list_laws.proofs.Members.{Member}
 use Rattle.list_laws.proofs.Places.{take_drop}
 use Rattle.library_meaning.specs.Holding.{ClassHolds, OptionalValueHolds}
 use Rattle.library_meaning.specs.Coherence.{DeclarationsHold}
@@ -12,15 +11,6 @@ use Rattle.holding_laws.specs.ExpansionHolds.{NamesOnce}
 use Rattle.holding_laws.proofs.Growing.{class_grows, optional_grows}
 use Rattle.std.proofs.lemmas.Option.{same_Some}
 use Rattle.lf_term_laws.proofs.Declarations.{declared_some, declaration_front}
-
-pub place_of : {A : Type 0} (xs : List A) (x : A) → Member x xs → (i : ℕ) × (slice_get xs i ≡ Some x)
-place_of [] x m = absurd m
-place_of (y ∷ ys) x (inl e) = (zero, ap Some (sym e))
-place_of (y ∷ ys) x (inr m) = let p = place_of ys x m in (suc p.0, p.1)
-
-front_by : (b : Bool) (x d : Declaration) (o q : Option Declaration) → cond b (Some x) o ≡ Some d → (o ≡ Some d → q ≡ Some d) → cond b (Some x) q ≡ Some d
-front_by true x d o q h f = h
-front_by false x d o q h f = f h
 
 -- a signature grows at its end
 pub front_grows : (xs ys : Signature) → Grows xs (xs ++ ys)

@@ -4,7 +4,7 @@ use Rattle.name_meaning.specs.Names.{Path}
 use Rattle.lf_meaning.specs.Terms.{Object, Family, Pi, Kind, Ty, PiKind, domain_count}
 use Rattle.lf_meaning.specs.Raising.{raise_family}
 use Rattle.lf_meaning.specs.Signatures.{Class, FamilyClass, KindClass, Value, SameAs, TermValue, FamilyValue, Declaration, Signature, undefined_class, class_of}
-use Rattle.list_laws.proofs.Members.{Member, append_left, append_right, flat_map_in, find_found, place_member}
+use Rattle.list_laws.proofs.Members.{Member, append_left, append_right, flat_map_in, find_found, place_member, member_place}
 use Rattle.name_laws.proofs.Order.{among_member}
 use Rattle.translation_meaning.specs.Heads.{Head, ObjectHead, FamilyHead}
 use Rattle.library_meaning.specs.Faces.{own_part, own_parts}
@@ -18,7 +18,7 @@ use Rattle.expansion_meaning.specs.NameHeads.{class_head}
 use Rattle.translation_meaning.specs.AtomicFamilies.{IsAtomicFamily}
 use Rattle.expansion_meaning.specs.Stands.{BeginsAs, NameStands, StandsObject, StandsHead, StandsArguments, StandsFamily, StandsKind, StandsClass, StandsFamilyValue, NameGives, BuildsValue, StandsValue}
 use Rattle.holding_laws.specs.ExpansionHolds.{scope_signature, ScopeHolds, LocalsHold, StandingObjectHolds, StandingHeadHolds, TakenArgumentsHold, StandingFamilyValueHolds, StandingFamilyHolds, StandingKindHolds, StandingClassHolds, StandingValueHolds}
-use Rattle.holding_laws.proofs.Declared.{place_of, class_in, class_at, value_at}
+use Rattle.holding_laws.proofs.Declared.{class_in, class_at, value_at}
 use Rattle.holding_laws.proofs.Replaced.{raise_family_holds}
 use Rattle.holding_laws.specs.HeadsHold.{HeadHolds}
 use Rattle.holding_laws.proofs.Heads.{head_taken, domain_holds, whole_holds, whole_atomic, object_anywhere, family_anywhere, kind_anywhere, family_value_partly, constant_partly}
@@ -232,7 +232,7 @@ module _ (scope : Scope) (signature : Signature) (declared_holds : (d : Declarat
 
 pub scope_declared : (scope : Scope) → ScopeHolds scope → (d : Declaration) → Member d (scope_signature scope) → DeclaredHolds (scope_signature scope) d
 scope_declared scope ok d m =
-    let p = place_of (scope_signature scope) d m in
+    let p = member_place (scope_signature scope) d m in
     record { class = class_in (scope_signature scope) ok.once p.0 d p.1; class_holds = class_at (scope_signature scope) ok.declarations p.0 d p.1; value_holds = value_at (scope_signature scope) ok.declarations p.0 d p.1 }
 
 pub standing_object_holds : StandingObjectHolds

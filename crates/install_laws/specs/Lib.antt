@@ -1,1 +1,2 @@
 pub mod InstallLaws
+pub mod ScriptBacking

@@ -1,5 +1,6 @@
 //! How many verdicts are installed, and what is told of them.
 
+ghost use Rattle.install_laws.specs.ScriptBacking.{PlayedIsBacked, WholeIsBacked, FewerAreBacked, LaterBacksScript};
 ghost use Rattle.install_laws.specs.InstallLaws.{FirstInstallsAreGrounded, InstallsAreAsked, ChecksAreBacked, BackedStayBacked};
 
 /// Where every grounded name is brought to a verdict before each edit and at the end, there are as many installs as the edits
@@ -13,4 +14,13 @@ pub fn law_installs()
 pub fn law_tellings()
     ensures checks { ChecksAreBacked }
     ensures later { BackedStayBacked }
+{}
+
+/// A history in which all that each command of a script tells stood when the command was played backs what is told of the
+/// script, where so many bytes of its output are written; and the other way round, where all lines of commands are.
+pub fn law_scripts()
+    ensures played { PlayedIsBacked }
+    ensures whole { WholeIsBacked }
+    ensures fewer { FewerAreBacked }
+    ensures later { LaterBacksScript }
 {}

@@ -1,8 +1,12 @@
 -- Look-up in signatures and maps that grow at their end, and what a found declaration is.
 use Rattle.std.proofs.Common.{◌≡◌, Bool, true, false, cond, [], ◌∷◌, ◌++◌, Option, Some, None, refl}
 use Rattle.lf_meaning.specs.Terms.{Constant}
-use Rattle.lf_meaning.specs.Signatures.{Class, Value, Declaration, Signature, same_constant, declaration_of, undefined_class, declared_class}
+use Rattle.lf_meaning.specs.Signatures.{Class, Value, Declaration, Signature, same_constant, declaration_of, undefined_class, declared_class, class_of}
 use Rattle.lf_meaning.specs.HeadMaps.{Image, HeadMap, image_of}
+
+-- the two maps give each constant of the signature the same image
+abbrev pub AgreeOn : Signature → HeadMap → HeadMap → Type 0
+AgreeOn signature first second = (c : Constant) (class : Class) → class_of signature c ≡ Some class → image_of first c ≡ image_of second c
 
 keep_found : {A : Type 0} (b : Bool) (first found : A) (o q : Option A) → (o ≡ Some found → q ≡ Some found) → cond b (Some first) o ≡ Some found → cond b (Some first) q ≡ Some found
 keep_found true first found o q f h = h

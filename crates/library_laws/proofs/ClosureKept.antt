@@ -1,5 +1,5 @@
 -- The inclusion closure lists each theory once, and behind what it includes.
-use Rattle.std.proofs.Common.{◌≡◌, ℕ, zero, suc, Bool, true, false, cond, List, [], ◌∷◌, ◌++◌, length, take, slice_get, fold, Some, ◌⊎◌, inl, inr, ⊎_elim, refl, sym, ap, ◌∙◌, subst, true≢false, arith, append_assoc}
+use Rattle.std.proofs.Common.{◌≡◌, ℕ, Bool, true, false, cond, List, [], ◌∷◌, ◌++◌, length, take, slice_get, fold, Some, ◌⊎◌, inl, inr, ⊎_elim, refl, sym, ap, ◌∙◌, subst, true≢false, arith, append_assoc}
 use Rattle.name_meaning.specs.Names.{Name}
 use Rattle.list_laws.proofs.Members.{Member, in_append, place_member}
 use Rattle.name_laws.proofs.Order.{among_member, member_among}

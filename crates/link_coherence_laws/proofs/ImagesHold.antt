@@ -5,7 +5,7 @@ use Rattle.std.proofs.lemmas.Option.{none-some, same_Some}
 use Rattle.name_meaning.specs.Names.{Name, Path, same_name}
 use Rattle.lf_meaning.specs.Terms.{Constant}
 use Rattle.lf_meaning.specs.Signatures.{Class, FamilyClass, KindClass, Value, Declaration, Signature, same_constant, declaration_of, undefined_class, class_of}
-use Rattle.list_laws.proofs.Members.{Member, any_found, in_append, append_left, append_right, in_flat_map}
+use Rattle.list_laws.proofs.Members.{Member, any_found, in_append, append_left, append_right, in_flat_map, member_place}
 use Rattle.name_laws.proofs.Order.{among_member, member_among, same_sound}
 use Rattle.lf_meaning.specs.HeadMaps.{Image, HeadMap, image_of}
 use Rattle.translation_meaning.specs.Differ.{value_in}
@@ -23,7 +23,7 @@ use Rattle.link_laws.proofs.Linked.{declarations_hold, own_named, includes_other
 use Rattle.holding_laws.specs.HoldingLaws.{Grows}
 use Rattle.holding_laws.specs.ExpansionHolds.{scope_signature}
 use Rattle.holding_laws.proofs.Growing.{value_grows}
-use Rattle.holding_laws.proofs.Declared.{place_of, class_in, value_at}
+use Rattle.holding_laws.proofs.Declared.{class_in, value_at}
 use Rattle.holding_laws.proofs.Translating.{placed_in, alike_through}
 use Rattle.link_coherence_laws.proofs.Onces.{Once, once_names, declaration_member, member_declared, HoldAfter, own_is_once, declarations_from}
 use Rattle.link_coherence_laws.specs.LinkTargets.{target_of, HereHolds, LinkHolds}
@@ -82,7 +82,7 @@ module _ (environment : Environment) (coherent : IsCoherent environment) where
   pub declared_value_holds : (theory : Name) (signature : Signature) (d : Declaration) → is_some (theory_of environment theory) ≡ true → Grows (flat_of environment theory) signature → Member d (own_part environment theory) → ValueHolds signature d.class (own_value d d.value)
   declared_value_holds theory signature d s g m =
       let n : Member d (flat_of environment theory) = append_right (own_parts environment (includes_of (theory_of environment theory))) (own_part environment theory) d m in
-      let p = place_of (flat_of environment theory) d n in
+      let p = member_place (flat_of environment theory) d n in
       value_grows (flat_of environment theory) signature g d.class (own_value d d.value)
       (undefined_value_holds (flat_of environment theory) d d.class d.value (class_in (flat_of environment theory) (once_names (flat_of environment theory) (flat_once environment coherent theory)) p.0 d p.1)
       (value_at (flat_of environment theory) (hold theory s) p.0 d p.1))
@@ -128,9 +128,9 @@ module _ (environment : Environment) (coherent : IsCoherent environment) where
       → structure_of face.structures name ≡ Some structure → Source structure.domain tail d
   induced_from_first theory face d name structure tail e m p l s =
       let c = theory_at environment coherent theory face e in
-      let q = place_of face.own d m in
+      let q = member_place face.own d m in
       let i : IsInduced environment face d = c.induced q.0 d q.1 l in
-      let f = place_of face.structures structure (structure_member environment coherent face.structures name structure s) in
+      let f = member_place face.structures structure (structure_member environment coherent face.structures name structure s) in
       let first : i.structure.name ≡ structure.name = names_same (sym i.path ∙ p) ∙ sym (structure_named face.structures name structure s) in
       let same : i.structure ≡ structure = same_Some _ _ (sym i.found ∙ ap (slice_get face.structures) (c.structures_once i.place f.0 i.structure structure i.found f.1 first) ∙ f.1) in
       let r : i.rest ≡ tail = rests_same (sym i.path ∙ p) in

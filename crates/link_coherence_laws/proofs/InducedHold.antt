@@ -4,7 +4,7 @@ use Rattle.std.specs.Prelude.{⊤}
 use Rattle.std.specs.List.{cons_option}
 use Rattle.name_meaning.specs.Names.{Name, same_name}
 use Rattle.lf_meaning.specs.Signatures.{Declaration, Signature}
-use Rattle.list_laws.proofs.Members.{Member, in_flat_map, append_right, place_member}
+use Rattle.list_laws.proofs.Members.{Member, in_flat_map, append_right, place_member, in_filter_map}
 use Rattle.name_laws.proofs.Order.{member_among, same_itself}
 use Rattle.lf_meaning.specs.HeadMaps.{Image, Mapping, HeadMap, image_of}
 use Rattle.library_meaning.specs.Faces.{own_part, own_parts, flat_of}
@@ -13,7 +13,6 @@ use Rattle.library_meaning.specs.Coherence.{declared_names, mapped_names, IsCohe
 use Rattle.link_meaning.specs.Assignments.{Setting, included_theories}
 use Rattle.link_meaning.specs.Passes.{induced_constant, is_own}
 use Rattle.link_meaning.specs.Induced.{induced_with, induced_from, induced}
-use Rattle.link_laws.proofs.Covered.{in_filter_map}
 use Rattle.link_laws.proofs.Linked.{own_named, own_by, includes_other}
 use Rattle.holding_laws.proofs.Translating.{placed_in}
 use Rattle.link_coherence_laws.proofs.Onces.{Once, once_names, member_declared}

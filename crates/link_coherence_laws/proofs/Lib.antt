@@ -6,3 +6,4 @@ pub mod LinksHold
 pub mod InducedHold
 pub mod Rows
 pub mod Scopes
+pub mod InducedPlaces

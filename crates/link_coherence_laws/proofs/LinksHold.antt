@@ -1,10 +1,10 @@
 -- The map of a link is coherent, and so are the constants that a structure induces.
-use Rattle.std.proofs.Common.{◌≡◌, ℕ, suc, ◌<◌, Bool, true, false, cond, List, [], ◌∷◌, ◌++◌, length, take, slice_get, Option, Some, None, option_map, Ok, ◌⊎◌, inl, inr, ⊎_elim, refl, sym, ap, ap₂, ◌∙◌, subst, true≢false, append_assoc, append-nil, arith}
+use Rattle.std.proofs.Common.{◌≡◌, ℕ, ◌<◌, Bool, true, false, cond, List, [], ◌∷◌, ◌++◌, length, take, slice_get, Option, Some, None, option_map, Ok, ◌⊎◌, inl, inr, ⊎_elim, refl, sym, ap, ap₂, ◌∙◌, subst, true≢false, append_assoc, append-nil, arith}
 use Rattle.name_meaning.specs.Names.{Name, Path}
 use Rattle.lf_meaning.specs.Terms.{Constant}
 use Rattle.lf_meaning.specs.Signatures.{Class, FamilyClass, KindClass, Value, SameAs, TermValue, FamilyValue, Declaration, Signature, same_constant, undefined_class, declared_class, class_of}
 use Rattle.lf_term_laws.proofs.Equality.{same_constant_itself}
-use Rattle.list_laws.proofs.Members.{Member, in_append, append_left, append_right, in_flat_map, place_member}
+use Rattle.list_laws.proofs.Members.{Member, in_append, append_left, append_right, in_flat_map, place_member, member_place}
 use Rattle.name_laws.proofs.Order.{member_among, same_sound}
 use Rattle.list_laws.proofs.Places.{place_within, take_front, take_length, get_more}
 use Rattle.lf_meaning.specs.HeadMaps.{Mapping, HeadMap}
@@ -13,7 +13,7 @@ use Rattle.translation_meaning.specs.Differ.{value_in}
 use Rattle.library_meaning.specs.Words.{Link}
 use Rattle.library_meaning.specs.Faces.{TheoryFace, theory_of, own_of, own_part, own_parts, flat_of}
 use Rattle.library_meaning.specs.Holding.{SameLevel, ClassHolds, ValueHolds, OptionalValueHolds, AlikeClasses}
-use Rattle.library_meaning.specs.Coherence.{DeclarationsHold, declared_names, mapped_names, IsCoherentMap}
+use Rattle.library_meaning.specs.Coherence.{DeclarationsHold, IsCoherentMap}
 use Rattle.text_meaning.specs.Tokens.{Span}
 use Rattle.expansion_meaning.specs.Rules.{Rule}
 use Rattle.link_meaning.specs.Assignments.{Setting, included_theories, Assigned, Covering}
@@ -21,6 +21,7 @@ use Rattle.link_meaning.specs.Coverings.{first_covering, value_by, covered_value
 use Rattle.link_meaning.specs.Passes.{reached_by, induced_constant, is_own, image_by, mapping_to, map_all}
 use Rattle.link_meaning.specs.Induced.{defined_by, induced_with}
 use Rattle.link_meaning.specs.LinkMaps.{IsSettled}
+use Rattle.link_laws.proofs.Listing.{same_length, names_last}
 use Rattle.link_laws.proofs.Covered.{there_refused, first_is_covering}
 use Rattle.link_laws.proofs.Valued.{own_sound}
 use Rattle.link_laws.proofs.Following.{Follows, walk_follows}
@@ -29,7 +30,7 @@ use Rattle.holding_laws.specs.HoldingLaws.{Grows}
 use Rattle.holding_laws.specs.TranslationHolds.{MapsInto}
 use Rattle.holding_laws.specs.ExpansionHolds.{scope_signature}
 use Rattle.holding_laws.proofs.Growing.{class_grows, value_grows, optional_grows}
-use Rattle.holding_laws.proofs.Declared.{place_of, front_grows, class_in, class_at, value_at}
+use Rattle.holding_laws.proofs.Declared.{front_grows, class_in, class_at, value_at}
 use Rattle.holding_laws.proofs.Expanding.{DeclaredHolds}
 use Rattle.holding_laws.proofs.Translating.{coherent_maps_into, class_translated, value_translated, translated_alike, value_at_alike, alike_through, alike_back}
 use Rattle.link_coherence_laws.proofs.Onces.{Apart, Once, once_append, once_names, once_apart, member_declared, HoldAfter, after_declarations, hold_append}
@@ -40,32 +41,12 @@ use Rattle.std.proofs.lemmas.Option.{same_Some}
 
 -- ---- one more mapping
 
-names_more : (so_far : HeadMap) (m : Mapping) (done : Signature) (d : Declaration) → mapped_names so_far ≡ declared_names done → m.name ≡ d.name → mapped_names (so_far ++ m ∷ []) ≡ declared_names (done ++ d ∷ [])
-names_more so_far m done d e n = mapped so_far ∙ ap₂ (λ x y. x ++ y ∷ []) e n ∙ sym (declared done)
-  where
-    mapped : (xs : HeadMap) → mapped_names (xs ++ m ∷ []) ≡ mapped_names xs ++ m.name ∷ []
-    mapped [] = refl
-    mapped (x ∷ xs) = ap (λ z. x.name ∷ z) (mapped xs)
-
-    declared : (xs : Signature) → declared_names (xs ++ d ∷ []) ≡ declared_names xs ++ d.name ∷ []
-    declared [] = refl
-    declared (x ∷ xs) = ap (λ z. x.name ∷ z) (declared xs)
-
-same_length : (so_far : HeadMap) (done : Signature) → mapped_names so_far ≡ declared_names done → length so_far ≡ length done
-same_length [] [] e = refl
-same_length [] (d ∷ done) e = absurd (cc)
-same_length (m ∷ so_far) [] e = absurd (cc)
-same_length (m ∷ so_far) (d ∷ done) e = ap suc (same_length so_far done (rest e))
-  where
-    rest : {A : Type 0} {x y : A} {xs ys : List A} → x ∷ xs ≡ y ∷ ys → xs ≡ ys
-    rest h = cc
-
 map_more : (done : Signature) (to more : Signature) (so_far : HeadMap) (d : Declaration) (m : Mapping) → IsCoherentMap done to so_far → Grows to more → m.name ≡ d.name → ClassHolds more m.image.class → ValueHolds more m.image.class m.image.value → AlikeClasses m.image.class d.class
     → IsCoherentMap (done ++ d ∷ []) more (so_far ++ m ∷ [])
 map_more done to more so_far d m k g n c v a =
     let q = map_grows done to more so_far g k in
     record {
-      names = names_more so_far m done d k.names n;
+      names = names_last so_far m done d k.names n;
       holds = λ i x h. ⊎_elim (λ p. q.holds i x p) (λ p. subst (λ (z : Mapping). ClassHolds more z.image.class × ValueHolds more z.image.class z.image.value) p.1 (c, v)) (get_more so_far m x i h);
       alike = λ i x e h l. by i x e (get_more so_far m x i h) (get_more done d e i l);
     }
@@ -139,14 +120,14 @@ module _ (setting : Setting) where
       where
         by : (o : Option TheoryFace) → theory_of setting.environment setting.domain ≡ o → Member d (own_of o) → 0 < length d.name.path
         by None e n = absurd n
-        by (Some face) e n = let p = place_of face.own d n in (theory_at setting.environment ok.coherent setting.domain face e).own_paths p.0 d p.1
+        by (Some face) e n = let p = member_place face.own d n in (theory_at setting.environment ok.coherent setting.domain face e).own_paths p.0 d p.1
 
     -- what the scope declares, over more
     scope_declares : (signature : Signature) → Once (before ++ signature) → (d : Declaration) → Member d before → DeclaredHolds (before ++ signature) d
     scope_declares signature o d m =
         let n = append_left before signature d m in
-        let p = place_of (before ++ signature) d n in
-        let q = place_of before d m in
+        let p = member_place (before ++ signature) d n in
+        let q = member_place before d m in
         record {
           class = class_in (before ++ signature) (once_names (before ++ signature) o) p.0 d p.1;
           class_holds = class_grows before (before ++ signature) (front_grows before signature) d.class (class_at before (after_declarations before ok.holds) q.0 d q.1);
@@ -288,11 +269,11 @@ module _ (setting : Setting) where
     held_by false ind class definition d value e m o k h g =
         included_held ind class d value m o k (there_refused (covered_value setting assigned d) setting.span Rule.IncludeNotCovered (d.name.theory ∷ []) value h) e
 
-    walk : (ds done : Signature) (so_far rest : HeadMap) (ind : Signature) → flat ≡ done ++ ds → Follows setting assigned ds so_far rest → State done so_far ind → State flat (so_far ++ rest) (ind ++ added_all ds rest)
-    walk [] done so_far rest ind e f s =
-        subst (λ z. State z (so_far ++ rest) (ind ++ [])) (sym (e ∙ append-nil done))
+    walk : (ds later done : Signature) (so_far rest : HeadMap) (ind : Signature) → flat ≡ done ++ (ds ++ later) → Follows setting assigned ds so_far rest → State done so_far ind → State (done ++ ds) (so_far ++ rest) (ind ++ added_all ds rest)
+    walk [] later done so_far rest ind e f s =
+        subst (λ z. State z (so_far ++ rest) (ind ++ [])) (sym (append-nil done))
         (subst (λ z. State done z (ind ++ [])) (sym (ap (λ z. so_far ++ z) f ∙ append-nil so_far)) (subst (State done so_far) (sym (append-nil ind)) s))
-    walk (d ∷ ds) done so_far rest ind e f s =
+    walk (d ∷ ds) later done so_far rest ind e f s =
         let m : Mapping = mapping_to so_far d f.value in
         let into : MapsInto done (before ++ ind) so_far = coherent_maps_into done (before ++ ind) so_far s.map_is in
         let hold = declared done e in
@@ -301,39 +282,40 @@ module _ (setting : Setting) where
         let due = value_due (is_own setting d) ind (translate_class so_far d.class) (option_map (translate_value so_far) d.value) d f.value refl s.once (there e) class definition (translated_alike so_far d.class) f.is in
         let held = held_by (is_own setting d) ind (translate_class so_far d.class) (option_map (translate_value so_far) d.value) d f.value refl (there e) s.once (translated_alike so_far d.class) f.is in
         let next = step (is_own setting d) setting.structure done so_far ind d m refl refl (there e) (others e) s refl class due held (translated_alike so_far d.class) in
-        let end = walk ds (done ++ d ∷ []) (so_far ++ m ∷ []) f.more (ind ++ added d m) (e ∙ sym (append_assoc done (d ∷ []) ds)) f.follow next in
-        subst (λ z. State flat (so_far ++ z) (ind ++ added_all (d ∷ ds) z)) (sym f.parts)
-        (subst (λ z. State flat z (ind ++ (added d m ++ added_all ds f.more))) (append_assoc so_far (m ∷ []) f.more)
-        (subst (State flat ((so_far ++ m ∷ []) ++ f.more)) (append_assoc ind (added d m) (added_all ds f.more)) end))
+        let end = walk ds later (done ++ d ∷ []) (so_far ++ m ∷ []) f.more (ind ++ added d m) (e ∙ sym (append_assoc done (d ∷ []) (ds ++ later))) f.follow next in
+        subst (λ z. State (done ++ d ∷ ds) (so_far ++ z) (ind ++ added_all (d ∷ ds) z)) (sym f.parts)
+        (subst (λ z. State (done ++ d ∷ ds) z (ind ++ (added d m ++ added_all ds f.more))) (append_assoc so_far (m ∷ []) f.more)
+        (subst (State (done ++ d ∷ ds) ((so_far ++ m ∷ []) ++ f.more)) (append_assoc ind (added d m) (added_all ds f.more))
+        (subst (λ z. State z ((so_far ++ m ∷ []) ++ f.more) ((ind ++ added d m) ++ added_all ds f.more)) (append_assoc done (d ∷ []) ds) end)))
       where
-        there : flat ≡ done ++ d ∷ ds → Member d flat
-        there e = subst (Member d) (sym e) (append_right done (d ∷ ds) d (inl refl))
+        there : flat ≡ done ++ d ∷ (ds ++ later) → Member d flat
+        there e = subst (Member d) (sym e) (append_right done (d ∷ (ds ++ later)) d (inl refl))
 
-        others : flat ≡ done ++ d ∷ ds → (x : Declaration) → Member x done → Member x flat × (x.name ≡ d.name → ⊥)
-        others e x p = (subst (Member x) (sym e) (append_left done (d ∷ ds) x p), once_apart done (d ∷ ds) (subst Once e flat_is_once) x d p (inl refl))
+        others : flat ≡ done ++ d ∷ (ds ++ later) → (x : Declaration) → Member x done → Member x flat × (x.name ≡ d.name → ⊥)
+        others e x p = (subst (Member x) (sym e) (append_left done (d ∷ (ds ++ later)) x p), once_apart done (d ∷ (ds ++ later)) (subst Once e flat_is_once) x d p (inl refl))
 
-        at : (ys : Signature) → slice_get (ys ++ d ∷ ds) (length ys) ≡ Some d
+        at : (ys : Signature) → slice_get (ys ++ d ∷ (ds ++ later)) (length ys) ≡ Some d
         at [] = refl
         at (y ∷ ys) = at ys
 
-        declared : (xs : Signature) → flat ≡ xs ++ d ∷ ds → ClassHolds xs d.class × OptionalValueHolds xs d.class d.value
+        declared : (xs : Signature) → flat ≡ xs ++ d ∷ (ds ++ later) → ClassHolds xs d.class × OptionalValueHolds xs d.class d.value
         declared xs e =
             let h = subst DeclarationsHold e (declarations_hold setting.environment ok.coherent setting.domain ok.theory) (length xs) d (at xs) in
-            let front : take (length xs) (xs ++ d ∷ ds) ≡ xs = take_front xs (d ∷ ds) (length xs) (omega arith) ∙ take_length xs in
+            let front : take (length xs) (xs ++ d ∷ (ds ++ later)) ≡ xs = take_front xs (d ∷ (ds ++ later)) (length xs) (omega arith) ∙ take_length xs in
             (subst (λ z. ClassHolds z d.class) front h.0, subst (λ z. OptionalValueHolds z d.class d.value) front h.1)
 
-    -- ---- the whole map
+    -- ---- the map of a front, and the whole map
 
-    pub record MapHolds (along : HeadMap) : Type 0 where
-      pub map_is : IsCoherentMap flat (before ++ added_all flat along) along
-      pub once : Once (before ++ added_all flat along)
-      pub holds : HoldAfter before (added_all flat along)
+    pub record MapHolds (front : Signature) (along : HeadMap) : Type 0 where
+      pub map_is : IsCoherentMap front (before ++ added_all front along) along
+      pub once : Once (before ++ added_all front along)
+      pub holds : HoldAfter before (added_all front along)
 
-    pub map_holds : (along : HeadMap) → map_all setting assigned [] flat ≡ Ok along → MapHolds along
-    map_holds along h =
-        let w = walk_follows setting assigned flat [] along h in
-        let s = walk flat [] [] w.0 [] refl w.2 start in
-        subst MapHolds (sym w.1) (record { map_is = s.map_is; once = s.once; holds = s.holds })
+    pub front_holds : (front back : Signature) (along : HeadMap) → flat ≡ front ++ back → map_all setting assigned [] front ≡ Ok along → MapHolds front along
+    front_holds front back along e h =
+        let w = walk_follows setting assigned front [] along h in
+        let s = walk front back [] [] w.0 [] e w.2 start in
+        subst (MapHolds front) (sym w.1) (record { map_is = s.map_is; once = s.once; holds = s.holds })
       where
         start : State [] [] []
         start =
@@ -343,3 +325,6 @@ module _ (setting : Setting) where
               holds = tt;
               from = λ e q. absurd q;
             }
+
+    pub map_holds : (along : HeadMap) → map_all setting assigned [] flat ≡ Ok along → MapHolds flat along
+    map_holds along h = front_holds flat [] along (sym (append-nil flat)) h

@@ -5,7 +5,7 @@ use Rattle.name_meaning.specs.Names.{Name}
 use Rattle.lf_meaning.specs.Terms.{Constant}
 use Rattle.lf_meaning.specs.Signatures.{Declaration, Signature, same_constant, declaration_of, declared_class}
 use Rattle.lf_term_laws.proofs.Equality.{same_constant_sound}
-use Rattle.list_laws.proofs.Members.{Member, in_append, append_left, append_right, in_flat_map, flat_map_in, place_member}
+use Rattle.list_laws.proofs.Members.{Member, in_append, append_left, append_right, in_flat_map, flat_map_in, place_member, member_place}
 use Rattle.name_laws.proofs.Order.{among_member, member_among}
 use Rattle.list_laws.proofs.Places.{take_front, take_length}
 use Rattle.library_meaning.specs.Faces.{TheoryFace, Environment, theory_of, includes_of, own_of, own_part, own_parts}
@@ -16,7 +16,7 @@ use Rattle.link_laws.proofs.Linked.{known_theory, own_named}
 use Rattle.holding_laws.specs.HoldingLaws.{Grows}
 use Rattle.holding_laws.specs.ExpansionHolds.{NamesOnce}
 use Rattle.holding_laws.proofs.Growing.{class_grows, optional_grows}
-use Rattle.holding_laws.proofs.Declared.{place_of, declared_as}
+use Rattle.holding_laws.proofs.Declared.{declared_as}
 use Rattle.std.proofs.lemmas.Option.{same_Some}
 use Rattle.lf_term_laws.proofs.Declarations.{declared_some}
 
@@ -44,7 +44,7 @@ once_names (x ∷ xs) h (suc i) (suc j) d e p q n = ap suc (once_names xs h.1 i 
 pub names_once : (xs : Signature) → NamesOnce xs → Once xs
 names_once [] h = tt
 names_once (x ∷ xs) h = (
-  (λ e m n. let p = place_of xs e m in absurd (let q = h 0 (suc p.0) x e refl p.1 n in omega (arith, q))),
+  (λ e m n. let p = member_place xs e m in absurd (let q = h 0 (suc p.0) x e refl p.1 n in omega (arith, q))),
   names_once xs (λ i j d e p q n. let r = h (suc i) (suc j) d e p q n in omega (arith, r)),
 )
 
@@ -72,7 +72,7 @@ declaration_member [] c d h = absurd (cc)
 declaration_member (x ∷ xs) c d h = found_by (same_constant x.name c) x d xs c refl h (declaration_member xs c d)
 
 pub member_declared : (ys : Signature) → Once ys → (d : Declaration) → Member d ys → declaration_of ys d.name ≡ Some d
-member_declared ys o d m = let p = place_of ys d m in declared_as ys (once_names ys o) p.0 d p.1
+member_declared ys o d m = let p = member_place ys d m in declared_as ys (once_names ys o) p.0 d p.1
 
 -- a signature that has all declarations of another has its constants
 pub member_grows : (xs ys : Signature) → Once ys → ((d : Declaration) → Member d xs → Member d ys) → Grows xs ys
@@ -135,7 +135,7 @@ Different (x ∷ xs) = (Member x xs → ⊥) × Different xs
 different_by : (xs : List Name) → ((i j : ℕ) (name : Name) → slice_get xs i ≡ Some name → slice_get xs j ≡ Some name → i ≡ j) → Different xs
 different_by [] h = tt
 different_by (x ∷ xs) h =
-    ((λ m. let p = place_of xs x m in let q = h 0 (suc p.0) x refl p.1 in absurd (omega (arith, q))), different_by xs (λ i j n p q. let r = h (suc i) (suc j) n p q in omega (arith, r)))
+    ((λ m. let p = member_place xs x m in let q = h 0 (suc p.0) x refl p.1 in absurd (omega (arith, q))), different_by xs (λ i j n p q. let r = h (suc i) (suc j) n p q in omega (arith, r)))
 
 module _ (environment : Environment) (coherent : IsCoherent environment) where
   own_once_by : (theory : Name) (o : Option TheoryFace) → theory_of environment theory ≡ o → Once (own_of o)

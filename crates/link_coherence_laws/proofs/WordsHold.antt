@@ -3,7 +3,7 @@ use Rattle.std.proofs.Common.{◌≡◌, ℕ, zero, suc, ◌<◌, Bool, true, fa
 use Rattle.std.proofs.lemmas.Bool.{or_cases}
 use Rattle.name_meaning.specs.Names.{Name, Path, same_name}
 use Rattle.lf_meaning.specs.Signatures.{Declaration, Signature}
-use Rattle.list_laws.proofs.Members.{Member, in_append, append_left, in_flat_map, flat_map_in}
+use Rattle.list_laws.proofs.Members.{Member, in_append, append_left, in_flat_map, flat_map_in, member_place}
 use Rattle.name_laws.proofs.Order.{among_member, member_among, same_sound}
 use Rattle.lf_meaning.specs.HeadMaps.{HeadMap}
 use Rattle.translation_meaning.specs.Translation.{compose}
@@ -15,7 +15,6 @@ use Rattle.link_laws.proofs.Linked.{known_theory, own_named, includes_other}
 use Rattle.holding_laws.specs.HoldingLaws.{Grows}
 use Rattle.holding_laws.proofs.Growing.{class_grows, value_grows}
 use Rattle.holding_laws.proofs.Translating.{composition_is_coherent}
-use Rattle.holding_laws.proofs.Declared.{place_of}
 use Rattle.link_coherence_laws.specs.LinkTargets.{target_of, StructuresHold, HereHolds, LinkHolds}
 use Rattle.link_coherence_laws.proofs.Onces.{Once, once_append, member_grows, own_is_once, closure_once}
 use Rattle.std.proofs.lemmas.Option.{same_Some}
@@ -36,10 +35,6 @@ pub absent_is_none : (known : Known) → known ≡ IsAbsent → is_some (theory_
 absent_is_none known e h = true≢false (sym h ∙ ap (λ k. is_some (theory_face k)) e)
 
 module _ (environment : Environment) (coherent : IsCoherent environment) where
-  some_theory : (o : Option TheoryFace) → is_some o ≡ true → (face : TheoryFace) × (o ≡ Some face)
-  some_theory None h = absurd (true≢false (sym h))
-  some_theory (Some face) h = (face, refl)
-
   pub theory_at : (name : Name) (face : TheoryFace) → theory_of environment name ≡ Some face → IsCoherentTheory environment name face
   theory_at name face e = coherent.theories name face (known_theory (environment name) face e)
 
@@ -48,7 +43,7 @@ module _ (environment : Environment) (coherent : IsCoherent environment) where
     where
       by : (o : Option TheoryFace) → theory_of environment theory ≡ o → Member d (own_of o) → 0 < length d.name.path
       by None e n = absurd n
-      by (Some face) e n = let p = place_of face.own d n in (theory_at theory face e).own_paths p.0 d p.1
+      by (Some face) e n = let p = member_place face.own d n in (theory_at theory face e).own_paths p.0 d p.1
 
   -- ---- flat signatures
 
@@ -78,7 +73,7 @@ module _ (environment : Environment) (coherent : IsCoherent environment) where
   included_members names c theory m d k =
       ⊎_elim
       (λ n. let q = in_flat_map (own_part environment) (includes_of (theory_of environment theory)) d n in
-      flat_map_in (own_part environment) names q.0 d (front (place_of names theory m) q.0 (member_among (includes_of (theory_of environment theory)) q.0 q.1)) q.2)
+      flat_map_in (own_part environment) names q.0 d (front (member_place names theory m) q.0 (member_among (includes_of (theory_of environment theory)) q.0 q.1)) q.2)
       (λ n. flat_map_in (own_part environment) names theory d m n)
       (in_append (own_parts environment (includes_of (theory_of environment theory))) (own_part environment theory) d k)
     where
@@ -159,11 +154,11 @@ module _ (environment : Environment) (coherent : IsCoherent environment) where
           → link_by theory o last inner ≡ Some link → ByStructures theory target link
       link_by_is theory target structures None last inner link s m f h = absurd (cc)
       link_by_is theory target structures (Some structure) true inner link s m f h =
-          let p = place_of structures structure (m structure refl) in
+          let p = member_place structures structure (m structure refl) in
           let q = s p.0 structure p.1 in
           subst (ByStructures theory target) (same_Some _ _ h) (record { domain = q.0; codomain = refl; map_is = q.1 })
       link_by_is theory target structures (Some structure) false inner link s m f h =
-          let p = place_of structures structure (m structure refl) in
+          let p = member_place structures structure (m structure refl) in
           let q = s p.0 structure p.1 in
           behind_is theory target structure (inner structure.domain) link q.1 (λ within e. f structure within refl e) h
 

@@ -8,9 +8,7 @@ use Rattle.translation_meaning.specs.Heads.{head_takes}
 use Rattle.lf_meaning.specs.HeadMaps.{HeadMap, image_of}
 use Rattle.translation_meaning.specs.Translation.{headed_image, translate_object, family_head_image, translate_head, family_of, translate_family, translate_kind, translate_class, object_value, family_value, same_image, translate_value}
 use Rattle.library_meaning.specs.Holding.{ObjectHolds, AtomicHolds, ArgumentsHold, FamilyHolds, KindHolds, ClassHolds, ValueHolds, OptionalValueHolds}
-
-abbrev pub AgreeOn : Signature → HeadMap → HeadMap → Type 0
-AgreeOn signature a b = (c : Constant) (class : Class) → class_of signature c ≡ Some class → image_of a c ≡ image_of b c
+use Rattle.lf_term_laws.proofs.Declarations.{AgreeOn}
 
 abbrev heads_of : HeadMap → Constant → Headed
 heads_of along c = headed_image c (image_of along c)

@@ -1,10 +1,10 @@
 -- Coverings: what the tests of the second pass say of them.
-use Rattle.std.proofs.Common.{◌≡◌, ℕ, suc, Bool, true, false, cond, List, [], ◌∷◌, find, filter_map, slice_get, Option, Some, None, is_some, Ok, ◌⊎◌, inl, inr, refl, sym, ap, ◌∙◌, subst, true≢false}
+use Rattle.std.proofs.Common.{◌≡◌, ℕ, suc, Bool, true, false, cond, List, [], ◌∷◌, find, slice_get, Option, Some, None, is_some, Ok, inl, inr, refl, sym, ap, ◌∙◌, subst, true≢false}
 use Rattle.std.specs.Prelude.{⊤}
 use Rattle.name_meaning.specs.Names.{Name}
 use Rattle.lf_meaning.specs.Signatures.{Value, Declaration, Signature}
 use Rattle.lf_term_laws.proofs.Equality.{same_value_sound, same_value_itself}
-use Rattle.list_laws.proofs.Members.{Member, find_none, in_option, option_first, option_rest}
+use Rattle.list_laws.proofs.Members.{Member, find_none, in_filter_map, filter_map_in, member_place, place_member}
 use Rattle.lf_meaning.specs.HeadMaps.{HeadMap}
 use Rattle.translation_meaning.specs.Differ.{value_in, agree, agree_on, differ_from, differ}
 use Rattle.library_meaning.specs.Faces.{own_part}
@@ -15,7 +15,6 @@ use Rattle.link_meaning.specs.Refusals.{Outcome, or_refused}
 use Rattle.link_meaning.specs.Assignments.{Setting, is_or_includes, Assigned, Covering, Sharing, Giving}
 use Rattle.link_meaning.specs.Coverings.{Cover, cover_if, cover_by, covers_of, is_identity_covering, identity_on, first_map, covering_by, first_covering, disagrees, none_disagrees, covered_test, value_by, covered_value}
 use Rattle.link_meaning.specs.Equations.{IsCovering, ByIdentity, ByAssignment, CoveringsGive}
-use Rattle.link_laws.proofs.Listing.{placed, member_at}
 use Rattle.std.proofs.lemmas.Option.{same_Some}
 use Rattle.list_laws.proofs.Answers.{came_by, goes_by}
 
@@ -61,21 +60,6 @@ unfolding differ_from
 all_agree place a b [] h = refl
 all_agree place a b (c ∷ ds) h = ap (λ t. cond t (differ_from (suc place) a b ds) (Some place)) (h c (inl refl)) ∙ all_agree (suc place) a b ds (λ d m. h d (inr m))
 
--- ---- members of what is filtered and mapped
-
-pub in_filter_map : {A B : Type 0} (f : A → Option B) (xs : List A) (y : B) → Member y (filter_map f xs) → (x : A) × Member x xs × (f x ≡ Some y)
-in_filter_map f [] y m = absurd m
-in_filter_map f (x ∷ xs) y m = by (in_option (f x) (filter_map f xs) y m) (in_filter_map f xs y)
-  where
-    by : (f x ≡ Some y) ⊎ Member y (filter_map f xs) → (Member y (filter_map f xs) → (z : _) × Member z xs × (f z ≡ Some y)) → (z : _) × Member z (x ∷ xs) × (f z ≡ Some y)
-    by (inl e) g = (x, inl refl, e)
-    by (inr n) g = let q = g n in (q.0, inr q.1, q.2)
-
-pub filter_map_in : {A B : Type 0} (f : A → Option B) (xs : List A) (x : A) (y : B) → Member x xs → f x ≡ Some y → Member y (filter_map f xs)
-filter_map_in f [] x y m e = absurd m
-filter_map_in f (z ∷ xs) x y (inl q) e = option_first (f z) (filter_map f xs) y (ap f (sym q) ∙ e)
-filter_map_in f (z ∷ xs) x y (inr m) e = option_rest (f z) (filter_map f xs) y (filter_map_in f xs x y m e)
-
 module _ (setting : Setting) (assigned : List Assigned) (theory : Name) where
   cover_if_is : (b : Bool) (first : Span) (along : HeadMap) (cover : Cover) → cover_if b first along ≡ Some cover → (b ≡ true) × (cover.map ≡ along)
   cover_if_is true first along cover h = (refl, ap (λ z. z.map) (sym (same_Some _ _ h)))
@@ -91,15 +75,15 @@ module _ (setting : Setting) (assigned : List Assigned) (theory : Name) where
   pub cover_is_covering : (cover : Cover) → Member cover (covers_of setting assigned theory) → IsCovering setting assigned theory cover.map
   cover_is_covering cover m =
       let q = in_filter_map (cover_by setting.environment theory) assigned cover m in
-      let p = placed assigned q.0 q.1 in
+      let p = member_place assigned q.0 q.1 in
       by_assigned q.0 p.0 cover p.1 q.2
 
   covering_member : (place : ℕ) (first : Span) (by : Link) → slice_get assigned place ≡ Some (Covering first by) → is_or_includes setting.environment by.domain theory ≡ true
       → Member (record { first = first; map = by.map }) (covers_of setting assigned theory)
   covering_member place first by s t =
-      filter_map_in (cover_by setting.environment theory) assigned (Covering first by) (record { first = first; map = by.map }) (member_at assigned place (Covering first by) s) (ap (λ b. cover_if b first by.map) t)
+      filter_map_in (cover_by setting.environment theory) assigned (Covering first by) (record { first = first; map = by.map }) (place_member assigned place (Covering first by) s) (ap (λ b. cover_if b first by.map) t)
 
-  first_map_is : (covers : List Cover) (along : HeadMap) → first_map covers ≡ Some along → (cover : Cover) × Member cover covers × (cover.map ≡ along)
+  pub first_map_is : (covers : List Cover) (along : HeadMap) → first_map covers ≡ Some along → (cover : Cover) × Member cover covers × (cover.map ≡ along)
   first_map_is [] along h = absurd (cc)
   first_map_is (cover ∷ covers) along h = (cover, inl refl, same_Some _ _ h)
 

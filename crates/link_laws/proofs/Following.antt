@@ -8,10 +8,11 @@ use Rattle.translation_meaning.specs.Translation.{translate_class}
 use Rattle.library_meaning.specs.Coherence.{declared_names, mapped_names, DeclarationsHold}
 use Rattle.link_meaning.specs.Assignments.{Setting, Assigned}
 use Rattle.link_meaning.specs.Passes.{is_own, image_by, image_value, mapping_to, map_all}
-use Rattle.link_laws.proofs.Agreeing.{AgreeOn, classes_alike, definitions_alike}
-use Rattle.link_laws.proofs.Listing.{images_stay, first_name_same, rest_names_same}
+use Rattle.link_laws.proofs.Agreeing.{classes_alike, definitions_alike}
+use Rattle.link_laws.proofs.Listing.{images_stay, names_last, first_name_same, rest_names_same}
 use Rattle.std.proofs.lemmas.Option.{same_Some}
 use Rattle.list_laws.proofs.Answers.{came_by, goes_by, ok_same}
+use Rattle.lf_term_laws.proofs.Declarations.{AgreeOn}
 
 module _ (setting : Setting) (assigned : List Assigned) where
   -- the images `rest` follow, one after another, from the map so far
@@ -71,17 +72,6 @@ module _ (setting : Setting) (assigned : List Assigned) where
       same : take (length done) (done ++ d ∷ ds) ≡ done → AgreeOn (take (length done) (done ++ d ∷ ds)) so_far (so_far ++ rest)
       same front = subst (λ z. AgreeOn z so_far (so_far ++ rest)) (sym front) (images_stay done so_far rest e)
 
-  more_names : (so_far : HeadMap) (m : Mapping) (done : Signature) (d : Declaration) → mapped_names so_far ≡ declared_names done → m.name ≡ d.name → mapped_names (so_far ++ m ∷ []) ≡ declared_names (done ++ d ∷ [])
-  more_names so_far m done d e n = mapped so_far ∙ ap₂ (λ x y. x ++ y ∷ []) e n ∙ sym (declared done)
-    where
-      mapped : (xs : HeadMap) → mapped_names (xs ++ m ∷ []) ≡ mapped_names xs ++ m.name ∷ []
-      mapped [] = refl
-      mapped (x ∷ xs) = ap (λ z. x.name ∷ z) (mapped xs)
-
-      declared : (xs : Signature) → declared_names (xs ++ d ∷ []) ≡ declared_names xs ++ d.name ∷ []
-      declared [] = refl
-      declared (x ∷ xs) = ap (λ z. x.name ∷ z) (declared xs)
-
   pub follows_meets : (ds done : Signature) (so_far rest : HeadMap) → DeclarationsHold (done ++ ds) → mapped_names so_far ≡ declared_names done → Follows ds so_far rest → Meets (so_far ++ rest) ds rest
   follows_meets [] done so_far rest hold e f =
       record { names = ap mapped_names f; classes = λ i m d h g. absurd (cc); values = λ i m d h g. absurd (cc) }
@@ -90,7 +80,7 @@ module _ (setting : Setting) (assigned : List Assigned) where
       let whole : (so_far ++ m ∷ []) ++ f.more ≡ so_far ++ rest = append_assoc so_far (m ∷ []) f.more ∙ ap (λ z. so_far ++ z) (sym f.parts) in
       let l = local_by done ds d so_far rest hold e in
       let i = subst (λ z. Meets z ds f.more) whole
-      (follows_meets ds (done ++ d ∷ []) (so_far ++ m ∷ []) f.more (subst DeclarationsHold (sym (append_assoc done (d ∷ []) ds)) hold) (more_names so_far m done d e refl) f.follow) in
+      (follows_meets ds (done ++ d ∷ []) (so_far ++ m ∷ []) f.more (subst DeclarationsHold (sym (append_assoc done (d ∷ []) ds)) hold) (names_last so_far m done d e refl) f.follow) in
       record {
         names = ap mapped_names f.parts ∙ ap (λ z. d.name ∷ z) i.names;
         classes = λ j x c h g. classes_at f.value f.more l i j x c (sym (ap (λ z. slice_get z j) f.parts) ∙ h) g;
@@ -123,7 +113,7 @@ module _ (setting : Setting) (assigned : List Assigned) where
         parts = ap (λ z. z ∷ rest) is_mapping;
         is = l.value ∙ m.values 0 x d refl refl;
         follow = subst (λ z. Follows ds (so_far ++ z ∷ []) rest) is_mapping
-            (meets_follows ds (done ++ d ∷ []) (so_far ++ x ∷ []) rest (subst DeclarationsHold (sym (append_assoc done (d ∷ []) ds)) hold) (more_names so_far x done d e n)
+            (meets_follows ds (done ++ d ∷ []) (so_far ++ x ∷ []) rest (subst DeclarationsHold (sym (append_assoc done (d ∷ []) ds)) hold) (names_last so_far x done d e n)
             (subst (λ z. Meets z ds rest) (sym (append_assoc so_far (x ∷ []) rest))
             (record { names = rest_names_same x rest d ds m.names; classes = λ i y b h g. m.classes (suc i) y b h g; values = λ i y b h g. m.values (suc i) y b h g })));
       }

@@ -5,3 +5,5 @@ pub mod Linked
 pub mod Listing
 pub mod Reading
 pub mod Valued
+pub mod SameEnds
+pub mod CoveringMaps

@@ -3,7 +3,7 @@ use Rattle.std.proofs.Common.{◌≡◌, ◌≢◌, Bool, true, false, List, [],
 use Rattle.std.specs.List.{list_all}
 use Rattle.name_meaning.specs.Names.{Name, Path, same_name}
 use Rattle.lf_meaning.specs.Signatures.{Class, Value, Declaration, Signature}
-use Rattle.list_laws.proofs.Members.{Member, all_at, all_of, in_append, append_left, in_flat_map, flat_map_in}
+use Rattle.list_laws.proofs.Members.{Member, all_at, all_of, in_append, append_left, in_flat_map, flat_map_in, member_place, place_member}
 use Rattle.name_laws.proofs.Order.{among_member, member_among, same_sound, same_itself}
 use Rattle.lf_meaning.specs.HeadMaps.{HeadMap}
 use Rattle.translation_meaning.specs.Translation.{translate_class, translate_value}
@@ -18,16 +18,17 @@ use Rattle.link_meaning.specs.Refusals.{or_refused, each}
 use Rattle.link_meaning.specs.Assignments.{Setting, included_theories, Assigned, Covering, Sharing, Giving, label_along, read_assigns}
 use Rattle.link_meaning.specs.Coverings.{Cover, covers_of, first_covering, covered_test, covered_tests, covered_value}
 use Rattle.link_meaning.specs.Passes.{reached_by, is_own, image_by, map_all, shares, shared_test, assigned_map, link_map}
-use Rattle.link_meaning.specs.Equations.{IsCovering, CoveringsGive, HasValueBy, IsShared, MeetsEquations}
+use Rattle.link_meaning.specs.Equations.{IsCovering, IsCovered, CoveringsGive, HasValueBy, IsShared, MeetsEquations}
 use Rattle.link_meaning.specs.LinkMaps.{IsSettled}
 use Rattle.link_laws.specs.LinkLaws.{PassesMeetEquations, OneMapMeetsEquations, LinkMapMeetsEquations, OneMapOfLink}
 use Rattle.link_laws.proofs.Reading.{assigns_sound, assigns_complete}
-use Rattle.link_laws.proofs.Listing.{placed, member_at, each_passed, each_passes, mapping_there}
+use Rattle.link_laws.proofs.Listing.{each_passed, each_passes, mapping_there}
 use Rattle.link_laws.proofs.Following.{Meets, walk_follows, follows_walk, follows_meets, meets_follows}
 use Rattle.link_laws.proofs.Covered.{good_same, there_refused, agree_sound, agree_by, cover_is_covering, first_is_covering, some_first, Tested, test_gives, test_by, coverings_give, given_covered}
 use Rattle.link_laws.proofs.Valued.{demand_holds, demand_by, own_sound, own_complete}
 use Rattle.std.proofs.lemmas.Option.{same_Some}
 use Rattle.list_laws.proofs.Answers.{came_by, goes_by}
+use Rattle.list_laws.proofs.Options.{some_of}
 
 -- ---- what coherence says of a domain
 
@@ -37,16 +38,12 @@ known_theory IsRefused face h = absurd (cc)
 known_theory (IsTheory found) face h = ap IsTheory (same_Some _ _ h)
 known_theory (IsView found) face h = absurd (cc)
 
-pub some_theory : (o : Option TheoryFace) → is_some o ≡ true → (face : TheoryFace) × (o ≡ Some face)
-some_theory None h = absurd (true≢false (sym h))
-some_theory (Some face) h = (face, refl)
-
 module _ (environment : Environment) (coherent : IsCoherent environment) where
   named_by : (theory : Name) (o : Option TheoryFace) → theory_of environment theory ≡ o → (d : Declaration) → Member d (own_of o) → d.name.theory ≡ theory
   named_by theory None e d m = absurd m
   named_by theory (Some face) e d m =
       let c = coherent.theories theory face (known_theory (environment theory) face e) in
-      let p = placed face.own d m in
+      let p = member_place face.own d m in
       c.own_named p.0 d p.1
 
   -- an own constant has the theory's name
@@ -55,7 +52,7 @@ module _ (environment : Environment) (coherent : IsCoherent environment) where
 
   pub declarations_hold : (theory : Name) → is_some (theory_of environment theory) ≡ true → DeclarationsHold (flat_of environment theory)
   declarations_hold theory h =
-      let f = some_theory (theory_of environment theory) h in
+      let f = some_of (theory_of environment theory) h in
       subst DeclarationsHold (ap (λ o. own_parts environment (includes_of o) ++ own_of o) (sym f.1)) (coherent.theories theory f.0 (known_theory (environment theory) f.0 f.1)).holds
 
   pub includes_other : (theory other : Name) → sees (includes_of (theory_of environment theory)) other ≡ true → other ≢ theory
@@ -134,7 +131,7 @@ module _ (setting : Setting) (assigned : List Assigned) (settled : IsSettled set
 
   -- ---- from the passes to the equations
 
-  tests_of : covered_tests setting assigned ≡ Ok tt → (theory : Name) → Member theory (included_theories setting) → Tested setting assigned theory
+  pub tests_of : covered_tests setting assigned ≡ Ok tt → (theory : Name) → Member theory (included_theories setting) → Tested setting assigned theory
   unfolding covered_tests
   tests_of h theory m = test_gives setting assigned theory tt (each_passed (covered_test setting assigned) (included_theories setting) tt h theory m)
 
@@ -151,42 +148,51 @@ module _ (setting : Setting) (assigned : List Assigned) (settled : IsSettled set
       record {
         names = n.names;
         classes = n.classes;
-        values = λ i x d p q. value_sound (tests_of c.came) (is_own setting d) (translate_class along d.class) (option_map (translate_value along) d.value) d x.image.value refl (member_at flat i d q) (n.values i x d p q);
+        values = λ i x d p q. value_sound (tests_of c.came) (is_own setting d) (translate_class along d.class) (option_map (translate_value along) d.value) d x.image.value refl (place_member flat i d q) (n.values i x d p q);
         covered = λ theory p.
             let t = tests_of c.came theory (among_member (included_theories setting) theory p) in
             (t.first, first_is_covering setting assigned theory t.first t.is);
         shared = λ i target structure first by p j d q. shares_sound along structure by d
             (all_at (shares along structure by) (shared_part structure) d
             (demand_holds (list_all (shares along structure by) (shared_part structure)) first Rule.MorphismsDisagree (label_along setting target) tt
-            (each_passed (shared_test setting along) assigned tt (subst (λ z. each (shared_test setting z) assigned ≡ Ok tt) e s.came) (Sharing target structure first by) (member_at assigned i (Sharing target structure first by) p)))
-            (member_at (shared_part structure) j d q));
+            (each_passed (shared_test setting along) assigned tt (subst (λ z. each (shared_test setting z) assigned ≡ Ok tt) e s.came) (Sharing target structure first by) (place_member assigned i (Sharing target structure first by) p)))
+            (place_member (shared_part structure) j d q));
       }
 
   -- ---- and back
 
-  tested_by : (along : HeadMap) → MeetsEquations setting assigned along → (theory : Name) → Member theory (included_theories setting) → covered_test setting assigned theory ≡ Ok tt
-  tested_by along m theory t =
-      let s : sees (included_theories setting) theory ≡ true = member_among (included_theories setting) theory t in
-      let c = m.covered theory s in
+  -- the coverings of a theory pass their tests, where they give each of its constants one value
+  pub tested_by : ((theory : Name) → sees (included_theories setting) theory ≡ true → IsCovered setting assigned theory)
+      → ((theory : Name) → Member theory (included_theories setting) → (d : Declaration) → Member d (own_part setting.environment theory) → (value : Value) × CoveringsGive setting assigned d value)
+      → (theory : Name) → Member theory (included_theories setting) → covered_test setting assigned theory ≡ Ok tt
+  tested_by covered given theory t =
+      let c = covered theory (member_among (included_theories setting) theory t) in
       let f = some_first setting assigned theory c.0 c.1 in
-      test_by setting assigned theory (record { first = f.0; is = f.1; agree = λ cover n d o. agreed s f.0 f.1 cover n d o })
+      test_by setting assigned theory (record { first = f.0; is = f.1; agree = agreed f.0 f.1 })
     where
-      agreed : sees (included_theories setting) theory ≡ true → (first : HeadMap) → first_covering setting assigned theory ≡ Some first → (cover : Cover) → Member cover (covers_of setting assigned theory) → (d : Declaration) → Member d (own_part setting.environment theory)
+      agreed : (first : HeadMap) → first_covering setting assigned theory ≡ Some first → (cover : Cover) → Member cover (covers_of setting assigned theory) → (d : Declaration) → Member d (own_part setting.environment theory)
           → agree (value_in first d.name) (value_in cover.map d.name) ≡ true
-      agreed s first e cover n d o =
+      agreed first e cover n d o =
           let named : d.name.theory ≡ theory = own_named setting.environment settled.coherent theory d o in
-          let p = placed flat d (append_left (own_parts setting.environment (included_theories setting)) (own_part setting.environment setting.domain) d (flat_map_in (own_part setting.environment) (included_theories setting) theory d t o)) in
-          let x = mapping_there along flat m.names p.0 d p.1 in
-          let g : CoveringsGive setting assigned d x.0.image.value = subst (λ b. HasValueBy setting assigned b (translate_class along d.class) (option_map (translate_value along) d.value) d x.0.image.value)
-          (own_by d theory named (includes_other setting.environment settled.coherent setting.domain theory s)) (m.values p.0 x.0 d x.1 p.1) in
-          agree_by (value_in first d.name) (value_in cover.map d.name) x.0.image.value
-          (g.give first (subst (λ z. IsCovering setting assigned z first) (sym named) (first_is_covering setting assigned theory first e)))
-          (g.give cover.map (subst (λ z. IsCovering setting assigned z cover.map) (sym named) (cover_is_covering setting assigned theory cover n)))
+          let g = given theory t d o in
+          agree_by (value_in first d.name) (value_in cover.map d.name) g.0
+          ((g.1).give first (subst (λ z. IsCovering setting assigned z first) (sym named) (first_is_covering setting assigned theory first e)))
+          ((g.1).give cover.map (subst (λ z. IsCovering setting assigned z cover.map) (sym named) (cover_is_covering setting assigned theory cover n)))
+
+  given_by : (along : HeadMap) → MeetsEquations setting assigned along → (theory : Name) → Member theory (included_theories setting) → (d : Declaration) → Member d (own_part setting.environment theory) → (value : Value) × CoveringsGive setting assigned d value
+  given_by along m theory t d o =
+      let named : d.name.theory ≡ theory = own_named setting.environment settled.coherent theory d o in
+      let p = member_place flat d (append_left (own_parts setting.environment (included_theories setting)) (own_part setting.environment setting.domain) d (flat_map_in (own_part setting.environment) (included_theories setting) theory d t o)) in
+      let x = mapping_there along flat m.names p.0 d p.1 in (
+        x.0.image.value,
+        subst (λ b. HasValueBy setting assigned b (translate_class along d.class) (option_map (translate_value along) d.value) d x.0.image.value)
+            (own_by d theory named (includes_other setting.environment settled.coherent setting.domain theory (member_among (included_theories setting) theory t))) (m.values p.0 x.0 d x.1 p.1),
+      )
 
   pub passes_complete : (along : HeadMap) → MeetsEquations setting assigned along → assigned_map setting assigned ≡ Ok along
   unfolding assigned_map covered_tests
   passes_complete along m =
-      goes_by (covered_tests setting assigned) _ tt along (each_passes (covered_test setting assigned) (included_theories setting) (tested_by along m))
+      goes_by (covered_tests setting assigned) _ tt along (each_passes (covered_test setting assigned) (included_theories setting) (tested_by m.covered (given_by along m)))
       (goes_by (map_all setting assigned [] flat) _ along along
       (follows_walk setting assigned flat [] along
       (meets_follows setting assigned flat [] [] along (declarations_hold setting.environment settled.coherent setting.domain settled.theory) refl
@@ -194,8 +200,8 @@ module _ (setting : Setting) (assigned : List Assigned) (settled : IsSettled set
       (goes_by (each (shared_test setting along) assigned) _ tt along
       (each_passes (shared_test setting along) assigned
       (λ a n. shared_by along a (λ target structure first by e d k.
-      let p = placed assigned a n in
-      let q = placed (shared_part structure) d k in
+      let p = member_place assigned a n in
+      let q = member_place (shared_part structure) d k in
       m.shared p.0 target structure first by (p.1 ∙ ap Some e) q.0 d q.1)))
       refl))
 

@@ -1,5 +1,5 @@
 -- Lists: members by place, tests of all, and maps that have the names of declarations.
-use Rattle.std.proofs.Common.{◌≡◌, ℕ, zero, suc, Bool, true, false, cond, List, [], ◌∷◌, ◌++◌, slice_get, Option, Some, Ok, inl, inr, refl, sym, ap, ◌∙◌}
+use Rattle.std.proofs.Common.{◌≡◌, ℕ, zero, suc, Bool, true, false, cond, List, [], ◌∷◌, ◌++◌, length, slice_get, Option, Some, Ok, inl, inr, refl, sym, ap, ap₂, ◌∙◌}
 use Rattle.std.specs.Prelude.{⊤}
 use Rattle.lf_meaning.specs.Terms.{Constant}
 use Rattle.lf_meaning.specs.Signatures.{Class, Declaration, Signature, same_constant, declaration_of, class_of}
@@ -7,22 +7,11 @@ use Rattle.list_laws.proofs.Members.{Member}
 use Rattle.lf_meaning.specs.HeadMaps.{Image, Mapping, HeadMap, image_of}
 use Rattle.library_meaning.specs.Coherence.{declared_names, mapped_names}
 use Rattle.link_meaning.specs.Refusals.{Outcome, each}
-use Rattle.std.proofs.lemmas.Option.{same_Some}
-use Rattle.list_laws.proofs.Lists.{first_same, rest_same}
+use Rattle.list_laws.proofs.Lists.{first_same, rest_same, map_last}
 use Rattle.lf_term_laws.proofs.Declarations.{declared_some, image_front}
 use Rattle.list_laws.proofs.Answers.{came_by, goes_by}
 
 module _ {A : Type 0} where
-  pub placed : (xs : List A) (x : A) → Member x xs → (i : ℕ) × (slice_get xs i ≡ Some x)
-  placed [] x m = absurd m
-  placed (y ∷ ys) x (inl e) = (zero, ap Some (sym e))
-  placed (y ∷ ys) x (inr m) = let p = placed ys x m in (suc p.0, p.1)
-
-  pub member_at : (xs : List A) (i : ℕ) (x : A) → slice_get xs i ≡ Some x → Member x xs
-  member_at [] i x h = absurd (cc)
-  member_at (y ∷ ys) zero x h = inl (sym (same_Some _ _ h))
-  member_at (y ∷ ys) (suc i) x h = inr (member_at ys i x h)
-
   pub each_passed : (test : A → Outcome ⊤) (xs : List A) (done : ⊤) → each test xs ≡ Ok done → (x : A) → Member x xs → test x ≡ Ok tt
   each_passed test [] done h x m = absurd m
   each_passed test (y ∷ ys) done h x (inl e) = let c = came_by (test y) _ done h in ap test e ∙ c.came
@@ -45,6 +34,15 @@ first_name_same m ms d ds e = first_same e
 
 pub rest_names_same : (m : Mapping) (ms : HeadMap) (d : Declaration) (ds : Signature) → mapped_names (m ∷ ms) ≡ declared_names (d ∷ ds) → mapped_names ms ≡ declared_names ds
 rest_names_same m ms d ds e = rest_same e
+
+pub names_last : (along : HeadMap) (m : Mapping) (declarations : Signature) (d : Declaration) → mapped_names along ≡ declared_names declarations → m.name ≡ d.name → mapped_names (along ++ m ∷ []) ≡ declared_names (declarations ++ d ∷ [])
+names_last along m declarations d e n = map_last (λ (z : Mapping). z.name) along m ∙ ap₂ (λ x y. x ++ y ∷ []) e n ∙ sym (map_last (λ (z : Declaration). z.name) declarations d)
+
+pub same_length : (along : HeadMap) (declarations : Signature) → mapped_names along ≡ declared_names declarations → length along ≡ length declarations
+same_length [] [] e = refl
+same_length [] (d ∷ ds) e = absurd (cc)
+same_length (m ∷ ms) [] e = absurd (cc)
+same_length (m ∷ ms) (d ∷ ds) e = ap suc (same_length ms ds (rest_same e))
 
 -- what is found in front is found in the whole
 front_by : (b : Bool) (x : Image) (o q : Option Image) (image : Image) → cond b (Some x) o ≡ Some image → (o ≡ Some image → q ≡ Some image) → cond b (Some x) q ≡ Some image

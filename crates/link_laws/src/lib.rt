@@ -2,4 +2,5 @@
 //! is a law.
 #![tactic(auto)]
 
+pub mod covering_laws;
 pub mod link_laws;

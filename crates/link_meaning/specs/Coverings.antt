@@ -97,3 +97,7 @@ value_by (Some along) constant = value_in along constant
 -- The value that the coverings of its theory give to a constant.
 abbrev pub covered_value : Setting → List Assigned → Declaration → Option Value
 covered_value setting assigned declaration = value_by (first_covering setting assigned declaration.name.theory) declaration.name
+
+-- This value, or the refusal where there is none.
+abbrev pub covering_value : Setting → List Assigned → Declaration → Outcome Value
+covering_value setting assigned declaration = or_refused (covered_value setting assigned declaration) setting.span Rule.IncludeNotCovered (declaration.name.theory ∷ [])

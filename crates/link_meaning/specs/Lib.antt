@@ -6,3 +6,4 @@ pub mod Passes
 pub mod Induced
 pub mod Equations
 pub mod LinkMaps
+pub mod CoveringMaps

@@ -19,7 +19,7 @@ use Rattle.expansion_meaning.specs.Expansion.{span_of}
 use Rattle.expansion_meaning.specs.Values.{expand_value}
 use Rattle.link_meaning.specs.Refusals.{Outcome, refused, labelled, demand, or_refused, each}
 use Rattle.link_meaning.specs.Assignments.{Setting, Assigned, Covering, Sharing, Giving, label_along, is_beginning, read_assigns}
-use Rattle.link_meaning.specs.Coverings.{covered_tests, covered_value}
+use Rattle.link_meaning.specs.Coverings.{covered_tests, covering_value}
 
 -- The rest of a path behind its beginning, where there is one and it is not empty.
 unfoldable pub rest_behind : Path → Path → Option Path
@@ -104,8 +104,7 @@ is_own setting declaration = same_name declaration.name.theory setting.domain
 -- Own constants have their images by the assignments, included ones by the coverings.
 abbrev pub image_by : Setting → List Assigned → Bool → Class → Option Value → Declaration → Outcome Value
 image_by setting assigned true class definition declaration = own_image setting (reached_by assigned declaration.name.path) class definition declaration
-image_by setting assigned false class definition declaration =
-    or_refused (covered_value setting assigned declaration) setting.span Rule.IncludeNotCovered (declaration.name.theory ∷ [])
+image_by setting assigned false class definition declaration = covering_value setting assigned declaration
 
 -- The value of a constant of the domain, the map being known for all constants before it.
 abbrev pub image_value : Setting → List Assigned → HeadMap → Declaration → Outcome Value

@@ -7,7 +7,7 @@ use Rattle.lf_meaning.specs.Signatures.{Class, Value, Declaration, Signature, de
 use Rattle.lf_meaning.specs.Judgements.{Fits, ValueFits, IsDeclaration, IsSignature}
 use Rattle.lf_typing.proofs.Declared.{declared_as}
 use Rattle.lf_typing.proofs.Growing.{signature_shrinks}
-use Rattle.list_laws.proofs.Members.{Member, in_append, append_left, append_right, in_flat_map, any_found, any_of, place_member}
+use Rattle.list_laws.proofs.Members.{Member, in_append, append_left, append_right, in_flat_map, any_found, any_of, place_member, member_place}
 use Rattle.name_laws.proofs.Order.{among_member, member_among, same_sound, same_itself}
 use Rattle.lf_meaning.specs.HeadMaps.{Image, HeadMap, image_of}
 use Rattle.translation_meaning.specs.Translation.{translate_class, translate_value}
@@ -28,7 +28,6 @@ use Rattle.link_meaning.specs.Equations.{IsCovering, ByIdentity, ByAssignment, C
 use Rattle.link_laws.proofs.Linked.{own_named, own_by, includes_other, included_in, declarations_hold}
 use Rattle.holding_laws.specs.HoldingLaws.{Grows}
 use Rattle.holding_laws.specs.ExpansionHolds.{scope_signature}
-use Rattle.holding_laws.proofs.Declared.{place_of}
 use Rattle.holding_laws.proofs.Translating.{placed_in}
 use Rattle.link_coherence_laws.specs.LinkTargets.{target_of}
 use Rattle.link_coherence_laws.proofs.Onces.{Once, declaration_member, member_declared, own_is_once}
@@ -147,7 +146,7 @@ module _ (setting : Setting) (ok : SettingHolds setting) (typed : SettingTyped s
     sees_through : (top theory other : Name) → sees (includes_of (theory_of setting.environment top)) theory ≡ true → sees (includes_of (theory_of setting.environment theory)) other ≡ true → sees (includes_of (theory_of setting.environment top)) other ≡ true
     sees_through top theory other s t =
         let names : List Name = includes_of (theory_of setting.environment top) in
-        let p = place_of (includes_of (theory_of setting.environment top)) theory (among_member (includes_of (theory_of setting.environment top)) theory s) in
+        let p = member_place (includes_of (theory_of setting.environment top)) theory (among_member (includes_of (theory_of setting.environment top)) theory s) in
         let b = (includes_closed setting.environment ok.coherent top).behind p.0 theory other p.1 t in
         member_among (includes_of (theory_of setting.environment top)) other (taken p.0 (includes_of (theory_of setting.environment top)) other (among_member (take p.0 (includes_of (theory_of setting.environment top))) other b))
 
@@ -215,7 +214,7 @@ module _ (setting : Setting) (ok : SettingHolds setting) (typed : SettingTyped s
       -- by a signature of included constants and a typed map of it
       module _ (from end : Signature) (by : HeadMap) (from_is : IsSignature from) (by_typed : IsTypedMap from end by) (grows : Grows end before) (inside : (x : Declaration) → Member x from → Member x included) (gives : (x : Declaration) → Member x from → (value : Value) → CoveringsGive setting assigned x value → value_in by x.name ≡ Some value) where
         by_at : (x : Declaration) → Member x from → IsTypedAt end by x
-        by_at x m = let i = place_of from x m in by_typed i.0 x i.1
+        by_at x m = let i = member_place from x m in by_typed i.0 x i.1
 
         in_flat : (x : Declaration) → Member x from → Member x flat
         in_flat x m = append_left included (own_part setting.environment setting.domain) x (inside x m)
@@ -249,7 +248,7 @@ module _ (setting : Setting) (ok : SettingHolds setting) (typed : SettingTyped s
         pub covered_fits : Member d from → (value : Value) → CoveringsGive setting assigned d value → CoveredFits d value
         covered_fits m value h =
             let t = by_at d m in
-            let i = place_of from d m in
+            let i = member_place from d m in
             let k = declared_typed from from_is i.0 d i.1 in
             let is : t.image.value ≡ value = valued by d.name t.image value t.mapped (gives d m value h) in
             let class : translate_class along d.class ≡ translate_class by d.class = classes_same from from_is along by done done_is same_on from_imaged d.class declared.class_is k.class in

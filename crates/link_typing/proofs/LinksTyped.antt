@@ -5,7 +5,7 @@ use Rattle.lf_meaning.specs.Terms.{Constant}
 use Rattle.lf_meaning.specs.Signatures.{Class, Value, SameAs, TermValue, FamilyValue, Declaration, Signature, same_constant}
 use Rattle.lf_meaning.specs.Judgements.{IsClass, Fits, ValueFits, IsDeclaration, IsSignature}
 use Rattle.lf_typing.proofs.Growing.{signature_grows}
-use Rattle.list_laws.proofs.Members.{Member, in_append, append_left, append_right, place_member}
+use Rattle.list_laws.proofs.Members.{Member, in_append, append_left, append_right, place_member, member_place}
 use Rattle.list_laws.proofs.Places.{split_at}
 use Rattle.lf_meaning.specs.HeadMaps.{Image, Mapping, HeadMap, image_of}
 use Rattle.translation_meaning.specs.Translation.{translate_class, translate_value}
@@ -26,7 +26,7 @@ use Rattle.link_laws.proofs.Reading.{assigns_sound}
 use Rattle.link_laws.proofs.Linked.{own_named, passes_sound}
 use Rattle.holding_laws.specs.HoldingLaws.{Grows}
 use Rattle.holding_laws.specs.ExpansionHolds.{scope_signature}
-use Rattle.holding_laws.proofs.Declared.{place_of, front_grows, take_grows, class_in}
+use Rattle.holding_laws.proofs.Declared.{front_grows, take_grows, class_in}
 use Rattle.holding_laws.proofs.Translating.{placed_in}
 use Rattle.link_coherence_laws.proofs.Onces.{Once, once_left, once_names, member_declared}
 use Rattle.link_coherence_laws.proofs.ImagesHold.{SettingHolds}
@@ -100,8 +100,8 @@ module _ (setting : Setting) (ok : SettingHolds setting) (typed : SettingTyped s
       -- what the scope declares, over more
       scope_knows : (x : Declaration) → Member x before → DeclaredTyped (before ++ ind) x
       scope_knows x m =
-          let i = place_of before x m in
-          let j = place_of (before ++ ind) x (append_left before ind x m) in
+          let i = member_place before x m in
+          let j = member_place (before ++ ind) x (append_left before ind x m) in
           let is : IsDeclaration (take i.0 before) x = typed.scope (take i.0 before) x (drop (suc i.0) before) (split_at before i.0 x i.1) in
           record {
             class = class_in (before ++ ind) (once_names (before ++ ind) once) j.0 x j.1;
@@ -281,7 +281,7 @@ module _ (setting : Setting) (ok : SettingHolds setting) (typed : SettingTyped s
         let n : Member d (own_parts setting.environment (included_theories setting)) = place_member (own_parts setting.environment (included_theories setting)) j d e in
         let there : Member d flat = append_left (own_parts setting.environment (included_theories setting)) (own_part setting.environment setting.domain) d n in
         let i = image_at setting ok typed assigned along meets whole coherent_map d there in
-        let p = place_of flat d there in
+        let p = member_place flat d there in
         let c = included_fits setting ok typed assigned along meets whole coherent_map (take p.0 flat) (drop (suc p.0) flat) d (split_at flat p.0 d p.1) items n i.image.value
         (covered_value setting ok typed assigned along meets whole coherent_map d n (translate_class along d.class) (option_map (translate_value along) d.value) i.image.value i.value_is) in
         record { image = i.image; mapped = i.mapped; fits = subst (Fits before i.image.value) (sym i.class_is) c.fits }

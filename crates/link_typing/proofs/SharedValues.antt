@@ -5,7 +5,7 @@ use Rattle.lf_meaning.specs.Terms.{Constant}
 use Rattle.lf_meaning.specs.Signatures.{Class, Value, Declaration, Signature, class_of}
 use Rattle.lf_meaning.specs.Judgements.{Fits, IsDeclaration, IsSignature}
 use Rattle.lf_typing.proofs.Growing.{signature_shrinks}
-use Rattle.list_laws.proofs.Members.{Member, in_append, append_left, append_right}
+use Rattle.list_laws.proofs.Members.{Member, in_append, append_left, append_right, filter_map_in, member_place}
 use Rattle.lf_meaning.specs.HeadMaps.{Image, HeadMap, image_of}
 use Rattle.translation_meaning.specs.Translation.{translate_class, translate_value, translate_image, compose}
 use Rattle.translation_meaning.specs.Differ.{value_in}
@@ -24,11 +24,9 @@ use Rattle.link_meaning.specs.Assignments.{Setting, Assigned, Sharing}
 use Rattle.link_meaning.specs.Passes.{ByStructure, reached_by, is_own}
 use Rattle.link_meaning.specs.Equations.{IsDefinition, OwnHasValue, HasValueBy, MeetsEquations}
 use Rattle.link_meaning.specs.Induced.{induced_with}
-use Rattle.link_laws.proofs.Covered.{filter_map_in}
 use Rattle.link_laws.proofs.Linked.{own_named}
 use Rattle.holding_laws.specs.HoldingLaws.{Grows}
 use Rattle.holding_laws.specs.ExpansionHolds.{scope_signature}
-use Rattle.holding_laws.proofs.Declared.{place_of}
 use Rattle.link_coherence_laws.specs.LinkTargets.{target_of}
 use Rattle.link_coherence_laws.proofs.Onces.{Once}
 use Rattle.link_coherence_laws.proofs.WordsHold.{flat_once, paths_of_theory}
@@ -203,8 +201,8 @@ module _ (setting : Setting) (ok : SettingHolds setting) (typed : SettingTyped s
     -- the sharing link's value is the same
     shared_included : (x : Declaration) (n : Member x (inner_parts ++ at.front)) → Member x inner_parts → value_in by.map x.name ≡ Some (translate_value along (image_of_map x n).value)
     shared_included x n k =
-        let a = place_of assigned (Sharing path structure first by) m in
-        let j = place_of inner_parts x k in
+        let a = member_place assigned (Sharing path structure first by) m in
+        let j = member_place inner_parts x k in
         let s = meets.shared a.0 path structure first by a.1 j.0 x j.1 in
         s.same ∙ ap (λ z. Some (translate_value along z)) (sym (valued structure.map x.name (image_of_map x n) s.value (map_at x (in_inner x n)).mapped s.image))
 
@@ -243,7 +241,7 @@ module _ (setting : Setting) (ok : SettingHolds setting) (typed : SettingTyped s
     over_is = item.1.translates.source
 
     by_at : (x : Declaration) → Member x over → IsTypedAt (target_of setting.environment setting.here by.codomain) by.map x
-    by_at x n = let i = place_of over x n in item.1.translates.typed i.0 x i.1
+    by_at x n = let i = member_place over x n in item.1.translates.typed i.0 x i.1
 
     in_over : (x : Declaration) → Member x (inner_parts ++ inner) → Member x over
     in_over x n = reached_member setting ok typed by.domain structure.domain x item.3 n
@@ -251,7 +249,7 @@ module _ (setting : Setting) (ok : SettingHolds setting) (typed : SettingTyped s
     both_at : (x : Declaration) → Member x (inner_parts ++ at.front) → IsTypedAt target both x
     both_at x n =
         let c = composition_is_typed (inner_parts ++ at.front) done target structure.map along composable in
-        let i = place_of (inner_parts ++ at.front) x n in
+        let i = member_place (inner_parts ++ at.front) x n in
         c.typed i.0 x i.1
 
     same_on : (c : Constant) (class given : Class) → class_of (inner_parts ++ at.front) c ≡ Some class → class_of over c ≡ Some given → (class ≡ given) × SameAt both by.map c class
@@ -284,7 +282,7 @@ module _ (setting : Setting) (ok : SettingHolds setting) (typed : SettingTyped s
 
     class_same : translate_class along d.class ≡ translate_class by.map e.class
     class_same =
-        let i = place_of over e source_over in
+        let i = member_place over e source_over in
         let k = declared_typed over over_is i.0 e i.1 in
         let t = map_at e (append_right inner_parts inner e source.own) in
         ap (λ (z : Declaration). translate_class along z.class) is_copy ∙ ap (translate_class along) t.class

@@ -19,3 +19,7 @@ Same A x y = x ≡ y
 
 pub ok_same : {E A : Type 0} {x y : A} → Same (Result A E) (Ok x) (Ok y) → x ≡ y
 ok_same h = cc
+
+pub bind_assoc : {E A B C : Type 0} (first : Result A E) (next : A → Result B E) (last : B → Result C E) → (first >>= next) >>= last ≡ first >>= (λ item. next item >>= last)
+bind_assoc (Err fault) next last = refl
+bind_assoc (Ok item) next last = refl

@@ -1,5 +1,5 @@
 -- Members of lists, and what a test of a whole list says of them.
-use Rattle.std.proofs.Common.{◌≡◌, Bool, true, false, List, [], ◌∷◌, ◌++◌, map, filter, find, flat_map, Option, Some, None, is_some, ◌&&◌, cond, ◌⊎◌, inl, inr, ⊎_elim, refl, sym, ap, ◌∙◌, subst, true≢false}
+use Rattle.std.proofs.Common.{◌≡◌, Bool, true, false, List, [], ◌∷◌, ◌++◌, length, map, filter, filter_map, find, flat_map, Option, Some, None, is_some, ◌&&◌, cond, ◌⊎◌, inl, inr, ⊎_elim, refl, sym, ap, ◌∙◌, subst, true≢false}
 use Rattle.std.specs.Prelude.{ℕ, zero, suc, slice_get}
 use Rattle.std.specs.List.{list_any, list_all, cons_option}
 use Rattle.std.proofs.lemmas.Option.{same_Some}
@@ -9,6 +9,11 @@ module _ {A : Type 0} where
   abbrev pub Member : A → List A → Type 0
   Member x [] = ⊥
   Member x (y ∷ ys) = (x ≡ y) ⊎ Member x ys
+
+  pub member_place : (xs : List A) (x : A) → Member x xs → (i : ℕ) × (slice_get xs i ≡ Some x)
+  member_place [] x m = absurd m
+  member_place (y ∷ ys) x (inl e) = (zero, ap Some (sym e))
+  member_place (y ∷ ys) x (inr m) = let p = member_place ys x m in (suc p.0, p.1)
 
   pub any_found : (p : A → Bool) (xs : List A) → list_any p xs ≡ true → (x : A) × Member x xs × (p x ≡ true)
   any_found p [] h = absurd (true≢false (sym h))
@@ -141,3 +146,40 @@ option_first o xs x e = subst (λ z. Member x (cons_option z xs)) (sym e) (inl r
 pub option_rest : {A : Type 0} (o : Option A) (xs : List A) (x : A) → Member x xs → Member x (cons_option o xs)
 option_rest None xs x m = m
 option_rest (Some y) xs x m = inr m
+
+-- members of what is kept
+pub in_filter_map : {A B : Type 0} (f : A → Option B) (xs : List A) (y : B) → Member y (filter_map f xs) → (x : A) × Member x xs × (f x ≡ Some y)
+in_filter_map f [] y m = absurd m
+in_filter_map f (x ∷ xs) y m = by (in_option (f x) (filter_map f xs) y m) (in_filter_map f xs y)
+  where
+    by : (f x ≡ Some y) ⊎ Member y (filter_map f xs) → (Member y (filter_map f xs) → (z : _) × Member z xs × (f z ≡ Some y)) → (z : _) × Member z (x ∷ xs) × (f z ≡ Some y)
+    by (inl e) g = (x, inl refl, e)
+    by (inr n) g = let q = g n in (q.0, inr q.1, q.2)
+
+pub filter_map_in : {A B : Type 0} (f : A → Option B) (xs : List A) (x : A) (y : B) → Member x xs → f x ≡ Some y → Member y (filter_map f xs)
+filter_map_in f [] x y m e = absurd m
+filter_map_in f (z ∷ xs) x y (inl q) e = option_first (f z) (filter_map f xs) y (ap f (sym q) ∙ e)
+filter_map_in f (z ∷ xs) x y (inr m) e = option_rest (f z) (filter_map f xs) y (filter_map_in f xs x y m e)
+
+-- where a function gives something of each member, all are kept in their places
+module _ {A B : Type 0} (f : A → Option B) where
+  length_with : (x : A) (xs : List A) (o : Option B) → f x ≡ o → is_some o ≡ true → length (filter_map f xs) ≡ length xs → length (filter_map f (x ∷ xs)) ≡ length (x ∷ xs)
+  length_with x xs None e s g = absurd (true≢false (sym s))
+  length_with x xs (Some y) e s g = ap (λ o. length (cons_option o (filter_map f xs))) e ∙ ap suc g
+
+  first_with : (x : A) (xs : List A) (o : Option B) → f x ≡ o → is_some o ≡ true → slice_get (filter_map f (x ∷ xs)) 0 ≡ f x
+  first_with x xs None e s = absurd (true≢false (sym s))
+  first_with x xs (Some y) e s = ap (λ o. slice_get (cons_option o (filter_map f xs)) 0) e ∙ sym e
+
+  later_with : (x : A) (xs : List A) (i : ℕ) (o : Option B) → f x ≡ o → is_some o ≡ true → slice_get (filter_map f (x ∷ xs)) (suc i) ≡ slice_get (filter_map f xs) i
+  later_with x xs i None e s = absurd (true≢false (sym s))
+  later_with x xs i (Some y) e s = ap (λ o. slice_get (cons_option o (filter_map f xs)) (suc i)) e
+
+  pub kept_length : (xs : List A) → ((x : A) → Member x xs → is_some (f x) ≡ true) → length (filter_map f xs) ≡ length xs
+  kept_length [] h = refl
+  kept_length (x ∷ xs) h = length_with x xs (f x) refl (h x (inl refl)) (kept_length xs (λ y m. h y (inr m)))
+
+  pub kept_at : (xs : List A) → ((x : A) → Member x xs → is_some (f x) ≡ true) → (i : ℕ) (x : A) → slice_get xs i ≡ Some x → slice_get (filter_map f xs) i ≡ f x
+  kept_at [] h i x p = absurd (cc)
+  kept_at (y ∷ ys) h zero x p = first_with y ys (f y) refl (h y (inl refl)) ∙ ap f (same_Some _ _ p)
+  kept_at (y ∷ ys) h (suc i) x p = later_with y ys i (f y) refl (h y (inl refl)) ∙ kept_at ys (λ z m. h z (inr m)) i x p

@@ -1,10 +1,14 @@
 -- Options that hold something or nothing.
-use Rattle.std.proofs.Common.{◌≡◌, Bool, true, false, cond, Option, Some, None, is_some, refl}
+use Rattle.std.proofs.Common.{◌≡◌, Bool, true, false, cond, Option, Some, None, is_some, refl, sym, true≢false}
 use Rattle.std.specs.Prelude.{option_map}
 
 pub none_of : {A : Type 0} (o : Option A) → is_some o ≡ false → o ≡ None
 none_of None h = refl
 none_of (Some x) h = absurd (cc)
+
+pub some_of : {A : Type 0} (o : Option A) → is_some o ≡ true → (x : A) × (o ≡ Some x)
+some_of None h = absurd (true≢false (sym h))
+some_of (Some x) h = (x, refl)
 
 pub clash : {A : Type 0} {x : A} (o : Option A) → o ≡ None → o ≡ Some x → ⊥
 clash o h g = absurd (cc)

@@ -2,12 +2,11 @@
 use Rattle.std.proofs.Common.{◌≡◌, Bool, true, false, cond, List, [], ◌∷◌, ◌++◌, Option, Some, None, is_some, refl, sym, ap, ◌∙◌, subst}
 use Rattle.name_meaning.specs.Names.{Name, Path, same_name}
 use Rattle.lf_meaning.specs.Judgements.{IsSignature}
-use Rattle.list_laws.proofs.Members.{Member}
+use Rattle.list_laws.proofs.Members.{Member, member_place}
 use Rattle.library_meaning.specs.Faces.{StructureFace, TheoryFace, IsTheory, Environment, theory_face, theory_of, structure_of, includes_of, own_of, own_parts, flat_of}
 use Rattle.library_meaning.specs.Coherence.{IsCoherent}
 use Rattle.library_meaning.specs.Words.{Link, structure_link, behind_structure, structures_of, link_by, is_empty, structures_link}
 use Rattle.link_laws.proofs.Linked.{known_theory}
-use Rattle.holding_laws.proofs.Declared.{place_of}
 use Rattle.link_coherence_laws.proofs.WordsHold.{structure_member}
 use Rattle.row_typing.specs.TypedFaces.{IsTypedEnvironment}
 use Rattle.row_typing.proofs.Places.{LinkPlaced, structure_placed, structure_within}
@@ -48,7 +47,7 @@ module _ (environment : Environment) (coherent : IsCoherent environment) (typed 
 
   module _ (theory : Name) (face : TheoryFace) (is : environment theory ≡ IsTheory face) where
     known_domain : (structure : StructureFace) → Member structure face.structures → is_some (theory_of environment structure.domain) ≡ true
-    known_domain structure m = let i = place_of face.structures structure m in (coherent.theories theory face is).domains i.0 structure i.1
+    known_domain structure m = let i = member_place face.structures structure m in (coherent.theories theory face is).domains i.0 structure i.1
 
     behind : (structure : StructureFace) (m : Member structure face.structures) (path : Path) (o : Option Link) (link : Link) → ((inner : Link) → o ≡ Some inner → PlacedAs structure.domain path inner) → behind_structure o (structure_link theory structure) ≡ Some link
         → PlacedAs theory (structure.name ∷ path) link

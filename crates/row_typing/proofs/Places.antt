@@ -6,7 +6,7 @@ use Rattle.lf_meaning.specs.Terms.{Constant}
 use Rattle.lf_meaning.specs.Signatures.{Class, Value, SameAs, TermValue, FamilyValue, Declaration, Signature, same_constant, undefined_class, declared_class, class_of}
 use Rattle.lf_meaning.specs.Judgements.{Fits, ValueFits, IsDeclaration, IsSignature}
 use Rattle.lf_term_laws.proofs.Equality.{same_constant_sound}
-use Rattle.list_laws.proofs.Members.{Member, in_append, append_left, append_right, place_member}
+use Rattle.list_laws.proofs.Members.{Member, in_append, append_left, append_right, place_member, member_place}
 use Rattle.lf_meaning.specs.HeadMaps.{Image, HeadMap, image_of}
 use Rattle.translation_meaning.specs.Translation.{translate_value, translate_image, same_image, compose}
 use Rattle.translation_meaning.specs.ProperValues.{ValuesAreProper}
@@ -19,7 +19,7 @@ use Rattle.library_meaning.specs.Faces.{StructureFace, TheoryFace, IsTheory, Env
 use Rattle.library_meaning.specs.Coherence.{IsCoherent}
 use Rattle.link_meaning.specs.Induced.{defined_by, induced_with}
 use Rattle.holding_laws.specs.HoldingLaws.{Grows}
-use Rattle.holding_laws.proofs.Declared.{place_of, front_grows}
+use Rattle.holding_laws.proofs.Declared.{front_grows}
 use Rattle.link_coherence_laws.proofs.Onces.{Once, once_left, member_declared}
 use Rattle.link_coherence_laws.proofs.WordsHold.{flat_once}
 use Rattle.row_typing.specs.TypedFaces.{IsPlaced, IsTypedTheory, IsTypedEnvironment}
@@ -120,7 +120,7 @@ module _ (environment : Environment) where
       faced = typed.theories theory face is
 
       at : (i : ℕ) × (slice_get face.structures i ≡ Some structure)
-      at = place_of face.structures structure m
+      at = member_place face.structures structure m
 
       placed : IsPlaced environment face structure
       placed = faced.placed at.0 structure at.1
@@ -148,7 +148,7 @@ module _ (environment : Environment) where
 
       -- the map at a constant of the domain
       map_at : (d : Declaration) → Member d (flat_of environment structure.domain) → IsTypedAt (flat_signature environment face) structure.map d
-      map_at d n = let i = place_of (flat_of environment structure.domain) d n in faced.maps at.0 structure at.1 i.0 d i.1
+      map_at d n = let i = member_place (flat_of environment structure.domain) d n in faced.maps at.0 structure at.1 i.0 d i.1
 
       image_same : (d : Declaration) (i j : Image) → image_of structure.map d.name ≡ Some i → image_of structure.map d.name ≡ Some j → i ≡ j
       image_same d i j e f = same_Some _ _ (sym e ∙ f)
@@ -169,7 +169,7 @@ module _ (environment : Environment) where
       included_at : (pre : Signature) (d : Declaration) → Member d (parts_of structure.domain) → IsTypedAt (parts_of theory ++ (placed.front ++ copies pre)) structure.map d
       included_at pre d n =
           let t = map_at d (append_left (parts_of structure.domain) (own_part environment structure.domain) d n) in
-          let i = place_of (parts_of structure.domain) d n in
+          let i = member_place (parts_of structure.domain) d n in
           let f = placed.included i.0 d i.1 in
           let grown : Grows (own_parts environment face.includes ++ placed.front) (parts_of theory ++ (placed.front ++ copies pre)) =
           subst₂ Grows (ap (λ z. z ++ placed.front) (sym included_is)) (sym (front_of pre)) (front_grows (parts_of theory ++ placed.front) (copies pre)) in
@@ -329,7 +329,7 @@ module _ (environment : Environment) where
           typed_through : (d : Declaration) → Member d (parts_of domain ++ pre) → IsTypedAt (parts_of theory ++ ((outer.front ++ copies inner.front) ++ both_copies pre)) both d
           typed_through d n =
               let c = composition_is_typed (parts_of domain ++ pre) (parts_of structure.domain ++ (inner.front ++ inner_copies pre)) (parts_of theory ++ (outer.front ++ copies (inner.front ++ inner_copies pre))) along structure.map composable in
-              let i = place_of (parts_of domain ++ pre) d n in
+              let i = member_place (parts_of domain ++ pre) d n in
               subst (λ z. IsTypedAt z both d) last_is (c.typed i.0 d i.1)
 
         pub structure_within : LinkPlaced theory (structure.name ∷ path) domain both

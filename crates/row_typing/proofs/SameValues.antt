@@ -8,9 +8,9 @@ use Rattle.lf_typing.proofs.Closed.{class_is_class}
 use Rattle.lf_typing.proofs.Growing.{signature_shrinks}
 use Rattle.lf_meaning.specs.HeadMaps.{Image, HeadMap, image_of}
 use Rattle.translation_meaning.specs.Translation.{translate_class, translate_value}
-use Rattle.translation_typing.proofs.Agreeing.{AgreeOn, class_agrees, value_agrees}
+use Rattle.translation_typing.proofs.Agreeing.{class_agrees, value_agrees}
 use Rattle.translation_typing.proofs.Restricted.{restrict, restricted, restricted_there}
-use Rattle.lf_term_laws.proofs.Declarations.{undefined_is, image_front}
+use Rattle.lf_term_laws.proofs.Declarations.{undefined_is, image_front, AgreeOn}
 
 -- both maps have an image of the constant, of its class by their own translation, and of one value
 pub record SameAt (first second : HeadMap) (c : Constant) (class : Class) : Type 0 where

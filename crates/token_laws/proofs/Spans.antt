@@ -98,3 +98,8 @@ cut_stands (row {at = at} words rest {ts = ts} {e = e} k l d) front h =
 pub tokens_stand_well : TokensStandWell
 unfolding place_of
 tokens_stand_well text ts end h = let f = cut_stands h.1 [] refl in record { order = f.order; within = f.within; bytes = f.bytes }
+
+-- a comment that has no end begins within the text
+pub open_within : (text : List ℕ) (ts : List Token) (at : ℕ) → Cut 0 text ts (Unclosed at) → at ≤ length text
+unfolding place_of
+open_within text ts at d = (cut_stands d [] refl).within

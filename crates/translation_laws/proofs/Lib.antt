@@ -3,3 +3,4 @@ pub mod Differing
 pub mod Spines
 mod Typed
 pub mod FirstUnmapped
+pub mod ValuesOut

@@ -1,5 +1,6 @@
 //! Translation of spines, and composed maps.
 
+ghost use Rattle.translation_laws.specs.ValueLaws.{ObjectsComeOut, FamiliesComeOut};
 ghost use Rattle.translation_laws.specs.TranslationLaws.{SpineIsTaken, FamilySpineIsTaken, CompositionTranslatesImages, DifferenceIsFirst, AgreeIsOneValue, DefinedConstantsKeepValues, ConstantsHaveImages, FirstIsFound};
 
 /// A head with its arguments is translated by its image taking the translated arguments.
@@ -28,4 +29,10 @@ pub fn law_typed_maps()
 /// The constant that is found is the first one without an image; none is found where each has one.
 pub fn law_unmapped()
     ensures { FirstIsFound }
+{}
+
+/// A value that comes out as a bare constant is the same as the constant, and no other is.
+pub fn law_values()
+    ensures objects { ObjectsComeOut }
+    ensures families { FamiliesComeOut }
 {}

@@ -13,9 +13,7 @@ use Rattle.translation_typing.specs.TypedTranslation.{translate_context}
 use Rattle.translation_sort_laws.proofs.Kinded.{family_kinded, kind_kinded}
 use Rattle.translation_sort_laws.proofs.Known.{ObjectKnown, AtomicKnown, HeadKnown, FamilyKnown, KindKnown, object_known, family_known, kind_known}
 use Rattle.translation_sort_laws.proofs.Images.{by_images}
-
-abbrev pub AgreeOn : Signature → HeadMap → HeadMap → Type 0
-AgreeOn sig first second = (c : Constant) (class : Class) → class_of sig c ≡ Some class → image_of first c ≡ image_of second c
+use Rattle.lf_term_laws.proofs.Declarations.{AgreeOn}
 
 module _ (sig : Signature) (first second : HeadMap) (agree : AgreeOn sig first second) where
   mutual

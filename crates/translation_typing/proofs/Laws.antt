@@ -29,10 +29,10 @@ use Rattle.translation_sort_laws.proofs.Images.{TypedImage, IsMap, by_images}
 use Rattle.translation_typing.proofs.TypedHeads.{HeadIs}
 use Rattle.translation_sort_laws.proofs.KindDomains.{domains_of}
 use Rattle.translation_typing.proofs.Restricted.{restrict, restricted_there, restricted_declared}
-use Rattle.translation_typing.proofs.Agreeing.{AgreeOn, replace_head_agrees, head_agrees, class_agrees, context_agrees, object_agrees, family_agrees, kind_agrees, checked_agrees, typed_family_agrees, typed_kind_agrees, value_agrees}
+use Rattle.translation_typing.proofs.Agreeing.{replace_head_agrees, head_agrees, class_agrees, context_agrees, object_agrees, family_agrees, kind_agrees, checked_agrees, typed_family_agrees, typed_kind_agrees, value_agrees}
 use Rattle.translation_typing.proofs.Carrying.{synthesises_translated, head_translated, class_translated, context_translated, family_translated, kind_translated, checks_translated, value_translated}
 use Rattle.std.proofs.lemmas.Option.{same_Some}
-use Rattle.lf_term_laws.proofs.Declarations.{undefined_is}
+use Rattle.lf_term_laws.proofs.Declarations.{undefined_is, AgreeOn}
 
 -- ---- images of a typed map
 

@@ -164,11 +164,11 @@ found_first : {A : Type 0} (p : A → Bool) (xs : List A) (x : A) → find p xs 
 found_first p [] x e = absurd (cc)
 found_first p (y ∷ ys) x e = first_by p y ys x (p y) refl (found_first p ys x) e
 
-among_ungrounded : (library : Library) (name : Name) → is_ungrounded dependencies library name ≡ true → is_among (ungrounded_names dependencies library) name ≡ true
+pub among_ungrounded : (library : Library) (name : Name) → is_ungrounded dependencies library name ≡ true → is_among (ungrounded_names dependencies library) name ≡ true
 unfolding ungrounded_names is_ungrounded
 among_ungrounded library name u = u
 
-ungrounded_among : (library : Library) (name : Name) → is_among (ungrounded_names dependencies library) name ≡ true → is_ungrounded dependencies library name ≡ true
+pub ungrounded_among : (library : Library) (name : Name) → is_among (ungrounded_names dependencies library) name ≡ true → is_ungrounded dependencies library name ≡ true
 unfolding ungrounded_names is_ungrounded
 ungrounded_among library name u = u
 

@@ -13,6 +13,7 @@ use Rattle.list_laws.proofs.Members.{Member}
 use Rattle.name_laws.proofs.Order.{among_member, member_among, same_sound}
 use Rattle.name_laws.proofs.Rows.{row_with, row_without, row_among, names_with_row}
 use Rattle.log_laws.proofs.Libraries.{present_among, text_edited, names_with}
+use Rattle.walk_laws.proofs.Agreement.{direct_same}
 use Rattle.walk_laws.proofs.Walking.{names_count, walking_step, walking_present, present_in, in_present, ungrounded_dependency, ungrounded_in, in_ungrounded}
 
 -- ---- the same names and the same direct dependencies
@@ -52,10 +53,10 @@ pub row_library_names : (graph : Graph) → names_of (row_library graph) ≡ row
 row_library_names [] = refl
 row_library_names (row ∷ graph) = ap (λ z. row.0 ∷ z) (row_library_names graph)
 
-row_library_present : (graph : Graph) (n : Name) → is_present (row_library graph) n ≡ is_some (row_of graph n)
+pub row_present : (graph : Graph) (n : Name) → is_present (row_library graph) n ≡ is_some (row_of graph n)
 unfolding text_of row_of
-row_library_present [] n = refl
-row_library_present (row ∷ graph) n = by (same_name n row.0) (row_library_present graph n)
+row_present [] n = refl
+row_present (row ∷ graph) n = by (same_name n row.0) (row_present graph n)
   where
     by : (b : Bool) → is_some (text_of (row_library graph) n) ≡ is_some (row_of graph n) → is_some (cond b (Some []) (text_of (row_library graph) n)) ≡ is_some (cond b (Some row.1) (row_of graph n))
     by true h = refl
@@ -63,15 +64,12 @@ row_library_present (row ∷ graph) n = by (same_name n row.0) (row_library_pres
 
 pub row_direct : (graph : Graph) (n : Name) → direct (row_dependencies graph) (row_library graph) n ≡ unwrap_or (row_of graph n) []
 unfolding direct
-row_direct graph n = by (text_of (row_library graph) n) (row_of graph n) (row_library_present graph n)
+row_direct graph n = by (text_of (row_library graph) n) (row_of graph n) (row_present graph n)
   where
     by : (text : Option Text) (row : Option (List Name)) → is_some text ≡ is_some row → of_text (λ t. unwrap_or row []) text ≡ unwrap_or row []
     by None None h = refl
     by None (Some row) h = absurd (true≢false (sym h))
     by (Some t) row h = refl
-
-pub row_present : (graph : Graph) (n : Name) → is_present (row_library graph) n ≡ is_some (row_of graph n)
-row_present = row_library_present
 
 -- ---- a graph that holds the dependencies of a library
 
@@ -118,10 +116,6 @@ module _ (graph : Graph) (dependencies : Dependencies) (library : Library) (hold
 direct_some : (dependencies : Dependencies) (library : Library) (n : Name) (t : Text) → text_of library n ≡ Some t → direct dependencies library n ≡ dependencies n t
 unfolding direct
 direct_some dependencies library n t h = ap (of_text (dependencies n)) h
-
-direct_same : (dependencies : Dependencies) (library other : Library) (n : Name) → text_of library n ≡ text_of other n → direct dependencies library n ≡ direct dependencies other n
-unfolding direct
-direct_same dependencies library other n h = ap (of_text (dependencies n)) h
 
 names_kept : (p : Module → Bool) (q : Name × List Name → Bool) → ((n : Name) (t : Text) (d : List Name) → p (record { name = n; text = t }) ≡ q (n, d))
     → (graph : Graph) (library : Library) → row_names graph ≡ names_of library → row_names (filter q graph) ≡ names_of (filter p library)

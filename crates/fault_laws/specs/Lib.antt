@@ -1,0 +1,2 @@
+pub mod RulesBroken
+pub mod FaultLaws

@@ -1,0 +1,4 @@
+pub mod Wider
+pub mod Derived
+pub mod DerivedModules
+pub mod ReadingPlaces

@@ -1,0 +1,2 @@
+//! Where the parts of a tree stand: definitions, in `specs/`.
+#![tactic(auto)]
