@@ -1,17 +1,19 @@
 -- From the machine's answer to what a text is read as.
 use Rattle.std.specs.Prelude.{IfOk, IfErr, Result, Ok, Err}
-use Rattle.std.proofs.Common.{◌≡◌, ℕ, List, refl, sym, subst}
-use Rattle.text_meaning.specs.Cut.{NotUtf8, IsLexed}
+use Rattle.std.proofs.Common.{ℕ, List, refl, sym, subst}
+use Rattle.text_meaning.specs.Cut.{NotUtf8}
 use Rattle.text_meaning.specs.Reading.{Target, Answer, Syntax, Reads}
 use Rattle.text_meaning.specs.TextAnswers.{read}
 use Rattle.reading_laws.proofs.OneAnswer.{one_reading}
-use Rattle.twelf_reader.specs.Going.{Fails, Goes}
-use Rattle.twelf_reader.specs.Answers.{IsFaultOf}
-use Rattle.twelf_reader.specs.declared.fault.ReadFault.{ReadFault}
-use Rattle.twelf_reader.specs.declared.fault.ReadFault.TheVariants as faults
+use Rattle.twelf_expressions.specs.Going.{Fails, Goes}
+use Rattle.twelf_reader.specs.Answers.{IsFaultOf, IsNoText}
+use Rattle.twelf_expressions.specs.declared.fault.ReadFault.{ReadFault}
+use Rattle.twelf_expressions.specs.declared.fault.ReadFault.TheVariants as faults
 
-pub not_utf8 : (target : Target) (text : List ℕ) (at : ℕ) → IsLexed text (NotUtf8 at) → read target text ≡ Syntax at
-not_utf8 target text at h = sym ((one_reading target text).only (Syntax at) (NotUtf8 at, h, refl))
+-- a text that is not UTF-8
+pub no_text_fails : (target : Target) (text : List ℕ) (f : ReadFault) → IsNoText text f → Fails f (read target text)
+no_text_fails target text (faults.Syntax at) h = sym ((one_reading target text).only (Syntax at) (NotUtf8 at, h, refl))
+no_text_fails target text _ h = absurd h
 
 -- ---- the clauses of the two calls
 

@@ -4,19 +4,19 @@ use Rattle.text_meaning.specs.Reading.{ModuleText, ModuleTree, Read}
 use Rattle.text_meaning.specs.TextAnswers.{read}
 use Rattle.mmt_syntax.specs.Readings as syntax
 use Rattle.mmt_syntax.specs.declared.module.Module.{Module}
-use Rattle.twelf_reader.specs.Going.{Goes}
-use Rattle.twelf_reader.proofs.Readings.{fails_reads, fault_reads, ok_reads, only_fails, only_reads}
+use Rattle.twelf_expressions.specs.Going.{Goes}
+use Rattle.twelf_reader.proofs.Readings.{fails_reads, fault_reads, no_text_fails, ok_reads, only_fails, only_reads}
 use Rattle.twelf_reader.proofs.texts.read_module.Goals as goal
 
 pub returns-in_err-text-clause-fault : goal.returns-in_err-text-clause-fault
 returns-in_err-text-clause-fault c =
     let p = err_from_is_err_and c.from_residual.result c.from_residual.ensures.1 in
-    rw (p.1, p.2) (fails_reads ModuleText c.args.text.now c.in_err-text.field-0.0 (c.in_err-text.ensures.fault ModuleText))
+    rw (p.1, p.2) (fails_reads ModuleText c.args.text.now c.in_err-text.field-0.0 (no_text_fails ModuleText c.args.text.now c.in_err-text.field-0.0 c.in_err-text.ensures.fault))
 
 pub returns-in_err-text-clause-only : goal.returns-in_err-text-clause-only
 returns-in_err-text-clause-only c = λ answer h.
     let p = err_from_is_err_and c.from_residual.result c.from_residual.ensures.1 in
-    rw (p.1, p.2) (only_fails ModuleText c.args.text.now c.in_err-text.field-0.0 (c.in_err-text.ensures.fault ModuleText) answer h)
+    rw (p.1, p.2) (only_fails ModuleText c.args.text.now c.in_err-text.field-0.0 (no_text_fails ModuleText c.args.text.now c.in_err-text.field-0.0 c.in_err-text.ensures.fault) answer h)
 
 pub returns-clause-ok : goal.returns-clause-ok
 returns-clause-ok c =

@@ -1,0 +1,19 @@
+//! What a reader has before it.
+ghost use Rattle.std.specs.Prelude.{◌≤◌, ◌^◌, length};
+ghost use Rattle.twelf_lexer.specs.Lexemes.{IsLexeme};
+ghost use Rattle.twelf_lexer.proofs.Props.{lexeme_prop};
+
+use std::alloc::Global;
+use twelf_lexer::{Lexeme, NameTable};
+
+/// What is left to read of a text: what stands next, and what is behind it.
+#[derive(Debug, Drop)]
+pub struct Reader<'a> {
+    /// The allocator of all that is read.
+    pub alloc: Global,
+    pub(crate) names: NameTable,
+    pub(crate) text: &'a str,
+    pub(crate) next: Lexeme,
+    ghost small: { length text.now ≤ 2 ^ 26 },
+    ghost stands: { IsLexeme text.now next } by { lexeme_prop text.now next },
+}
