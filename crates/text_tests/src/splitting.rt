@@ -15,8 +15,8 @@ fn files(rt: HostRuntime) -> Result<(), Fail> {
             "A 5-6 0-13 V 30-31 24-47 ",
         ),
         (
-            "%sig A = { %struct s : B = { }. }.%sig B={}.",
-            "A 5-6 0-34 B 39-40 34-44 ",
+            "%sig A = { %struct s : B = { }. }.%sig B = {}.",
+            "A 5-6 0-34 B 39-40 34-46 ",
         ),
         ("%sig A = { %{ } }% }.", "A 5-6 0-21 "),
         ("%sig A = { } .", "A 5-6 0-14 "),
@@ -55,7 +55,7 @@ fn a_thousand_modules(rt: HostRuntime) -> Result<(), Fail> {
     for number in 1000..2000 {
         let at = text.len();
         write!(text, "%sig M{number} = {{ {{ }} }}.\n")?;
-        write!(want, "M{number} {}-{} {}-{} ", at + 5, at + 10, at, at + 22)?;
+        write!(want, "M{number} {}-{} {}-{} ", at + 5, at + 10, at, at + 21)?;
     }
     let line = divided(alloc, text.as_bytes())?;
     assert!(rt;

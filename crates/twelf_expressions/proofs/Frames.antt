@@ -1,27 +1,29 @@
 -- Expressions that are whole, and the frames that wait for them.
 use Rattle.std.specs.Prelude.{Option, Result, Ok, Err, IsErrAnd}
-use Rattle.std.proofs.Common.{◌≡◌, ℕ, ◌+◌, true, false, List, [], ◌∷◌, length, arith, Some, refl, sym, ap, ap₂, subst, ◌∙◌, true≢false}
-use Rattle.text_meaning.specs.Tokens.{Span, Token, sign, RightParen, RightBrace, RightBracket}
+use Rattle.std.proofs.Common.{◌≡◌, ℕ, ◌+◌, true, false, List, [], ◌∷◌, ◌++◌, length, arith, Some, refl, sym, ap, ap₂, subst, ◌∙◌, true≢false}
+use Rattle.text_meaning.specs.Tokens.{Span, Token, Mark, sign, RightParen}
 use Rattle.text_meaning.specs.Trees.{Expr, ArrowExpr}
 use Rattle.text_meaning.specs.Grammar.{join, applied}
 use Rattle.text_meaning.specs.Reading.{Answer}
-use Rattle.text_meaning.specs.Parsing.{Atoms, NoAtoms, SomeAtoms, Row, Plain, AfterArrow, AfterBack, Waiting, InParens, InDomain, InBody, InCodomain, Brace, Curly, Square, Binding, State, AtOperand, add_atom, arrow_move, back_move, is_refused, at_expr, operand_ends, resume, row_span, row_tree, typed, right_sign, answer_on}
+use Rattle.text_meaning.specs.Parsing.{Atoms, NoAtoms, SomeAtoms, Row, Plain, AfterArrow, AfterBack, Waiting, InParens, InDomain, InBody, InCodomain, Brace, Curly, Square, Binding, State, AtOperand, add_atom, arrow_move, at_operand, back_move, expect, is_refused, at_expr, operand_ends, resume, row_span, row_tree, typed, right_sign, answer_on}
 use Rattle.text_meaning.specs.Trees as trees
 use Rattle.mmt_syntax.specs.Readings.{read_span, read_expr, read_arguments, expressions_of}
 use Rattle.twelf_expressions.specs.Signs.{is_sign}
 use Rattle.twelf_expressions.specs.Left.{left, next_kind, next_token}
 use Rattle.twelf_expressions.specs.Going.{Fails, answer_with}
-use Rattle.twelf_expressions.specs.Frames.{IsSpelled, IsBody, Turned, waiting, answer_resumed, read_row, read_atoms}
+use Rattle.twelf_expressions.specs.Frames.{IsSpelled, IsBody, Turned, waiting, answer_resumed, of_operand, of_stack, opened, read_row, read_atoms, stands}
 use Rattle.twelf_expressions.specs.declared.fault.ReadFault.{ReadFault}
 use Rattle.twelf_expressions.specs.declared.frame.Spelled.{Spelled}
 use Rattle.twelf_expressions.specs.declared.frame.Operand.{Operand}
 use Rattle.twelf_expressions.specs.declared.frame.Atoms as frame
 use Rattle.twelf_expressions.specs.declared.frame.Row as frames
 use Rattle.twelf_expressions.specs.declared.frame.Stack.{Stack}
+use Rattle.twelf_expressions.specs.declared.frame.Opening.{Opening}
 use Rattle.twelf_expressions.specs.declared.frame.Frame.{Frame}
+use Rattle.twelf_expressions.specs.declared.frame.Frame.TheVariants as frame_kinds
 use Rattle.twelf_expressions.specs.declared.reader.Reader.{Reader}
 use Rattle.twelf_expressions.proofs.SignCases.{expect_other}
-use Rattle.twelf_expressions.proofs.Moves.{failed, took_behind}
+use Rattle.twelf_expressions.proofs.Moves.{failed, one_more_waits, took_behind, took_operand}
 
 -- ---- arrows
 
@@ -47,12 +49,6 @@ back_moves n Plain (SomeAtoms s e xs) k h = refl
 back_moves n AfterArrow (SomeAtoms s e xs) k h = absurd (true≢false h)
 back_moves n (AfterBack r b) (SomeAtoms s e xs) k h = refl
 
-pub no_atoms_refuse_arrow : (n : ℕ) (row : Row) (k : Waiting) → is_refused (arrow_move n row NoAtoms k) ≡ true
-no_atoms_refuse_arrow n row k = refl
-
-pub no_atoms_refuse_back : (n : ℕ) (row : Row) (k : Waiting) → is_refused (back_move n row NoAtoms k) ≡ true
-no_atoms_refuse_back n row k = refl
-
 -- ---- whole expressions
 
 pub resumed_codomain : (k : Waiting) (s : Span) (d : Expr) (w v : Spelled) (ts : List Token) → IsSpelled v (join s (read_span w.span)) (ArrowExpr (join s (read_span w.span)) d (read_expr w.tree))
@@ -76,30 +72,45 @@ pub parens_refuse : (r : Reader) (l : Span) (n : ℕ) (row : Row) (xs : Atoms) (
 unfolding resume
 parens_refuse r l n row xs k s e h = expect_other RightParen (AtOperand n row (add_atom xs (join l (next_token (left r)).span) e) k) (next_kind (left r)) h
 
-pub parens_close : (l : Span) (n : ℕ) (row : Row) (xs : Atoms) (k : Waiting) (s : Span) (e : Expr) (r : Span) (u : State) (before after : List Token) → before ≡ sign r RightParen ∷ after → AtOperand n row (add_atom xs (join l r) e) k ≡ u → is_refused u ≡ false
-    → answer_with (λ t. resume (InParens l n row xs k) s e t) before ≡ answer_on u after
+pub parens_close : (l : Span) (n : ℕ) (row : Row) (xs : Atoms) (k : Waiting) (w : Spelled) (r : Span) (u : State) (before after : List Token) → before ≡ sign r RightParen ∷ after → AtOperand n row (add_atom xs (join l r) (read_expr w.tree)) k ≡ u → is_refused u ≡ false
+    → answer_resumed (InParens l n row xs k) w before ≡ answer_on u after
 unfolding resume
-parens_close l n row xs k s e r u before after h g a = took_behind (λ t. resume (InParens l n row xs k) s e t) u h g a
+parens_close l n row xs k w r u before after h g a = took_behind (λ t. resume (InParens l n row xs k) (read_span w.span) (read_expr w.tree) t) u h g a
 
 pub domain_refuses : (r : Reader) (b : Brace) (l : Span) (x : trees.Binder) (n : ℕ) (row : Row) (xs : Atoms) (k : Waiting) (s : Span) (e : Expr) → is_sign (right_sign b) (next_kind (left r)) ≡ false → is_refused (resume (InDomain b l x n row xs k) s e (next_token (left r))) ≡ true
 unfolding resume
 domain_refuses r b l x n row xs k s e h = expect_other (right_sign b) (at_expr (n + 1) (InBody l (typed b x e) row xs k)) (next_kind (left r)) h
 
-pub curly_close : (l : Span) (x : trees.Binder) (n : ℕ) (row : Row) (xs : Atoms) (k : Waiting) (s : Span) (e : Expr) (r : Span) (before after : List Token) → before ≡ sign r RightBrace ∷ after
-    → answer_with (λ t. resume (InDomain Curly l x n row xs k) s e t) before ≡ answer_on (at_expr (n + 1) (InBody l (typed Curly x e) row xs k)) after
-unfolding resume
-curly_close l x n row xs k s e r before after h = took_behind (λ t. resume (InDomain Curly l x n row xs k) s e t) (at_expr (n + 1) (InBody l (typed Curly x e) row xs k)) h refl refl
+bracket_here : (b : Brace) (next : State) → expect (right_sign b) (Mark (right_sign b)) next ≡ next
+bracket_here Curly next = refl
+bracket_here Square next = refl
 
-pub square_close : (l : Span) (x : trees.Binder) (n : ℕ) (row : Row) (xs : Atoms) (k : Waiting) (s : Span) (e : Expr) (r : Span) (before after : List Token) → before ≡ sign r RightBracket ∷ after
-    → answer_with (λ t. resume (InDomain Square l x n row xs k) s e t) before ≡ answer_on (at_expr (n + 1) (InBody l (typed Square x e) row xs k)) after
+pub domain_closes : (b : Brace) (l : Span) (x : trees.Binder) (n : ℕ) (row : Row) (xs : Atoms) (k : Waiting) (w : Spelled) (r : Span) (before after : List Token) → before ≡ sign r (right_sign b) ∷ after
+    → answer_resumed (InDomain b l x n row xs k) w before ≡ answer_on (at_expr (n + 1) (InBody l (typed b x (read_expr w.tree)) row xs k)) after
 unfolding resume
-square_close l x n row xs k s e r before after h = took_behind (λ t. resume (InDomain Square l x n row xs k) s e t) (at_expr (n + 1) (InBody l (typed Square x e) row xs k)) h refl refl
+domain_closes b l x n row xs k w r before after h =
+    let u = at_expr (n + 1) (InBody l (typed b x (read_expr w.tree)) row xs k) in
+    took_behind (λ t. resume (InDomain b l x n row xs k) (read_span w.span) (read_expr w.tree) t) u h (bracket_here b u) refl
 
 -- ---- parts of the code's steps
 
 -- the state at an operand, of its parts
 pub same_state : (n m : ℕ) (r q : Row) (xs ys : Atoms) (k j : Waiting) → n ≡ m → r ≡ q → xs ≡ ys → k ≡ j → AtOperand n r xs k ≡ AtOperand m q ys j
 same_state n m r q xs ys k j a b c d = cc
+
+-- an operand with one more atom
+pub one_atom_more : (o p : Operand) (s : Span) (e : Expr) (k : Waiting) → read_atoms p.atoms ≡ add_atom (read_atoms o.atoms) s e → p.row ≡ o.row → p.level.n ≡ o.level.n
+    → AtOperand o.level.n (read_row o.row) (add_atom (read_atoms o.atoms) s e) k ≡ of_operand AtOperand p k
+one_atom_more o p s e k a b c = same_state o.level.n p.level.n (read_row o.row) (read_row p.row) (add_atom (read_atoms o.atoms) s e) (read_atoms p.atoms) k k (sym c) (ap read_row (sym b)) (sym a) refl
+
+-- a token that the operand of a stack takes
+pub took_in : (s : Stack) (k : Waiting) (u : State) {t : Token} {before after : List Token} → before ≡ t ∷ after → of_stack (λ n row xs w. at_operand n row xs w t.span t.kind) s k ≡ u → is_refused u ≡ false → answer_on (stands s k) before ≡ answer_on u after
+took_in s k u e h a = took_operand s.operand.level.n (read_row s.operand.row) (read_atoms s.operand.atoms) (waiting k s.frames.items) u s.operand.level.within e h a
+
+-- what opened waits for an expression once its operand is the stack's again
+pub popped : (k : Waiting) (w : Spelled) (ts : List Token) (fs gs : List Frame) (p : Opening) (o u : Operand) → fs ≡ gs ++ (frame_kinds.Open p o ∷ []) → u ≡ o
+    → answer_resumed (waiting k fs) w ts ≡ answer_resumed (of_operand (opened p) u (waiting k gs)) w ts
+popped k w ts fs gs p o u e h = ap (λ j. answer_resumed j w ts) (one_more_waits k gs fs (frame_kinds.Open p o) e) ∙ ap (λ x. answer_resumed (of_operand (opened p) x (waiting k gs)) w ts) (sym h)
 
 -- what waits for a codomain
 pub codomain_is : (o : Option frame.Atoms) (a : frame.Atoms) (d : Spelled) (k : Waiting) → o ≡ Some a → IsSpelled d (read_span a.span) (applied (read_span a.span) (read_expr a.head) (read_arguments (expressions_of a.args)))

@@ -121,11 +121,6 @@ path_sign text from to signs.Name = refl
 path_sign text from to signs.Path = refl
 path_sign text from to _ = refl
 
-pub names_go_on : (n : Sign) → is_names n ≡ true → is_last n ≡ false
-names_go_on signs.End h = absurd (true≢false (sym h))
-names_go_on signs.OpenComment h = absurd (true≢false (sym h))
-names_go_on _ h = refl
-
 abbrev pub is_one : Sign → Bool
 is_one signs.Name = true
 is_one _ = false
@@ -134,8 +129,3 @@ two_names : (p : List (List ℕ)) → nat_lt 1 (length p) ≡ true → is_name (
 two_names [] h = refl
 two_names (n ∷ []) h = absurd (true≢false (sym h))
 two_names (n ∷ m ∷ ns) h = refl
-
-pub name_sign : (text : List ℕ) (from to : ℕ) (n : Sign) → Parts text from to n → is_name (sign_kind text from to n) ≡ is_one n
-name_sign text from to signs.Name h = refl
-name_sign text from to signs.Path h = two_names (runs (slice_range text from to)) h.several
-name_sign text from to _ h = refl

@@ -19,10 +19,6 @@ use Rattle.twelf_expressions.specs.Frames.{waits, waiting}
 use Rattle.twelf_expressions.specs.declared.frame.Frame.{Frame}
 use Rattle.twelf_expressions.proofs.SignCases.{operand_begins, words_other}
 
--- An answer that is another has its faults.
-pub fails_from : (f : ReadFault) (a b : Answer) → a ≡ b → Fails f b → Fails f a
-fails_from f a b e h = subst (Fails f) (sym e) h
-
 -- one token is taken
 pub moves : (s u : State) (t : Token) (ts : List Token) → step s t ≡ u → is_refused u ≡ false → is_too_deep (level s t.kind) ≡ false → answer_on s (t ∷ ts) ≡ answer_on u ts
 moves s u t ts e h d = answer_goes s t ts (ap is_refused e ∙ h) d ∙ ap (λ v. answer_on v ts) e
@@ -108,9 +104,6 @@ too_deep_as r row k h =
     ∙ answer_deep (AtOperand 501 row NoAtoms k) t (behind_next (left r)) (operand_begins 501 row NoAtoms k t.span t.kind h) (rw (h, level) refl)
 
 -- ---- what a part of a reader promises
-
-pub goes_err : {X : Type 0} (r : Result X ReadFault) (f : ReadFault) (a b : Answer) (next : X → Answer) → r ≡ Err f → a ≡ b → Fails f b → Goes a r next
-goes_err r f a b next e h g = subst (λ x. Goes a x next) (sym e) (fails_from f a b h g)
 
 -- behind a whole expression, where a sign must come
 pub with_expected : (r : Reader) (m : Sign) (next : State) → answer_with (λ t. expect m t.kind next) (left r) ≡ answer_on (Expect m next) (left r)

@@ -1,11 +1,18 @@
 //! What a reader of expressions has open.
 
-ghost use Rattle.std.specs.Prelude.{◌≡◌, None};
+ghost use Rattle.std.specs.Prelude.{◌≡◌, None, false, true};
+ghost use Rattle.text_meaning.specs.Tokens.{EndSign, Mark};
+ghost use Rattle.text_meaning.specs.Parsing.{right_sign, typed};
+ghost use Rattle.mmt_syntax.specs.Readings.{read_binder, read_expr};
+ghost use Rattle.twelf_lexer.specs.Lexemes.{mark_of};
+ghost use Rattle.twelf_expressions.specs.Signs.{is_plain, is_sign};
+ghost use Rattle.twelf_expressions.specs.Frames.{read_binding, read_brace};
 ghost use Rattle.twelf_expressions.specs.declared.frame.Row.TheVariants as rows;
 
 use crate::level::Level;
 use lf_terms::Span;
 use mmt_syntax::{Binder, Expr, Exprs};
+use twelf_lexer::Sign;
 
 /// An expression, and the span that its tokens take, with parentheses around the whole.
 #[derive(Drop)]
@@ -53,13 +60,19 @@ pub(crate) enum Binding {
     TypedLam(Binder, Box<Expr>),
 }
 
-/// What waits for an expression: a bracket that is open, a binder, or what stands before `->`. The first three have the
-/// span of their opening bracket and the operand in which they stand.
+/// What opens before an expression: parentheses, a binder whose domain it is, or a binder whose body it is. Each has the
+/// span of its opening bracket.
+#[derive(Drop)]
+pub(crate) enum Opening {
+    Parens(Span),
+    Domain(Brace, Span, Binder),
+    Body(Span, Binding),
+}
+
+/// What waits for an expression: what opened before it, and the operand in which that stands; or what stands before `->`.
 #[derive(Drop)]
 pub(crate) enum Frame {
-    Parens(Span, Operand),
-    Domain(Brace, Span, Binder, Operand),
-    Body(Span, Binding, Operand),
+    Open(Opening, Operand),
     Codomain(Spelled),
 }
 
@@ -68,6 +81,30 @@ pub(crate) enum Frame {
 pub(crate) struct Stack {
     pub frames: Vec<Frame>,
     pub operand: Operand,
+}
+
+impl Brace {
+    /// The bracket that closes the binder before its body.
+    pub(crate) fn closing(self) -> Sign
+        ensures mark { mark_of result ≡ right_sign (read_brace self) }
+        ensures plain { is_plain result ≡ true }
+        ensures not_end { is_sign (mark_of result) (Mark EndSign) ≡ false }
+    {
+        match self {
+            Brace::Curly => Sign::RBrace,
+            Brace::Square => Sign::RBracket,
+        }
+    }
+
+    /// The binder of these brackets with a domain.
+    pub(crate) fn binding(self, name: Binder, domain: Box<Expr>) -> Binding
+        ensures { read_binding result ≡ typed (read_brace self) (read_binder name) (read_expr domain.value) }
+    {
+        match self {
+            Brace::Curly => Binding::Pi(name, domain),
+            Brace::Square => Binding::TypedLam(name, domain),
+        }
+    }
 }
 
 impl Operand {

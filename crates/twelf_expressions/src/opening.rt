@@ -1,17 +1,17 @@
 //! What an operand of an expression goes on with: brackets, binders and arrows.
-ghost use Rattle.std.specs.Prelude.{◌≡◌, ◌+◌, ◌<◌, ◌≤◌, ℕ, None, false, true, not, length, OnOk};
-ghost use Rattle.text_meaning.specs.Tokens.{ArrowSign, BackSign, ColonSign};
+ghost use Rattle.std.specs.Prelude.{◌≡◌, ◌<◌, ◌≤◌, ℕ, None, false, true, not, length, OnOk};
+ghost use Rattle.text_meaning.specs.Tokens.{ArrowSign, BackSign, ColonSign, LeftBrace, LeftBracket, LeftParen};
 ghost use Rattle.text_meaning.specs.Tokens as tokens;
 ghost use Rattle.text_meaning.specs.Parsing as parsing;
-ghost use Rattle.text_meaning.specs.Parsing.{AfterVariable, AtVariable, InBody, InDomain, InParens, Waiting, answer_on, arrow_move, at_expr, back_move, is_refused};
+ghost use Rattle.text_meaning.specs.Parsing.{AfterVariable, AtVariable, Waiting, answer_on, arrow_move, back_move, is_refused};
 ghost use Rattle.mmt_syntax.specs.Readings.{read_binder, read_span};
 ghost use Rattle.twelf_expressions.specs.Signs.{is_sign};
 ghost use Rattle.twelf_expressions.specs.Left.{left, next_kind};
 ghost use Rattle.twelf_expressions.specs.Going.{Goes};
-ghost use Rattle.twelf_expressions.specs.Frames.{read_atoms, read_binding, read_brace, read_row, stands, waiting};
+ghost use Rattle.twelf_expressions.specs.Frames.{inside, of_stack, read_atoms, read_brace, read_row, stands};
 
 use crate::ReadFault;
-use crate::frame::{Binding, Brace, Frame, Operand, Row, Stack};
+use crate::frame::{Binding, Brace, Frame, Opening, Operand, Row, Stack};
 use crate::level::Level;
 use crate::reader::Reader;
 use crate::refusing::Spot;
@@ -22,34 +22,55 @@ use std::mem;
 use twelf_lexer::Sign;
 
 impl<'a> Reader<'a> {
-    /// Behind an opening parenthesis: what is inside it begins.
-    pub(crate) fn open_parens(&self, stack: &mut Stack, opening: Span) -> Result<(), ReadFault>
-        ensures { (k : Waiting) → Goes
-            (answer_on (at_expr (stack.old.operand.level.n + 1) (InParens (read_span opening) stack.old.operand.level.n (read_row stack.old.operand.row) (read_atoms stack.old.operand.atoms) (waiting k stack.old.frames.items))) (left self.now))
-            result (λ _. answer_on (stands stack.new k) (left self.now)) }
+    /// Behind what opens before an expression: the expression begins, one nesting deeper, and the operand waits for it.
+    pub(crate) fn open(&self, stack: &mut Stack, opening: Opening) -> Result<(), ReadFault>
+        ensures { (k : Waiting) → Goes (answer_on (of_stack (inside opening) stack.old k) (left self.now)) result (λ _. answer_on (stands stack.new k) (left self.now)) }
     {
         let level = self.deeper(stack.operand.level)?;
         let operand = mem::replace(&mut stack.operand, Operand::first(level));
-        stack.frames.push(Frame::Parens(opening, operand))?;
+        stack.frames.push(Frame::Open(opening, operand))?;
         Ok(())
     }
 
+    /// At an opening parenthesis.
+    pub(crate) fn parens(&mut self, stack: &mut Stack) -> Result<(), ReadFault>
+        requires { is_sign LeftParen (next_kind (left self.old)) ≡ true }
+        ensures goes { (k : Waiting) → Goes (answer_on (stands stack.old k) (left self.old)) result (λ _. answer_on (stands stack.new k) (left self.new)) }
+        ensures less { OnOk result (length (left self.new) < length (left self.old)) }
+    {
+        let opening = self.take(Sign::LParen);
+        self.open(stack, Opening::Parens(opening))
+    }
+
+    /// At the bracket of a Π.
+    pub(crate) fn braces(&mut self, stack: &mut Stack) -> Result<(), ReadFault>
+        requires { is_sign LeftBrace (next_kind (left self.old)) ≡ true }
+        ensures goes { (k : Waiting) → Goes (answer_on (stands stack.old k) (left self.old)) result (λ _. answer_on (stands stack.new k) (left self.new)) }
+        ensures less { OnOk result (length (left self.new) < length (left self.old)) }
+    {
+        let opening = self.take(Sign::LBrace);
+        self.binder(stack, Brace::Curly, opening)
+    }
+
+    /// At the bracket of a λ.
+    pub(crate) fn brackets(&mut self, stack: &mut Stack) -> Result<(), ReadFault>
+        requires { is_sign LeftBracket (next_kind (left self.old)) ≡ true }
+        ensures goes { (k : Waiting) → Goes (answer_on (stands stack.old k) (left self.old)) result (λ _. answer_on (stands stack.new k) (left self.new)) }
+        ensures less { OnOk result (length (left self.new) < length (left self.old)) }
+    {
+        let opening = self.take(Sign::LBracket);
+        self.binder(stack, Brace::Square, opening)
+    }
+
     /// Behind the bracket of a binder: its variable, and then its domain begins, or the body of a λ without one.
-    pub(crate) fn binder(
-        &mut self,
-        stack: &mut Stack,
-        brace: Brace,
-        opening: Span,
-    ) -> Result<(), ReadFault>
-        ensures goes { (k : Waiting) → Goes
-            (answer_on (AtVariable (read_brace brace) (read_span opening) stack.old.operand.level.n (read_row stack.old.operand.row) (read_atoms stack.old.operand.atoms) (waiting k stack.old.frames.items)) (left self.old))
-            result (λ _. answer_on (stands stack.new k) (left self.new)) }
+    fn binder(&mut self, stack: &mut Stack, brace: Brace, opening: Span) -> Result<(), ReadFault>
+        ensures goes { (k : Waiting) → Goes (answer_on (of_stack (AtVariable (read_brace brace) (read_span opening)) stack.old k) (left self.old)) result (λ _. answer_on (stands stack.new k) (left self.new)) }
         ensures less { OnOk result (length (left self.new) ≤ length (left self.old)) }
     {
         let name = self.variable()?;
         if self.sees(Sign::Colon) {
             self.take(Sign::Colon);
-            return self.open_domain(stack, brace, opening, name);
+            return self.open(stack, Opening::Domain(brace, opening, name));
         }
         match brace {
             Brace::Curly => Err(self.refuse(Spot::Variable)),
@@ -74,56 +95,17 @@ impl<'a> Reader<'a> {
         Ok(Binder::Named(name))
     }
 
-    /// Behind the colon of a binder.
-    fn open_domain(
-        &self,
-        stack: &mut Stack,
-        brace: Brace,
-        opening: Span,
-        name: Binder,
-    ) -> Result<(), ReadFault>
-        ensures { (k : Waiting) → Goes
-            (answer_on (at_expr (stack.old.operand.level.n + 1) (InDomain (read_brace brace) (read_span opening) (read_binder name) stack.old.operand.level.n (read_row stack.old.operand.row) (read_atoms stack.old.operand.atoms) (waiting k stack.old.frames.items))) (left self.now))
-            result (λ _. answer_on (stands stack.new k) (left self.now)) }
-    {
-        let level = self.deeper(stack.operand.level)?;
-        let operand = mem::replace(&mut stack.operand, Operand::first(level));
-        stack
-            .frames
-            .push(Frame::Domain(brace, opening, name, operand))?;
-        Ok(())
-    }
-
     /// Behind the variable of a λ that has no domain.
     fn lambda(&mut self, stack: &mut Stack, opening: Span, name: Binder) -> Result<(), ReadFault>
         requires { is_sign ColonSign (next_kind (left self.old)) ≡ false }
-        ensures goes { (k : Waiting) → Goes
-            (answer_on (AfterVariable parsing.Square (read_span opening) (read_binder name) stack.old.operand.level.n (read_row stack.old.operand.row) (read_atoms stack.old.operand.atoms) (waiting k stack.old.frames.items)) (left self.old))
-            result (λ _. answer_on (stands stack.new k) (left self.new)) }
+        ensures goes { (k : Waiting) → Goes (answer_on (of_stack (AfterVariable parsing.Square (read_span opening) (read_binder name)) stack.old k) (left self.old)) result (λ _. answer_on (stands stack.new k) (left self.new)) }
         ensures less { OnOk result (length (left self.new) ≤ length (left self.old)) }
     {
         if !self.sees(Sign::RBracket) {
             return Err(self.refuse(Spot::Elsewhere));
         }
         self.take(Sign::RBracket);
-        self.open_body(stack, opening, Binding::Lam(name))
-    }
-
-    /// Behind a binder: its body begins.
-    pub(crate) fn open_body(
-        &self,
-        stack: &mut Stack,
-        opening: Span,
-        binding: Binding,
-    ) -> Result<(), ReadFault>
-        ensures { (k : Waiting) → Goes
-            (answer_on (at_expr (stack.old.operand.level.n + 1) (InBody (read_span opening) (read_binding binding) (read_row stack.old.operand.row) (read_atoms stack.old.operand.atoms) (waiting k stack.old.frames.items))) (left self.now))
-            result (λ _. answer_on (stands stack.new k) (left self.now)) }
-    {
-        let level = self.deeper(stack.operand.level)?;
-        let operand = mem::replace(&mut stack.operand, Operand::first(level));
-        stack.frames.push(Frame::Body(opening, binding, operand))?;
-        Ok(())
+        self.open(stack, Opening::Body(opening, Binding::Lam(name)))
     }
 
     /// At an arrow: the operand is whole, and what follows the arrow begins.

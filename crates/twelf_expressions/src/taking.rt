@@ -28,6 +28,7 @@ impl<'a> Reader<'a> {
             names: NameTable::new(alloc),
             text,
             next: lexeme_at(text, 0),
+            frames: Vec::new(alloc),
         }
     }
 

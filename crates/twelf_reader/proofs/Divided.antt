@@ -1,5 +1,5 @@
 -- From what a reader of a file finds to how the file divides.
-use Rattle.std.specs.Prelude.{IfOk, IfErr, Result, Ok, Err}
+use Rattle.std.specs.Prelude.{IfOk, IfErr, IsErrAnd, Result, Ok, Err}
 use Rattle.std.proofs.Common.{◌≡◌, ℕ, Bool, true, false, List, [], ◌∷◌, ◌++◌, refl, sym, ap, subst, ◌∙◌, IsUtf8, true≢false}
 use Rattle.std.proofs.lemmas.Str.{is_utf8-from_IsUtf8}
 use Rattle.text_meaning.specs.Tokens.{Span, Kind, Mark, Ident, Token, sign, SigWord, ViewWord, EndSign, DotSign, Stray}
@@ -19,7 +19,7 @@ use Rattle.twelf_expressions.specs.declared.fault.ReadFault.{ReadFault}
 use Rattle.twelf_expressions.specs.declared.fault.ReadFault.TheVariants as faults
 use Rattle.twelf_reader.specs.Answers.{IsNoText}
 use Rattle.twelf_reader.specs.Division.{DividesSo, FailsSo, IsFileFault}
-use Rattle.twelf_reader.proofs.Dividing.{fails_as}
+use Rattle.twelf_reader.proofs.Dividing.{fails_as, stopped}
 
 -- ---- a comment without an end
 
@@ -102,13 +102,16 @@ settled_fails text f g u unclosed finished h = go (cut_on Between 0 text).ending
     go (Unclosed at) e = rw (unclosed at e) (divide_is text u ∙ lexed_open (cut_on Between 0 text) at e)
 
 -- a text that is not UTF-8
-pub no_text_fails : (text : List ℕ) (f : ReadFault) → IsNoText text f → FailsSo f (divide (lex text))
+no_text_fails : (text : List ℕ) (f : ReadFault) → IsNoText text f → FailsSo f (divide (lex text))
 no_text_fails text (faults.Syntax at) h = sym ((one_division text).only (SyntaxFault at) (NotUtf8 at, h, refl))
 no_text_fails text _ h = absurd h
 
+pub no_text_divides : {X : Type 0} (text : List ℕ) (r : Result X ReadFault) (f : ReadFault) (next : X → Division) → IsErrAnd r (λ e. e ≡ f) → IsNoText text f → DividesSo (divide (lex text)) r next
+no_text_divides text r f next e h = stopped r f next e refl (no_text_fails text f h)
+
 -- ---- the clauses of the public call
 
-pub fails_file : (text : List ℕ) (f : ReadFault) → FailsSo f (divide (lex text)) → IsFileFault text f
+fails_file : (text : List ℕ) (f : ReadFault) → FailsSo f (divide (lex text)) → IsFileFault text f
 fails_file text (faults.Syntax at) h = subst (FileDivides text) h (one_division text).divides
 fails_file text (faults.Unsupported at) h = subst (FileDivides text) h (one_division text).divides
 fails_file text (faults.TooDeep at) h = absurd h
@@ -124,6 +127,3 @@ fault_file text (Err e) f h = fails_file text e h
 
 pub only_file : {X : Type 0} (text : List ℕ) (r : Result X ReadFault) (f : X → Division) → DividesSo (divide (lex text)) r f → (d : Division) → FileDivides text d → DividesSo d r f
 only_file text r f h d g = subst (λ x. DividesSo x r f) (sym ((one_division text).only d g)) h
-
-pub only_fails : (text : List ℕ) (f : ReadFault) → FailsSo f (divide (lex text)) → (d : Division) → FileDivides text d → FailsSo f d
-only_fails text f h d g = subst (FailsSo f) (sym ((one_division text).only d g)) h

@@ -1,9 +1,17 @@
-use Rattle.std.proofs.Common.{subst, ◌∙◌, arith}
+use Rattle.std.proofs.Common.{subst, sym, ap, length, ◌∙◌, arith}
 use Rattle.std.specs.Prelude.{Ok}
-use Rattle.text_meaning.specs.Parsing.{Ends, answer_on, resume}
+use Rattle.text_meaning.specs.Parsing.{Ends, answer_on, at_expr, resume}
 use Rattle.twelf_expressions.specs.Left.{left}
 use Rattle.twelf_expressions.specs.Frames.{Turned, stands}
 use Rattle.twelf_expressions.proofs.reader.Reader.expr.Goals as goal
+
+pub turns-init : goal.turns-init
+turns-init c =
+    let same = ap length c.stack-stack.ensures.same in
+    record {
+      goes = λ k. ap (answer_on (at_expr 1 k)) (sym c.stack-stack.ensures.same) ∙ ap (λ s. answer_on s (left c.stack-stack.new.self)) (sym (c.stack-stack.ensures.begins k));
+      less = omega (arith, same);
+    }
 
 pub returns-in-Some-clause-goes : goal.returns-in-Some-clause-goes
 unfolding resume

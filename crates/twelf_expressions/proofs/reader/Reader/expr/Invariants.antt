@@ -6,8 +6,8 @@ use Rattle.twelf_expressions.proofs.reader.Reader.expr.Given as goal
 
 abbrev pub invariant-turns : goal.invariant-turns
 invariant-turns l = record {
-  goes : (k : Waiting) → answer_on (at_expr 1 k) (left l.initial.self) ≡ answer_on (stands l.stack k) (left l.self);
-  less : length (left l.self) ≤ length (left l.initial.self);
+  goes : (k : Waiting) → answer_on (at_expr 1 k) (left l.fn.self) ≡ answer_on (stands l.stack k) (left l.self);
+  less : length (left l.self) ≤ length (left l.fn.self);
 }
 
 abbrev pub decreases-turns : goal.decreases-turns

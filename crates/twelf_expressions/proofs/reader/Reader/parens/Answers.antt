@@ -1,25 +1,7 @@
-use Rattle.std.proofs.Common.{◌+◌, refl, ◌∙◌}
-use Rattle.text_meaning.specs.Parsing.{InParens, at_expr}
-use Rattle.mmt_syntax.specs.Readings.{read_span}
-use Rattle.twelf_expressions.specs.Frames.{read_row, read_atoms, waiting}
-use Rattle.twelf_expressions.proofs.Moves.{took_operand}
-use Rattle.twelf_expressions.proofs.Frames.{turn_stopped}
+use Rattle.std.proofs.Common.{refl}
+use Rattle.twelf_expressions.proofs.Moves.{goes_from}
+use Rattle.twelf_expressions.proofs.Frames.{took_in}
 use Rattle.twelf_expressions.proofs.reader.Reader.parens.Goals as goal
 
-pub returns-in_err-open_parens-clause-goes : goal.returns-in_err-open_parens-clause-goes
-returns-in_err-open_parens-clause-goes c = λ k.
-    let o = c.args.stack.now.operand in
-    let w = waiting k c.args.stack.now.frames.items in
-    let l = read_span c.take-opening.result in
-    let u = at_expr (o.level.n + 1) (InParens l o.level.n (read_row o.row) (read_atoms o.atoms) w) in
-    let taken = took_operand o.level.n (read_row o.row) (read_atoms o.atoms) w u o.level.within c.take-opening.ensures.takes refl refl in
-    turn_stopped c.from_residual.result _ _ _ _ c.from_residual.ensures.1 taken (c.in_err-open_parens.ensures k)
-
 pub returns-clause-goes : goal.returns-clause-goes
-returns-clause-goes c = λ k.
-    let o = c.args.stack.now.operand in
-    let w = waiting k c.args.stack.now.frames.items in
-    let l = read_span c.take-opening.result in
-    let u = at_expr (o.level.n + 1) (InParens l o.level.n (read_row o.row) (read_atoms o.atoms) w) in
-    took_operand o.level.n (read_row o.row) (read_atoms o.atoms) w u o.level.within c.take-opening.ensures.takes refl refl
-    ∙ c.in_ok-open_parens.ensures k
+returns-clause-goes c = λ k. goes_from c.open.result _ _ _ (took_in c.args.stack.now k _ c.take-opening.ensures.takes refl refl) (c.open.ensures k)
