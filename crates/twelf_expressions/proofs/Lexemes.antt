@@ -1,13 +1,12 @@
 -- Tokens of a text, taken one after the other.
 use Rattle.std.proofs.Common.{◌≡◌, ℕ, Bool, true, false, List, [], ◌∷◌, length, drop, nat_lt, refl, sym, ap, ◌∙◌, eqb-true, eq-eqb, true≢false}
-use Rattle.std.specs.List.{slice_range}
 use Rattle.text_meaning.specs.Tokens.{Kind, Mark, Ident, Token, token, sign, EndSign, Stray, SigWord, ViewWord, IncludeWord, StructWord, OtherWord, AssignSign, ColonSign, LeftParen, RightParen, LeftBracket, RightBracket, LeftBrace, RightBrace, DotSign, TypeWord, ArrowSign, BackSign, EqualSign, BlankSign}
 use Rattle.text_meaning.specs.Tokens as tokens
 use Rattle.text_meaning.specs.Cut.{Finished, Unclosed}
 use Rattle.text_meaning.specs.Cutting.{Between, cut_on}
 use Rattle.text_meaning.specs.Parsing.{code}
 use Rattle.text_laws.proofs.Sound.{code_injective}
-use Rattle.twelf_lexer.specs.Lexemes.{IsLexeme, Parts, cut_behind, cut_from, is_last, is_names, lexeme_token, mark_of, runs, sign_kind}
+use Rattle.twelf_lexer.specs.Lexemes.{IsLexeme, cut_behind, cut_from, is_last, is_names, lexeme_token, mark_of, sign_kind}
 use Rattle.twelf_lexer.specs.declared.sign.Sign.{Sign}
 use Rattle.twelf_lexer.specs.declared.sign.Sign.TheVariants as signs
 use Rattle.twelf_lexer.specs.declared.sign.Lexeme.{Lexeme}

@@ -1,9 +1,9 @@
 -- Which tokens a state refuses, where some signs have been ruled out.
 use Rattle.std.proofs.Common.{◌≡◌, ℕ, true, false, List, [], ◌∷◌, refl, sym, ap, eqb-true, true≢false}
-use Rattle.text_meaning.specs.Tokens.{Span, Sign, Kind, Mark, Ident, SigWord, ViewWord, IncludeWord, StructWord, OtherWord, Stray, AssignSign, ColonSign, LeftParen, RightParen, LeftBracket, RightBracket, LeftBrace, RightBrace, DotSign, TypeWord, ArrowSign, BackSign, EqualSign, BlankSign, EndSign}
+use Rattle.text_meaning.specs.Tokens.{Span, Sign, Kind, Mark, Ident, LeftParen, LeftBracket, LeftBrace, DotSign, TypeWord, ArrowSign, BackSign}
 use Rattle.name_meaning.specs.Names.{Path}
-use Rattle.text_meaning.specs.Trees.{first_name, Binder, Expr, Written, Assign, Decl}
-use Rattle.text_meaning.specs.Parsing.{Simple, Atoms, NoAtoms, Row, Brace, Curly, Square, Owner, Waiting, State, code, expect, at_module, at_decl, after_domain, at_assign, more_words, class_ends, operand_ends, at_operand, at_variable, after_variable, expect_name, expect_path, is_refused, begins_operand}
+use Rattle.text_meaning.specs.Trees.{first_name, Written}
+use Rattle.text_meaning.specs.Parsing.{Atoms, NoAtoms, Row, Waiting, State, code, expect, more_words, operand_ends, at_operand, is_refused, begins_operand}
 use Rattle.text_laws.proofs.Sound.{code_injective}
 use Rattle.twelf_expressions.specs.Signs.{is_sign, is_path, is_name}
 

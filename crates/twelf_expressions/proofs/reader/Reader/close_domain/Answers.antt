@@ -1,8 +1,7 @@
 use Rattle.std.proofs.Common.{◌≡◌, ◌+◌, ◌∷◌, sym, ap, ◌∙◌}
 use Rattle.text_meaning.specs.Tokens.{sign}
-use Rattle.text_meaning.specs.Parsing.{Binding, InDomain, InBody, resume, at_expr, answer_on, typed}
+use Rattle.text_meaning.specs.Parsing.{InDomain, InBody, resume, at_expr, answer_on, typed}
 use Rattle.mmt_syntax.specs.Readings.{read_span, read_expr, read_binder}
-use Rattle.mmt_syntax.specs.declared.expr.Expr as syntax
 use Rattle.twelf_expressions.specs.Signs.{is_sign}
 use Rattle.twelf_expressions.specs.Left.{left, next_kind}
 use Rattle.twelf_expressions.specs.Frames.{of_stack, read_binding, read_brace, read_row, read_atoms, waiting}
