@@ -15,11 +15,11 @@ use Rattle.file_laws.proofs.Divisions.{BodyEnd, ends_body, never_body, body_end,
 
 -- ---- no token of a text is the end of the input
 
-abbrev is_end : Kind → Bool
+abbrev pub is_end : Kind → Bool
 is_end (Mark EndSign) = true
 is_end _ = false
 
-NoEnd : List Token → Type 0
+unfoldable pub NoEnd : List Token → Type 0
 NoEnd [] = Unit {0}
 NoEnd (t ∷ ts) = (is_end t.kind ≡ false) × NoEnd ts
 
@@ -46,7 +46,7 @@ row_no_end [] = refl
 row_no_end (w ∷ []) = run_no_end w
 row_no_end (w ∷ v ∷ vs) = either_end (list_any is_reserved (w ∷ v ∷ vs)) _ _ refl refl
 
-cut_no_end : {at : ℕ} {bytes : List ℕ} {ts : List Token} {e : Ending} → Cut at bytes ts e → NoEnd ts
+pub cut_no_end : {at : ℕ} {bytes : List ℕ} {ts : List Token} {e : Ending} → Cut at bytes ts e → NoEnd ts
 unfolding NoEnd
 cut_no_end at_end = tt
 cut_no_end at_mark = tt

@@ -11,3 +11,5 @@ mod places;
 mod reading;
 #[cfg(test)]
 mod shown;
+#[cfg(test)]
+mod splitting;

@@ -5,7 +5,7 @@ use mmt_syntax::{Expr, Module, deps, place_of};
 use std::alloc::{AllocError, Global};
 use std::test::Fail;
 use twelf_print::{print_expr, print_module};
-use twelf_reader::{ReadFault, read_judgement, read_module};
+use twelf_reader::{Pieces, ReadFault, read_judgement, read_module, split};
 
 /// The longest text of these tests.
 const LONG: usize = 100_000;
@@ -95,4 +95,27 @@ fn push_expr(alloc: Global, line: &mut String, expr: &Expr) -> Result<(), Fail> 
     let Span { from, to } = expr.span;
     write!(line, "{from}-{to} {}", text.as_str())?;
     Ok(())
+}
+
+/// The modules of a file, each as its name, the span of that and its own; or the place and the word of the fault.
+pub(crate) fn divided(alloc: Global, text: &[u8]) -> Result<String, Fail> {
+    if text.len() > LONG {
+        return Err("a long text".into());
+    }
+    match split(alloc, text) {
+        Ok(pieces) => Ok(shown_pieces(alloc, &pieces)?),
+        Err(fault) => Ok(faulty(alloc, text, fault)?),
+    }
+}
+
+fn shown_pieces(alloc: Global, pieces: &Pieces) -> Result<String, AllocError> {
+    let mut line = String::new(alloc);
+    for piece in pieces.as_slice() {
+        for name in piece.name.path.as_slice() {
+            line.push_str(name.as_str())?;
+        }
+        let Span { from, to } = piece.name.span;
+        write!(line, " {from}-{to} {}-{} ", piece.span.from, piece.span.to)?;
+    }
+    Ok(line)
 }

@@ -11,7 +11,11 @@ use Rattle.token_laws.proofs.OneCut.{lex_utf8}
 use Rattle.text_laws.proofs.Completes.{Alive, expect_ok, step_lives, start_alive}
 use Rattle.reading_laws.proofs.Stopping.{lives_on}
 use Rattle.reading_laws.proofs.OneAnswer.{answer_refused, answer_deep, answer_goes}
-use Rattle.twelf_reader.specs.Left.{last_token, left_from, with_last}
+use Rattle.twelf_expressions.specs.Left.{last_token, left_from, with_last}
+use Rattle.twelf_expressions.specs.Going.{Fails}
+use Rattle.twelf_expressions.specs.declared.fault.ReadFault.{ReadFault}
+use Rattle.twelf_expressions.specs.declared.fault.ReadFault.TheVariants as faults
+use Rattle.twelf_expressions.proofs.Moves.{failed}
 
 -- ---- a comment without an end
 
@@ -109,3 +113,13 @@ read_whole target text tree u h = go (cut_on Between 0 text).ending refl
         let c = cut_on Between 0 text in
         let same : answer_on (start target) (left_from text 0) ≡ answer_on (start target) (c.tokens ++ (sign z Stray ∷ [])) = ap (λ x. answer_on (start target) (c.tokens ++ (last_token x ∷ []))) e in
         absurd (true≢false (ap is_read (sym h ∙ same) ∙ unread (start target) c.tokens z (start_alive target)))
+
+-- what a reader finds, and a comment without an end before it
+pub settled_fails : (target : Target) (text : List ℕ) (f g : ReadFault) → IsUtf8 text
+    → ((at : ℕ) → (cut_on Between 0 text).ending ≡ Unclosed at → g ≡ faults.Syntax at) → ((end : ℕ) → (cut_on Between 0 text).ending ≡ Finished end → g ≡ f)
+    → Fails f (answer_on (start target) (left_from text 0)) → Fails g (read target text)
+settled_fails target text f g u unclosed finished h = go (cut_on Between 0 text).ending refl
+  where
+    go : (e : Ending) → (cut_on Between 0 text).ending ≡ e → Fails g (read target text)
+    go (Finished end) e = rw (finished end e) (failed f (read_finished target text end u e) h)
+    go (Unclosed at) e = rw (unclosed at e) (read_open target text at u e)

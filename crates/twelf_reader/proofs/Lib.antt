@@ -1,6 +1,5 @@
-pub mod SignCases
-pub mod Lexemes
-pub mod Moves
-pub mod Frames
+-- Lemmas on texts and their readings, and on files.
 pub mod Endings
 pub mod Readings
+pub mod Dividing
+pub mod Divided

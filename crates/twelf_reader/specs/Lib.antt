@@ -1,7 +1,4 @@
--- How a reader goes through the tokens of a text.
-pub mod Signs
-pub mod Left
-pub mod Going
-pub mod Frames
+-- What the parts of a reader of modules come to.
 pub mod Items
 pub mod Answers
+pub mod Division

@@ -1,21 +1,15 @@
-//! The reader: the trees that texts spell, and where reading stops.
+//! The reader: the trees that texts spell, and where reading stops; and the modules of files.
 #![tactic(auto)]
 
 mod assigns;
-mod closing;
 mod decls;
-mod expecting;
-mod expr;
-mod fault;
-mod frame;
-mod level;
+mod file;
+mod heads;
 mod modules;
-mod opening;
-mod reader;
-mod refusing;
-mod taking;
+mod pieces;
 mod texts;
-mod tree;
+mod words;
 
-pub use fault::ReadFault;
+pub use file::{Piece, Pieces, split};
 pub use texts::{read_judgement, read_module};
+pub use twelf_expressions::ReadFault;

@@ -1,17 +1,18 @@
-//! The two calls that read a text.
-ghost use Rattle.std.specs.Prelude.{◌≡◌, ◌≤◌, ◌^◌, length, IfErr, IfOk};
-ghost use Rattle.text_meaning.specs.Reading.{Answer, Target, JudgementText, JudgementTree, ModuleText, ModuleTree, Read, Reads};
-ghost use Rattle.text_meaning.specs.Parsing.{answer_on, start};
+//! The calls that read a text.
+ghost use Rattle.std.specs.Prelude.{◌≡◌, ◌≤◌, ◌^◌, ℕ, length, IfErr, IfOk};
+ghost use Rattle.text_meaning.specs.Cut.{Finished, Unclosed};
+ghost use Rattle.text_meaning.specs.Cutting.{Between, cut_on};
+ghost use Rattle.text_meaning.specs.Reading.{Answer, JudgementText, JudgementTree, ModuleText, ModuleTree, Read, Reads};
 ghost use Rattle.text_meaning.specs.TextAnswers.{read};
 ghost use Rattle.mmt_syntax.specs.Readings as syntax;
-ghost use Rattle.twelf_reader.specs.Going.{Fails, Goes};
-ghost use Rattle.twelf_reader.specs.Left.{left_from};
-ghost use Rattle.twelf_reader.specs.Answers.{IsFaultOf};
+ghost use Rattle.twelf_expressions.specs.Going.{Goes};
+ghost use Rattle.twelf_expressions.specs.declared.fault.ReadFault.TheVariants as faults;
+ghost use Rattle.twelf_reader.specs.Answers.{IsFaultOf, IsNoText};
 
-use crate::ReadFault;
-use crate::reader::Reader;
+use crate::modules::{whole_judgement, whole_module};
 use mmt_syntax::{Judgement, Module};
 use std::alloc::Global;
+use twelf_expressions::{ReadFault, Reader};
 use twelf_lexer::open_comment;
 
 /// The one module that a text of at most 2^26 bytes spells, at a nesting of at most 500. It answers the tree exactly
@@ -41,10 +42,10 @@ pub fn read_judgement(alloc: Global, text: &[u8]) -> Result<Judgement, ReadFault
 }
 
 /// The same text, if it is UTF-8.
-fn in_utf8(text: &[u8]) -> Result<&str, ReadFault>
+pub(crate) fn in_utf8(text: &[u8]) -> Result<&str, ReadFault>
     requires small { length text.now ≤ 2 ^ 26 }
     ensures ok { IfOk result (λ same. same.now ≡ text.now) }
-    ensures fault { IfErr result (λ fault. (target : Target) → Fails fault (read target text.now)) }
+    ensures fault { IfErr result (λ fault. IsNoText text.now fault) }
 {
     match str::from_utf8(text) {
         Ok(text) => Ok(text),
@@ -60,7 +61,7 @@ fn module(alloc: Global, text: &str) -> Result<Module, ReadFault>
     ensures { Goes (read ModuleText text.now) result (λ m. Read (ModuleTree (syntax.read_module m))) }
 {
     let mut reader = Reader::new(alloc, text);
-    match reader.whole_module() {
+    match whole_module(&mut reader) {
         Ok(module) => Ok(module),
         Err(fault) => Err(settled(text, fault)),
     }
@@ -72,16 +73,17 @@ fn judgement(alloc: Global, text: &str) -> Result<Judgement, ReadFault>
     ensures { Goes (read JudgementText text.now) result (λ j. Read (JudgementTree (syntax.read_judgement j))) }
 {
     let mut reader = Reader::new(alloc, text);
-    match reader.whole_judgement() {
+    match whole_judgement(&mut reader) {
         Ok(judgement) => Ok(judgement),
         Err(fault) => Err(settled(text, fault)),
     }
 }
 
 /// The fault of a text that does not read. A comment without an end comes before what a reader finds.
-fn settled(text: &str, fault: ReadFault) -> ReadFault
+pub(crate) fn settled(text: &str, fault: ReadFault) -> ReadFault
     requires small { length text.now ≤ 2 ^ 26 }
-    ensures { (target : Target) → Fails fault (answer_on (start target) (left_from text.now 0)) → Fails result (read target text.now) }
+    ensures unclosed { (at : ℕ) → (cut_on Between 0 text.now).ending ≡ Unclosed at → result ≡ faults.Syntax at }
+    ensures finished { (end : ℕ) → (cut_on Between 0 text.now).ending ≡ Finished end → result ≡ fault }
 {
     match open_comment(text) {
         Some(at) => ReadFault::Syntax { at },

@@ -2,8 +2,14 @@ use Rattle.std.proofs.Common.{sym, ap, ◌∙◌}
 use Rattle.text_meaning.specs.Reading.{JudgementText, JudgementTree}
 use Rattle.text_meaning.specs.Parsing.{Ends, ObjectOf, answer_on, at_expr}
 use Rattle.mmt_syntax.specs.Readings as syntax
-use Rattle.twelf_reader.proofs.Endings.{read_whole}
+use Rattle.twelf_expressions.proofs.Moves.{failed}
+use Rattle.twelf_reader.proofs.Endings.{read_whole, settled_fails}
 use Rattle.twelf_reader.proofs.texts.judgement.Goals as goal
 
 pub returns-in-Ok : goal.returns-in-Ok
 returns-in-Ok c = read_whole JudgementText c.args.text.now (JudgementTree (syntax.read_judgement c.in-Ok.judgement)) c.utf8.text (ap (answer_on (at_expr 1 (Ends ObjectOf))) (sym c.new-reader.ensures) ∙ c.in-Ok.ensures)
+
+pub returns : goal.returns
+returns c =
+    settled_fails JudgementText c.args.text.now c.in-Err.fault c.settled.result c.utf8.text c.settled.ensures.unclosed c.settled.ensures.finished
+    (failed c.in-Err.fault (ap (answer_on (at_expr 1 (Ends ObjectOf))) (sym c.new-reader.ensures)) c.in-Err.ensures)

@@ -1,0 +1,5 @@
+-- How a reader goes through the tokens of a text.
+pub mod Signs
+pub mod Left
+pub mod Going
+pub mod Frames
