@@ -1,0 +1,4 @@
+pub mod Entries
+pub mod Readings
+pub mod Stages
+pub mod Keeping
