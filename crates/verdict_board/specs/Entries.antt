@@ -1,4 +1,5 @@
 -- What the entries of this crate stand for (this profile).
+use Rattle.std.specs.Prelude.{ℕ}
 use Rattle.log_meaning.specs.Log as logs
 use Rattle.board_meaning.specs.Events as board
 use Rattle.verdict_board.specs.declared.event.Event.{Event}
@@ -16,3 +17,7 @@ read_event Close = board.Close
 
 abbrev pub read_entry : Entry → board.Entry
 read_entry entry = record { pass = entry.pass; version = entry.version; event = read_event entry.event }
+
+-- The entry of this pass, with this version and event.
+abbrev pub entry : ℕ → ℕ → board.Event → board.Entry
+entry pass version event = record { pass = pass; version = version; event = event }

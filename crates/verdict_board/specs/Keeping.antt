@@ -19,11 +19,11 @@ HasRoom closed opened entries = entries + opened + (if closed then 0 else 1) < 2
 module _ {Answer Meaning : Type 0} (subject : Subject Meaning) (meaning : Answer → Meaning) (history : History) where
   pub record IsKept (log : Log) (graph : Graph) (stages : Rows (Stage Answer)) (closed : Bool) (opened entries installed : ℕ) : Type 0 where
     pub legal : IsLegal subject.dependencies history
-    pub log : log ≡ log_of history
-    pub graph : HoldsDependencies graph subject.dependencies (library_after history)
-    pub stages : AreStages subject meaning history stages
-    pub closed : closed ≡ is_closed history
-    pub opened : length (open_claims history) ≤ opened
-    pub entries : entries ≡ length history
-    pub installed : installed ≡ installs history
+    pub logged : log ≡ log_of history
+    pub holds : HoldsDependencies graph subject.dependencies (library_after history)
+    pub staged : AreStages subject meaning history stages
+    pub closed_is : closed ≡ is_closed history
+    pub opened_all : length (open_claims history) ≤ opened
+    pub counted : entries ≡ length history
+    pub installed_all : installed ≡ installs history
     pub room : HasRoom closed opened entries

@@ -19,6 +19,13 @@ answer_in (Claimed claim inputs) = None
 answer_in (Standing answer inputs) = Some answer
 answer_in (Cyclic answer) = Some answer
 
+-- The names of the inputs of the standing verdict, if there is one.
+abbrev pub standing_in : {Answer : Type 0} → Stage Answer → Option (List Name)
+standing_in Waiting = None
+standing_in (Claimed claim inputs) = None
+standing_in (Standing answer inputs) = Some inputs
+standing_in (Cyclic answer) = None
+
 -- How a module stands after an edit of this name, if it is grounded then.
 abbrev pub stage_after : {Answer : Type 0} → Name → Stage Answer → Stage Answer
 stage_after name Waiting = Waiting

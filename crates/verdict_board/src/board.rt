@@ -7,8 +7,8 @@ ghost use Rattle.board_meaning.specs.Machine.{CloseCall, after_call};
 ghost use Rattle.board_meaning.specs.Legal.{IsLegal};
 
 use crate::stage::Stage;
-use crate::trail::Trail;
-use crate::{Entry, Event};
+use crate::Event;
+use crate::trail::{Trail, noted};
 use edit_log::Log;
 use lf_terms::Memory;
 use module_graph::{Graph, Subject};
@@ -108,12 +108,8 @@ impl<S: Subject> Board<S> {
         if self.closed {
             return;
         }
-        let entry = Entry {
-            pass,
-            version: self.log.version(),
-            event: Event::Close,
-        };
-        self.history = Trail::with(&self.history, &entry);
+        let version = self.log.version();
+        self.history = noted(&self.history, pass, version, Event::Close);
         self.entries += 1;
         self.closed = true;
     }

@@ -12,7 +12,6 @@ ghost use Rattle.board_meaning.specs.Points.{is_verdict};
 ghost use Rattle.module_graph.specs.Subjects.{read_answers};
 ghost use Rattle.verdict_board.specs.Readings.{read_told};
 
-use crate::stage::Stage;
 use crate::{Board, Told};
 use lf_terms::{Memory, Name, Names};
 use module_graph::{Answers, Subject};
@@ -48,11 +47,12 @@ impl<S: Subject> Board<S> {
     ) -> Result<Option<Answers<S::Answer>>, Memory>
         ensures { IfOk result (λ answers. option_map (read_answers S.meaning) answers ≡ answers_reply S.subject self.now name.now) }
     {
-        match self.stages.get(name) {
-            Some(Stage::Standing { inputs, .. }) => {
-                Ok(Some(self.answers_among(alloc, name, inputs.get())?))
-            }
-            _ => Ok(None),
+        let Some(stage) = self.stages.get(name) else {
+            return Ok(None);
+        };
+        match stage.standing() {
+            Some(inputs) => Ok(Some(self.answers_among(alloc, name, inputs)?)),
+            None => Ok(None),
         }
     }
 

@@ -2,7 +2,7 @@
 ghost use Rattle.std.specs.Prelude.{◌≡◌, IfOk};
 ghost use Rattle.std.specs.Option.{option_copied};
 ghost use Rattle.name_meaning.specs.Names.{is_ascending, is_among};
-ghost use Rattle.verdict_board.specs.Stages.{answer_in, stage_after, HasSortedInputs};
+ghost use Rattle.verdict_board.specs.Stages.{answer_in, standing_in, stage_after, HasSortedInputs};
 
 use crate::search::contains;
 use lf_terms::{Arc, Memory, Name, Names};
@@ -29,6 +29,16 @@ impl<A> Stage<A> {
         match self {
             Stage::Standing { answer, .. } | Stage::Cyclic { answer } => Some(answer),
             Stage::Waiting | Stage::Claimed { .. } => None,
+        }
+    }
+
+    /// The names of the inputs of the standing verdict, if there is one.
+    pub fn standing(&self) -> Option<&Names>
+        ensures { option_copied result ≡ standing_in self.now }
+    {
+        match self {
+            Stage::Standing { inputs, .. } => Some(inputs.get()),
+            Stage::Waiting | Stage::Claimed { .. } | Stage::Cyclic { .. } => None,
         }
     }
 }

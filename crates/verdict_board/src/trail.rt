@@ -2,9 +2,9 @@
 ghost use Rattle.std.specs.Prelude.{◌≡◌, List, [], ◌∷◌, ◌++◌};
 ghost use Rattle.std.specs.Borrow.{ftrue};
 ghost use Rattle.board_meaning.specs.Events as board;
-ghost use Rattle.verdict_board.specs.Entries.{read_entry};
+ghost use Rattle.verdict_board.specs.Entries.{read_entry, read_event, entry};
 
-use crate::Entry;
+use crate::{Entry, Event};
 use std::marker::Model;
 
 /// Entries in order. It takes no memory, and its calls do nothing when the program runs.
@@ -36,4 +36,16 @@ impl Trail {
     {
         Trail {}
     }
+}
+
+/// One entry more, of this pass, with this version and event.
+pub fn noted(before: &Trail, pass: u32, version: u32, event: Event) -> Trail
+    ensures { result.entries ≡ before.now.entries ++ entry pass version (read_event event) ∷ [] }
+{
+    let entry = Entry {
+        pass,
+        version,
+        event,
+    };
+    Trail::with(before, &entry)
 }
