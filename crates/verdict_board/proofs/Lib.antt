@@ -6,3 +6,4 @@ pub mod Calls
 pub mod Jobs
 pub mod Transitions
 pub mod Reports
+pub mod Ready

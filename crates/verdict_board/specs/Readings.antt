@@ -2,6 +2,7 @@
 use Rattle.std.specs.Prelude.{ℕ, ◌≤◌, List, map, length, Option}
 use Rattle.name_meaning.specs.Names.{Name, Text}
 use Rattle.name_meaning.specs.Limits.{text_limit}
+use Rattle.board_meaning.specs.Events.{History, stamp_after}
 use Rattle.board_meaning.specs.Claims as claims
 use Rattle.board_meaning.specs.Machine as machine
 use Rattle.module_graph.specs.Subjects.{read_answers}
@@ -13,6 +14,10 @@ use Rattle.verdict_board.specs.declared.replies.Told.TheVariants.{Verdict, Pendi
 
 abbrev pub read_inputs : List Input → List claims.Input
 read_inputs inputs = map (λ (input : Input). record { name = input.name; stamp = input.stamp }) inputs
+
+-- names with their stamps after a history
+abbrev pub inputs_of_names : History → List Name → List claims.Input
+inputs_of_names history names = map (λ (name : Name). record { name = name; stamp = stamp_after history name }) names
 
 abbrev pub read_installed : installed.Installed → machine.Installed
 read_installed Installed = machine.IsInstalled

@@ -1,8 +1,8 @@
 -- How a module stands after a history (this profile).
-use Rattle.std.specs.Prelude.{◌≡◌, ℕ, true, false, List, Option, Some, None, if◌then◌else◌}
+use Rattle.std.specs.Prelude.{◌≡◌, ℕ, Bool, true, false, ◌&&◌, not, List, Option, Some, None, if◌then◌else◌}
 use Rattle.name_meaning.specs.Names.{Name, is_among, is_ascending}
 use Rattle.name_meaning.specs.Rows.{Rows, row_names, row_of}
-use Rattle.log_meaning.specs.Log.{names_of}
+use Rattle.log_meaning.specs.Log.{names_of, is_present}
 use Rattle.walk_meaning.specs.Walks.{Dependencies, is_grounded, is_ungrounded}
 use Rattle.walk_meaning.specs.Reach.{reach}
 use Rattle.walk_meaning.specs.Subject.{Subject}
@@ -18,6 +18,17 @@ answer_in Waiting = None
 answer_in (Claimed claim inputs) = None
 answer_in (Standing answer inputs) = Some answer
 answer_in (Cyclic answer) = Some answer
+
+-- It waits for a claim.
+abbrev pub is_waiting : {Answer : Type 0} → Stage Answer → Bool
+is_waiting Waiting = true
+is_waiting (Claimed claim inputs) = false
+is_waiting (Standing answer inputs) = false
+is_waiting (Cyclic answer) = false
+
+-- The name is present and has no standing verdict.
+abbrev pub waits : Dependencies → History → Name → Bool
+waits dependencies history name = is_present (library_after history) name && not (stands dependencies history name)
 
 -- The names of the inputs of the standing verdict, if there is one.
 abbrev pub standing_in : {Answer : Type 0} → Stage Answer → Option (List Name)

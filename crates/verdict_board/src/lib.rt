@@ -2,6 +2,7 @@
 #![tactic(auto)]
 
 mod board;
+mod claim;
 mod event;
 mod inputs;
 mod job;

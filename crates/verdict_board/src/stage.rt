@@ -2,7 +2,7 @@
 ghost use Rattle.std.specs.Prelude.{◌≡◌, IfOk};
 ghost use Rattle.std.specs.Option.{option_copied};
 ghost use Rattle.name_meaning.specs.Names.{is_ascending, is_among};
-ghost use Rattle.verdict_board.specs.Stages.{answer_in, standing_in, stage_after, HasSortedInputs};
+ghost use Rattle.verdict_board.specs.Stages.{answer_in, is_waiting, standing_in, stage_after, HasSortedInputs};
 
 use crate::search::contains;
 use lf_terms::{Arc, Memory, Name, Names};
@@ -30,6 +30,13 @@ impl<A> Stage<A> {
             Stage::Standing { answer, .. } | Stage::Cyclic { answer } => Some(answer),
             Stage::Waiting | Stage::Claimed { .. } => None,
         }
+    }
+
+    /// Whether it waits for a claim.
+    pub fn is_waiting(&self) -> bool
+        ensures { result ≡ is_waiting self.now }
+    {
+        matches!(self, Stage::Waiting)
     }
 
     /// The names of the inputs of the standing verdict, if there is one.
