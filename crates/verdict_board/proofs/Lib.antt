@@ -7,3 +7,4 @@ pub mod Jobs
 pub mod Transitions
 pub mod Reports
 pub mod Ready
+pub mod Ends

@@ -35,7 +35,7 @@ use Rattle.verdict_board.specs.Entries.{entry}
 some_same : {A : Type 0} {x y : A} → Some x ≡ Some y → x ≡ y
 some_same p = cc
 
-present_of : (D : Dependencies) (L : Library) (n : Name) → is_grounded D L n ≡ true → is_present L n ≡ true
+pub present_of : (D : Dependencies) (L : Library) (n : Name) → is_grounded D L n ≡ true → is_present L n ≡ true
 present_of D L n h = (and_parts (is_present L n) (not (is_ungrounded D L n)) h).0
 
 module _ {Answer Meaning : Type 0} (subject : Subject Meaning) (meaning : Answer → Meaning) where
@@ -223,10 +223,10 @@ module _ {Answer Meaning : Type 0} (subject : Subject Meaning) (meaning : Answer
           stale_not d m i s = clash (sym (unedited_installed D H d m i.claimed i.unedited) ∙ ap (install_reply D H) s ∙ r)
 
       -- a release of a claim that is current
-      pub kept_release_current : (names : List Name) → row_of stages n ≡ Some (Claimed c names)
+      pub kept_release_current : IsCurrent D H n c
           → IsKept subject meaning (H ++ entry pass version (Release c) ∷ []) log graph (with_row n Waiting stages) closed (opened - 1) (entries + 1) installed
       unfolding event_of
-      kept_release_current names row = record {
+      kept_release_current current = record {
         legal = legal_with D H pass (ReleaseCall c) (Release c) version refl v k.legal may_release;
         logged = logged_on (Release c) refl;
         holds = holds_on (Release c) refl;
@@ -252,11 +252,8 @@ module _ {Answer Meaning : Type 0} (subject : Subject Meaning) (meaning : Answer
           e : Entry
           e = entry pass version (Release c)
 
-          current : IsCurrent D H n c
-          current = (k.staged.staged n (Claimed c names) row).current
-
           grounded : is_grounded D (library_after H) n ≡ true
-          grounded = current_grounded D H k.legal n c current
+          grounded = grounded_now D H k.legal c n at current.unedited
 
       -- a release of one that is not
       pub kept_release : (IsCurrent D H n c → ⊥)

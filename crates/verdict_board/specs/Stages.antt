@@ -26,6 +26,13 @@ is_waiting (Claimed claim inputs) = false
 is_waiting (Standing answer inputs) = false
 is_waiting (Cyclic answer) = false
 
+-- The current claim, if there is one.
+abbrev pub claim_in : {Answer : Type 0} → Stage Answer → Option ℕ
+claim_in Waiting = None
+claim_in (Claimed claim inputs) = Some claim
+claim_in (Standing answer inputs) = None
+claim_in (Cyclic answer) = None
+
 -- The name is present and has no standing verdict.
 abbrev pub waits : Dependencies → History → Name → Bool
 waits dependencies history name = is_present (library_after history) name && not (stands dependencies history name)

@@ -5,6 +5,7 @@ mod board;
 mod claim;
 mod event;
 mod inputs;
+mod install;
 mod job;
 mod replies;
 mod report;

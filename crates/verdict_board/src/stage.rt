@@ -2,7 +2,7 @@
 ghost use Rattle.std.specs.Prelude.{◌≡◌, IfOk};
 ghost use Rattle.std.specs.Option.{option_copied};
 ghost use Rattle.name_meaning.specs.Names.{is_ascending, is_among};
-ghost use Rattle.verdict_board.specs.Stages.{answer_in, is_waiting, standing_in, stage_after, HasSortedInputs};
+ghost use Rattle.verdict_board.specs.Stages.{answer_in, claim_in, is_waiting, standing_in, stage_after, HasSortedInputs};
 
 use crate::search::contains;
 use lf_terms::{Arc, Memory, Name, Names};
@@ -37,6 +37,16 @@ impl<A> Stage<A> {
         ensures { result ≡ is_waiting self.now }
     {
         matches!(self, Stage::Waiting)
+    }
+
+    /// The current claim, if there is one.
+    pub fn claim(&self) -> Option<u64>
+        ensures { result ≡ claim_in self.now }
+    {
+        match self {
+            Stage::Claimed { claim, .. } => Some(*claim),
+            Stage::Waiting | Stage::Standing { .. } | Stage::Cyclic { .. } => None,
+        }
     }
 
     /// The names of the inputs of the standing verdict, if there is one.
