@@ -8,3 +8,4 @@ pub mod Transitions
 pub mod Reports
 pub mod Ready
 pub mod Ends
+pub mod Handing

@@ -51,13 +51,14 @@ impl<S: Subject> Board<S> {
             names: _,
             answers: _,
         } = job;
-        if self.is_current(&name, claim) {
-            self.stages.replace(&name, Stage::Waiting);
-        }
+        let current = self.is_current(&name, claim);
         let version = self.log.version();
         self.history = noted(&self.history, pass, version, Event::Release { claim });
         self.entries += 1;
         self.opened -= 1;
+        if current {
+            self.stages.replace(&name, Stage::Waiting);
+        }
     }
 
     /// Ends a claim none of whose inputs has changed.
