@@ -206,7 +206,7 @@ open_claim H pass c m =
     claim_within H c n.0 n.1
 
 -- no entry of a legal history ends a claim that is made after it
-not_yet_ended : (dependencies : Dependencies) (H : History) → IsLegal dependencies H → is_ended H (length H) ≡ false
+pub not_yet_ended : (dependencies : Dependencies) (H : History) → IsLegal dependencies H → is_ended H (length H) ≡ false
 not_yet_ended dependencies H l = any_none (λ (entry : Entry). ends_claim (length H) entry.event) H (λ x m. ⊎_elim (λ e. absurd (clash x m e)) (λ e. e) (cases_Bool (ends_claim (length H) x.event)))
   where
     clash : (x : Entry) → Member x H → ends_claim (length H) x.event ≡ true → ⊥

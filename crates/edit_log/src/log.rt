@@ -1,5 +1,5 @@
 //! The log of the edits made.
-ghost use Rattle.std.specs.Prelude.{◌≡◌, ◌∷◌, ◌++◌, ◌≤◌, [], length, suc, IfSome, OnErr, OnOk};
+ghost use Rattle.std.specs.Prelude.{◌≡◌, ◌∷◌, ◌++◌, ◌≤◌, [], length, suc, IfOk, IfSome, OnErr, OnOk};
 ghost use Rattle.std.specs.Option.{option_copied, option_map};
 ghost use Rattle.log_meaning.specs.Log as logs;
 ghost use Rattle.log_meaning.specs.Log.{library_of, text_of, version_of, stamp_of, edit_at, name_at};
@@ -109,6 +109,18 @@ impl Log {
         }
     }
 
+    /// The text of a name, over the same bytes. None exactly where the library lacks the name. A text has at most 2^20
+    /// bytes.
+    pub fn share_text(&self, name: &Name) -> Result<Option<Arc<Bytes>>, Memory>
+        ensures text { IfOk result (λ text. text ≡ text_of (library_of self.now) name.now) }
+        ensures short { IfOk result (λ text. IfSome text (λ bytes. length bytes ≤ text_limit)) }
+    {
+        match self.texts.get(name) {
+            Some(text) => Ok(Some(text.share()?)),
+            None => Ok(None),
+        }
+    }
+
     /// The edit that made a version. None exactly where there is none: at version 0, and past the log's version.
     pub fn entry(&self, version: u32) -> Option<&Edit>
         ensures { option_map (λ edit. read_edit edit.now) result ≡ edit_at self.now version }
@@ -129,8 +141,8 @@ impl Log {
         }
     }
 
-    /// The answer to an edit, by the tests in their order.
-    fn answer(&self, edit: &Edit) -> Result<Edited, EditFault>
+    /// What `append` answers to an edit where memory suffices, by the tests in their order. It takes no memory.
+    pub fn answer(&self, edit: &Edit) -> Result<Edited, EditFault>
         ensures { IsAnswer result (append_answer self.now (read_edit edit.now)) }
     {
         match edit {

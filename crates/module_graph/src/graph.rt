@@ -51,8 +51,24 @@ impl Graph {
         self.rows.remove(name)
     }
 
+    /// An equal graph. For each name it makes a list of its dependencies, whose names are shared.
+    pub fn copy(&self, alloc: Global) -> Result<Graph, Memory>
+        ensures { IfOk result (λ graph. graph ≡ self.now) }
+    {
+        let mut rows = NameTable::new(alloc);
+        for place in 0..self.rows.len() {
+            let (name, dependencies) = self.rows.row_at(place);
+            let dependencies = copy_names(alloc, dependencies.as_slice())?;
+            match rows.push(name.copy(alloc)?, dependencies) {
+                Ok(()) => {}
+                Err(_) => return Err(Memory),
+            }
+        }
+        Ok(Graph { rows })
+    }
+
     /// The number of names.
-    pub(crate) fn len(&self) -> usize
+    pub fn len(&self) -> usize
         ensures len { result ≡ length self.now }
         ensures ordered { IsTable self.now }
     {
@@ -60,7 +76,7 @@ impl Graph {
     }
 
     /// The direct dependencies of a name. None exactly where the graph lacks the name.
-    pub(crate) fn row(&self, name: &Name) -> Option<&Names>
+    pub fn row(&self, name: &Name) -> Option<&Names>
         ensures row { option_copied result ≡ row_of self.now name.now }
         ensures ordered { IsTable self.now }
     {
@@ -68,7 +84,7 @@ impl Graph {
     }
 
     /// Where the name is, or where it would stand.
-    pub(crate) fn place(&self, name: &Name) -> Result<usize, usize>
+    pub fn place(&self, name: &Name) -> Result<usize, usize>
         ensures found { IfOk result (λ place. slice_get (row_names self.now) place ≡ Some name.now) }
         ensures within { IfOk result (λ place. place < length self.now) }
         ensures absent { IfErr result (IsGap (row_names self.now) name.now) }
@@ -77,7 +93,7 @@ impl Graph {
     }
 
     /// The name at a place that is not past the end.
-    pub(crate) fn name_at(&self, place: usize) -> &Name
+    pub fn name_at(&self, place: usize) -> &Name
         requires { place < length self.now }
         ensures { slice_get (row_names self.now) place ≡ Some result.now }
     {
@@ -85,10 +101,21 @@ impl Graph {
     }
 
     /// The direct dependencies of the name at a place that is not past the end.
-    pub(crate) fn dependencies_at(&self, place: usize) -> &Names
+    pub fn dependencies_at(&self, place: usize) -> &Names
         requires { place < length self.now }
         ensures { (name : List ℕ) × (slice_get self.now place ≡ Some (name, result.now)) }
     {
         self.rows.row_at(place).1
     }
+}
+
+/// Equal names, in the same order.
+fn copy_names(alloc: Global, names: &[Name]) -> Result<Names, Memory>
+    ensures { IfOk result (λ copied. copied ≡ names.now) }
+{
+    let mut copied = Vec::with_capacity(alloc, names.len())?;
+    for name in names {
+        copied.push(name.copy(alloc)?)?;
+    }
+    Ok(Names::from_vec(copied))
 }

@@ -21,6 +21,13 @@ module _ {A : Type 0} where
   pub row_set : (rows : Rows A) (i : ℕ) (n : Name) (v : A) → IsTable rows → slice_get (row_names rows) i ≡ Some n → set rows i (n, v) ≡ with_row n v rows
   row_set rows i n v t h = set_split rows i (n, v) (got_name (λ (row : Name × A). row.0) rows i n h).0 ∙ sym (with_row_at n v rows i t h)
 
+  -- a new value under the name that stands there
+  pub row_replaced : (rows : Rows A) (i : ℕ) (n : Name) (v : A) (row : Name × A) → IsTable rows → slice_get (row_names rows) i ≡ Some n → row ≡ get_or rows i row → set rows i (row.0, v) ≡ with_row n v rows
+  row_replaced rows i n v row t h e =
+      let q = got_name (λ (row : Name × A). row.0) rows i n h in
+      let same : row.0 ≡ n = ap (λ (z : Name × A). z.0) (e ∙ q.3 row) ∙ q.4 in
+      ap (λ (m : Name). set rows i (m, v)) same ∙ row_set rows i n v t h
+
   pub row_removed : (rows : Rows A) (i : ℕ) (n : Name) → IsTable rows → slice_get (row_names rows) i ≡ Some n → remove rows i ≡ without_row n rows
   row_removed rows i n t h = sym (without_row_at n rows i t h)
 

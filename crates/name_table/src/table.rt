@@ -1,6 +1,6 @@
 //! A table with one row for each name, sorted by the names: look-up by name takes logarithmic time, look-up by place
 //! constant time.
-ghost use Rattle.std.specs.Prelude.{◌≡◌, ◌<◌, ◌∷◌, ◌++◌, [], length, slice_get, IfErr, IfOk, OnErr, OnOk, IsTrue, is_some, Some};
+ghost use Rattle.std.specs.Prelude.{◌≡◌, ◌<◌, ◌∷◌, ◌++◌, [], length, slice_get, IfErr, IfOk, OnErr, OnOk, IsTrue, is_some, true, Some};
 ghost use Rattle.std.specs.Option.{option_copied, option_map};
 ghost use Rattle.std.specs.Ordering.{nat_cmp};
 ghost use Rattle.std.specs.Cmp.Lexicographic.{slice_cmp};
@@ -104,6 +104,20 @@ impl<V: Drop> NameTable<V> {
                 Ok(()) => Ok(()),
                 Err(failed) => Err(failed.value),
             },
+        }
+    }
+
+    /// Puts a value in place of the one under a name that is there. It takes no memory.
+    pub fn replace(&mut self, name: &Name, value: V)
+        requires { is_some (row_of self.old name.now) ≡ true }
+        ensures { self.new ≡ with_row name.now value self.old }
+    {
+        match self.place(name) {
+            Ok(place) => {
+                let row = &mut self.rows[place];
+                row.1 = value;
+            }
+            Err(_) => unreachable!(),
         }
     }
 

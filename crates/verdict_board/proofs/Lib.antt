@@ -1,0 +1,11 @@
+pub mod Searched
+pub mod Currents
+pub mod Kept
+pub mod Rooms
+pub mod Calls
+pub mod Jobs
+pub mod Transitions
+pub mod Reports
+pub mod Ready
+pub mod Ends
+pub mod Handing

@@ -1,0 +1,29 @@
+-- What the tables of a board keep true of its history (this profile).
+use Rattle.std.specs.Prelude.{◌≡◌, ℕ, ◌+◌, ◌<◌, ◌≤◌, ◌^◌, Bool, length, if◌then◌else◌}
+use Rattle.name_meaning.specs.Rows.{Rows}
+use Rattle.log_meaning.specs.Log.{Log}
+use Rattle.walk_meaning.specs.Graphs.{Graph, HoldsDependencies}
+use Rattle.walk_meaning.specs.Subject.{Subject}
+use Rattle.board_meaning.specs.Events.{History, log_of, library_after}
+use Rattle.board_meaning.specs.Claims.{open_claims}
+use Rattle.board_meaning.specs.Standing.{installs}
+use Rattle.board_meaning.specs.Ready.{is_closed}
+use Rattle.board_meaning.specs.Legal.{IsLegal}
+use Rattle.verdict_board.specs.declared.stage.Stage.{Stage}
+use Rattle.verdict_board.specs.Stages.{AreStages}
+
+-- There is a number left for the end of each open claim, and for the close.
+abbrev pub HasRoom : (closed : Bool) (opened entries : ℕ) → Type 0
+HasRoom closed opened entries = entries + opened + (if closed then 0 else 1) < 2 ^ 64
+
+module _ {Answer Meaning : Type 0} (subject : Subject Meaning) (meaning : Answer → Meaning) (history : History) where
+  pub record IsKept (log : Log) (graph : Graph) (stages : Rows (Stage Answer)) (closed : Bool) (opened entries installed : ℕ) : Type 0 where
+    pub legal : IsLegal subject.dependencies history
+    pub logged : log ≡ log_of history
+    pub holds : HoldsDependencies graph subject.dependencies (library_after history)
+    pub staged : AreStages subject meaning history stages
+    pub closed_is : closed ≡ is_closed history
+    pub opened_all : length (open_claims history) ≤ opened
+    pub counted : entries ≡ length history
+    pub installed_all : installed ≡ installs history
+    pub room : HasRoom closed opened entries
