@@ -40,7 +40,7 @@ use Rattle.elaborate.specs.Answers.{IsFirstFault, Expands, Begins}
 use Rattle.elaborate.specs.declared.fault.ElabFault.{ElabFault}
 use Rattle.elaborate.specs.declared.fault.ElabFault.TheVariants as faults
 use Rattle.elaborate.specs.declared.heads.Head.{Head}
-use Rattle.elaborate.proofs.Nodes.{read_ty, read_name, read_app, read_pi, read_lam, read_typed_lam, read_arrow, read_back, read_last, next_taken}
+use Rattle.mmt_syntax.proofs.Nodes.{read_ty, read_name, read_app, read_pi, read_lam, read_typed_lam, read_arrow, read_back, read_last, next_taken}
 
 -- ---- answers
 

@@ -32,7 +32,7 @@ use Rattle.elaborate.specs.Steps.{written_of, domain_answer, kind_product_answer
 use Rattle.elaborate.specs.Answers.{IsFirstFault, Expands, Begins}
 use Rattle.elaborate.specs.declared.fault.ElabFault.{ElabFault}
 use Rattle.elaborate.specs.declared.heads.Head.{Head}
-use Rattle.elaborate.proofs.Nodes.{read_ty, read_name, read_app, read_pi, read_lam, read_typed_lam, read_arrow, read_back}
+use Rattle.mmt_syntax.proofs.Nodes.{read_ty, read_name, read_app, read_pi, read_lam, read_typed_lam, read_arrow, read_back}
 use Rattle.elaborate.proofs.ExpansionSteps.{bind_same, begun, first_stays, first_behind, same_fault, same_answer}
 
 -- ---- the end of an expression

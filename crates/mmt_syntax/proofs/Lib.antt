@@ -1,2 +1,3 @@
 pub mod ReadingEquations
 pub mod Unlabelled
+pub mod Nodes

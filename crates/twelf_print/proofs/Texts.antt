@@ -1,7 +1,6 @@
 -- The text of an expression, from those of its parts.
 use Rattle.std.proofs.Common.{◌≡◌, ℕ, ◌+◌, ◌<◌, Bool, true, false, ◌&&◌, ◌||◌, List, [], ◌∷◌, ◌++◌, take, length, slice_index_or, codes, refl, sym, ap, ◌∙◌, append_assoc, append-nil, map, fold, arith}
 use Rattle.std.specs.Prelude.{if◌then◌else◌}
-use Rattle.std.proofs.lemmas.List.{take_more}
 use Rattle.name_meaning.specs.Names.{Path}
 use Rattle.text_meaning.specs.Tokens.{spelled, dotted}
 use Rattle.text_meaning.specs.Trees as trees
@@ -11,6 +10,7 @@ use Rattle.mmt_syntax.specs.Readings.{read_span, read_node, read_expr, read_argu
 use Rattle.mmt_syntax.specs.declared.expr.Expr.{Expr}
 use Rattle.mmt_syntax.specs.declared.expr.Node.TheVariants as nodes
 use Rattle.mmt_syntax.proofs.ReadingEquations.{read_expr_is, read_node_ty, read_node_name}
+use Rattle.mmt_syntax.proofs.Nodes.{next_taken, read_last}
 use Rattle.print_meaning.specs.PrintedItems.{Gap, tight, space, Item, path_item, type_item, arrow_item, back_item, right_brace, right_bracket, left_paren, right_paren, text_of}
 use Rattle.print_meaning.specs.PrintedExpressions.{is_word, is_binding, is_operand, is_last_operand, is_back, binder_bytes, placed, expr_items, args_items}
 use Rattle.print_laws.proofs.LaidOut.{text_append}
@@ -143,18 +143,6 @@ back_text b a free gap =
     append_assoc (text_of B) (codes "<- ") (text_of A) ∙ sym (text_append B (back_item ∷ A))
 
 -- ---- rows
-
--- one element more of the front of a list
-pub next_taken : {A : Type 0} (xs : List A) (i : ℕ) (x : A) → x ≡ slice_index_or xs i x → i < length xs → take (i + 1) xs ≡ take i xs ++ (x ∷ [])
-next_taken xs i x e h = take_more xs i x h ∙ ap (λ z. take i xs ++ (z ∷ [])) (sym e)
-
--- arguments with one more behind them
-pub read_last : (es : List Expr) (e : Expr) → read_arguments (es ++ (e ∷ [])) ≡ trees.ThenArg (read_arguments es) (read_expr e)
-read_last es e = from es trees.NoArgs
-  where
-    from : (xs : List Expr) (done : trees.Exprs) → fold trees.ThenArg done (map read_expr (xs ++ (e ∷ []))) ≡ trees.ThenArg (fold trees.ThenArg done (map read_expr xs)) (read_expr e)
-    from [] done = refl
-    from (x ∷ xs) done = from xs (trees.ThenArg done (read_expr x))
 
 -- the text of arguments with one more behind them
 pub args_text : (es : List Expr) (e : Expr) (free : Bool) (gap : Gap)

@@ -1,6 +1,6 @@
 use Rattle.std.proofs.Common.{◌+◌, ◌*◌}
 use Rattle.mmt_syntax.specs.Readings.{read_expr}
-use Rattle.elaborate.proofs.Nodes.{size}
+use Rattle.mmt_syntax.proofs.Nodes.{size}
 use Rattle.elaborate.proofs.kinds.+kind_expansion.Given as goal
 
 -- Twice the size, and a rank among the calls on one expression.

@@ -7,7 +7,7 @@ use Rattle.mmt_syntax.specs.Readings.{read_arguments, read_binder, read_expr, ex
 use Rattle.elaborate.specs.Contexts.{locals_of, scope_of}
 use Rattle.elaborate.specs.HeadStates.{read_level}
 use Rattle.elaborate.proofs.ExpansionSteps.{is_broken, same_fault, object_moved, lambda_mismatch, lambda_domain_fault, lambda_body_fault, lambda_stands, argument_fault, argument_stands, all_taken, same_answer, same_begin, applied_begins, applied_family_begins, object_type, object_pi, object_arrow, object_back, object_name, object_app, head_type, head_pi, head_arrow, head_back, head_lambda, head_name, function_fault, function_begins, family_type, family_lambda, family_pi, family_arrow, family_back, family_name, family_app}
-use Rattle.elaborate.proofs.Nodes.{size, args_size, written_size, app_size, pi_size, arrow_size, back_size, lambda_size, element_below, read_app, read_pi, read_arrow, read_back}
+use Rattle.mmt_syntax.proofs.Nodes.{size, args_size, written_size, app_size, pi_size, arrow_size, back_size, lambda_size, element_below, read_app, read_pi, read_arrow, read_back}
 use Rattle.elaborate.proofs.terms.+expansion.Goals as goal
 
 pub applied-returns : goal.applied-returns

@@ -5,7 +5,7 @@ use Rattle.mmt_syntax.specs.Readings.{read_expr, read_arguments}
 use Rattle.elaborate.specs.Contexts.{locals_of, scope_of}
 use Rattle.elaborate.specs.HeadStates.{Stands}
 use Rattle.elaborate.specs.Steps.{written_of}
-use Rattle.elaborate.proofs.Nodes.{size, args_size, written_size}
+use Rattle.mmt_syntax.proofs.Nodes.{size, args_size, written_size}
 use Rattle.elaborate.proofs.terms.+expansion.Given as goal
 
 -- The head so far is what the arguments so far give.

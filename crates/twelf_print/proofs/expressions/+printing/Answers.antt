@@ -6,8 +6,9 @@ use Rattle.mmt_syntax.specs.Readings.{read_expr, read_arguments, expressions_of,
 use Rattle.mmt_syntax.specs.declared.expr.Node.TheVariants as nodes
 use Rattle.print_meaning.specs.PrintedItems.{space, text_of}
 use Rattle.print_meaning.specs.PrintedExpressions.{is_word, is_binding, is_operand, is_back, is_last_operand, expr_items, args_items}
-use Rattle.twelf_print.proofs.Texts.{place_written, always_free, or_none, ty_text, name_text, app_written, pi_written, lam_written, typed_lam_written, arrow_written, back_written, next_taken, args_none, args_written}
-use Rattle.twelf_print.proofs.Nodes.{as_read, read_app, read_pi, read_lam, read_typed_lam, read_arrow, read_back, app_size, pi_size, lam_size, typed_lam_size, arrow_size, back_size, last_below, other_below}
+use Rattle.twelf_print.proofs.Texts.{place_written, always_free, or_none, ty_text, name_text, app_written, pi_written, lam_written, typed_lam_written, arrow_written, back_written, args_none, args_written}
+use Rattle.twelf_print.proofs.Nodes.{as_read}
+use Rattle.mmt_syntax.proofs.Nodes.{next_taken, read_app, read_pi, read_lam, read_typed_lam, read_arrow, read_back, app_size, pi_size, lam_size, typed_lam_size, arrow_size, back_size, last_below, other_below}
 use Rattle.twelf_print.proofs.expressions.+printing.Goals as goal
 
 -- ---- each form is smaller than the expression, and a part than its form

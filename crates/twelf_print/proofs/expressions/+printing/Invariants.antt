@@ -2,7 +2,7 @@ use Rattle.std.proofs.Common.{◌≡◌, ◌+◌, ◌++◌, take, false}
 use Rattle.mmt_syntax.specs.Readings.{read_expr, read_arguments, expressions_of}
 use Rattle.print_meaning.specs.PrintedItems.{space, text_of}
 use Rattle.print_meaning.specs.PrintedExpressions.{args_items}
-use Rattle.twelf_print.proofs.Nodes.{size, args_size}
+use Rattle.mmt_syntax.proofs.Nodes.{size, args_size}
 use Rattle.twelf_print.proofs.expressions.+printing.Given as goal
 
 -- the arguments so far, each with a space behind it
