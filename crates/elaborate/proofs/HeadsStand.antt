@@ -49,8 +49,8 @@ one_more own spine classifier m head stands added classifies = record {
   first = stands.first;
   begins = stands.begins;
   takes = ap (head_takes_all stands.first) (argument_added own.spine spine m added)
-    ∙ takes_one_more stands.first (read_arguments own.spine) (read_object m)
-    ∙ ap (λ h. head_takes h (read_object m)) stands.takes;
+      ∙ takes_one_more stands.first (read_arguments own.spine) (read_object m)
+      ∙ ap (λ h. head_takes h (read_object m)) stands.takes;
   classifies = classifies;
 }
 

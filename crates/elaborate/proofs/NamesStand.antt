@@ -213,26 +213,30 @@ module _ (decl : Bor FlatDecl) (spine : Spine) (empty : arguments_of spine ≡ [
   declared_object family lent class value =
       let d = read_declaration decl.now in
       let begun = object_begins d.name (read_family family) d.value in
-      let is : declared_head d ≡ heads.ObjectHead begun.0 (read_family family) = ap (λ k. declared_head (record { name = d.name; class = read_class k; value = d.value })) class ∙ begun.1 in
-      (ap level_of is, record {
-        first = declared_head d;
-        begins = refl;
-        takes = none_taken (declared_head d) spine empty;
-        classifies = subst (Classifies (classifiers.Family lent)) (sym is) (ap read_family value);
-      })
+      let is : declared_head d ≡ heads.ObjectHead begun.0 (read_family family) = ap (λ k. declared_head (record { name = d.name; class = read_class k; value = d.value })) class ∙ begun.1 in (
+        ap level_of is,
+        record {
+          first = declared_head d;
+          begins = refl;
+          takes = none_taken (declared_head d) spine empty;
+          classifies = subst (Classifies (classifiers.Family lent)) (sym is) (ap read_family value);
+        },
+      )
 
   pub declared_family : (kind : code_kind.Kind) (lent : Lent code_kind.Kind) → decl.now.class ≡ classes.Kind kind → value_of lent ≡ kind
       → (level_of (declared_head (read_declaration decl.now)) ≡ Families) × Stands (record { start = starts.Constant decl; spine = spine; classifier = classifiers.Kind lent }) (declared_head (read_declaration decl.now))
   declared_family kind lent class value =
       let d = read_declaration decl.now in
       let begun = family_begins d.name (read_kind kind) d.value in
-      let is : declared_head d ≡ heads.FamilyHead begun.0 begun.1 (read_kind kind) = ap (λ k. declared_head (record { name = d.name; class = read_class k; value = d.value })) class ∙ begun.2 in
-      (ap level_of is, record {
-        first = declared_head d;
-        begins = refl;
-        takes = none_taken (declared_head d) spine empty;
-        classifies = subst (Classifies (classifiers.Kind lent)) (sym is) (ap read_kind value);
-      })
+      let is : declared_head d ≡ heads.FamilyHead begun.0 begun.1 (read_kind kind) = ap (λ k. declared_head (record { name = d.name; class = read_class k; value = d.value })) class ∙ begun.2 in (
+        ap level_of is,
+        record {
+          first = declared_head d;
+          begins = refl;
+          takes = none_taken (declared_head d) spine empty;
+          classifies = subst (Classifies (classifiers.Kind lent)) (sym is) (ap read_kind value);
+        },
+      )
 
 -- A variable begins as itself, at its raised family.
 raised_family : (locals : Locals) (i : ℕ) → family_at locals i ≡ option_map (raise_family (suc i) 0) (slice_get (context_of locals) i)

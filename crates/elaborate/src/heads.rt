@@ -161,19 +161,16 @@ impl<'a> Head<'a> {
 
     /// The object where one is wanted at a family: a name or an application stands at an atomic family alone, and there
     /// only where it has just this one.
-    pub(crate) fn object_at(
-        self,
-        alloc: Global,
-        span: Span,
-        family: &Fam,
-    ) -> Result<Obj, ElabFault>
+    pub(crate) fn object_at(self, alloc: Global, span: Span, family: &Fam) -> Result<Obj, ElabFault>
         ensures { (head : meant.Head) → Stands self.entry head → Expands read_object result (expansion.object_at (read_span span) (read_family family.now) head) }
     {
         if let Fam::Pi(_, _) = family {
             return Err(broken(span, Rule::NotCanonical));
         }
         match &self.classifier {
-            Classifier::Family(found) if same_fam(found.get(), family) => Ok(self.into_object(alloc)?),
+            Classifier::Family(found) if same_fam(found.get(), family) => Ok(self.into_object(
+                alloc,
+            )?),
             Classifier::Family(_) => Err(broken(span, Rule::Mismatch)),
             Classifier::Kind(_) => Err(broken(span, Rule::Level)),
         }
@@ -198,13 +195,7 @@ fn object_of(alloc: Global, decl: &FlatDecl, spine: Spine) -> Result<Obj, Memory
     ensures { IfOk result (λ m. (object : terms.Object) (family : terms.Family) → head_takes_all (declared_head (read_declaration decl.now)) (read_arguments spine) ≡ meant.ObjectHead object family → read_object m ≡ object) }
 {
     match &decl.value {
-        Some(value) => Ok(object_in_place(
-            alloc,
-            &decl.name,
-            &decl.class,
-            value,
-            spine,
-        )?),
+        Some(value) => Ok(object_in_place(alloc, &decl.name, &decl.class, value, spine)?),
         None => Ok(Obj::At {
             head: TermHead::Con(decl.name.copy(alloc)?),
             spine,
@@ -216,13 +207,7 @@ fn family_of(alloc: Global, decl: &FlatDecl, spine: Spine) -> Result<Fam, Memory
     ensures { IfOk result (λ a. (binders : ℕ) (family : terms.Family) (kind : terms.Kind) → head_takes_all (declared_head (read_declaration decl.now)) (read_arguments spine) ≡ meant.FamilyHead binders family kind → read_family a ≡ family) }
 {
     match &decl.value {
-        Some(value) => Ok(family_in_place(
-            alloc,
-            &decl.name,
-            &decl.class,
-            value,
-            spine,
-        )?),
+        Some(value) => Ok(family_in_place(alloc, &decl.name, &decl.class, value, spine)?),
         None => Ok(Fam::At {
             head: decl.name.copy(alloc)?,
             spine,

@@ -19,11 +19,7 @@ use std::alloc::Global;
 
 /// The kind that an expression stands for.
 #[cycle(kind_expansion)]
-pub(crate) fn kind(
-    alloc: Global,
-    context: &Context<'_>,
-    expr: &Expr,
-) -> Result<Kind, ElabFault>
+pub(crate) fn kind(alloc: Global, context: &Context<'_>, expr: &Expr) -> Result<Kind, ElabFault>
     ensures { Expands read_kind result (expand_kind (scope_of context.now) (locals_of context.now) (read_expr expr.now)) }
 {
     match &expr.node {
@@ -69,11 +65,7 @@ fn ends_in_type(expr: &Expr) -> bool
 }
 
 /// The class that an expression stands for: a kind where it ends in `type`, else a family.
-pub(crate) fn class(
-    alloc: Global,
-    context: &Context<'_>,
-    expr: &Expr,
-) -> Result<Class, ElabFault>
+pub(crate) fn class(alloc: Global, context: &Context<'_>, expr: &Expr) -> Result<Class, ElabFault>
     ensures { Expands read_class result (class_answer (scope_of context.now) (locals_of context.now) (read_expr expr.now)) }
 {
     if ends_in_type(expr) {

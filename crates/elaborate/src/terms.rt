@@ -36,7 +36,12 @@ pub(crate) fn object(
         Node::Lam { name, dom, body } => match family {
             Fam::Pi(domain, codomain) => {
                 written_domain(alloc, &*context, dom, domain)?;
-                let body = object(alloc, &(&*context).under(name_of(name), domain), body, codomain)?;
+                let body = object(
+                    alloc,
+                    &(&*context).under(name_of(name), domain),
+                    body,
+                    codomain,
+                )?;
                 Ok(Obj::Lam(Box::new(alloc, body)?))
             }
             Fam::At { .. } => Err(broken(expr.span, Rule::Mismatch)),
@@ -93,7 +98,10 @@ pub(crate) fn head<'a>(
 {
     match &expr.node {
         Node::Name(path) => context.name_head(alloc, expr.span, path, level),
-        Node::App { head: function, args } => {
+        Node::App {
+            head: function,
+            args,
+        } => {
             let first = head(alloc, context, function, level)?;
             with_arguments(alloc, &*context, first, args.as_slice())
         }
@@ -141,11 +149,7 @@ fn with_argument<'a>(
 
 /// The family that an expression stands for.
 #[cycle(expansion)]
-pub(crate) fn family(
-    alloc: Global,
-    context: &Context<'_>,
-    expr: &Expr,
-) -> Result<Fam, ElabFault>
+pub(crate) fn family(alloc: Global, context: &Context<'_>, expr: &Expr) -> Result<Fam, ElabFault>
     ensures { Expands read_family result (expand_family (scope_of context.now) (locals_of context.now) (read_expr expr.now)) }
 {
     match &expr.node {
@@ -161,11 +165,7 @@ pub(crate) fn family(
 
 /// The family that a name or an application stands for.
 #[cycle(expansion)]
-fn applied_family(
-    alloc: Global,
-    context: &Context<'_>,
-    expr: &Expr,
-) -> Result<Fam, ElabFault>
+fn applied_family(alloc: Global, context: &Context<'_>, expr: &Expr) -> Result<Fam, ElabFault>
     ensures { Expands read_family result (applied_family_answer (scope_of context.now) (locals_of context.now) (read_span expr.now.span) (read_expr expr.now)) }
 {
     let head = head(alloc, &*context, expr, Level::Families)?;

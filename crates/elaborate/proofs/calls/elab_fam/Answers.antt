@@ -13,9 +13,9 @@ use Rattle.elaborate.proofs.calls.elab_fam.Goals as goal
 pub returns-clause-stands : goal.returns-clause-stands
 returns-clause-stands c =
     stands_by read_family (StandsFamily (read_scope c.args.scope.now) (read_locals c.args.vars.now) (read_expr c.args.expr.now)) (expand_family (read_scope c.args.scope.now) (read_locals c.args.vars.now) (read_expr c.args.expr.now)) (family_sound (read_expr c.args.expr.now) (read_scope c.args.scope.now) (read_locals c.args.vars.now)) c.family.result
-      (subst (Expands read_family c.family.result) (ap₂ (λ s l. expand_family s l (read_expr c.args.expr.now)) c.in_ok-new.ensures.scope c.in_ok-new.ensures.locals) c.family.ensures)
+    (subst (Expands read_family c.family.result) (ap₂ (λ s l. expand_family s l (read_expr c.args.expr.now)) c.in_ok-new.ensures.scope c.in_ok-new.ensures.locals) c.family.ensures)
 
 pub returns-clause-only : goal.returns-clause-only
 returns-clause-only c =
     only_by read_family (StandsFamily (read_scope c.args.scope.now) (read_locals c.args.vars.now) (read_expr c.args.expr.now)) (expand_family (read_scope c.args.scope.now) (read_locals c.args.vars.now) (read_expr c.args.expr.now)) (family_complete (read_expr c.args.expr.now) (read_scope c.args.scope.now) (read_locals c.args.vars.now)) c.family.result
-      (subst (Expands read_family c.family.result) (ap₂ (λ s l. expand_family s l (read_expr c.args.expr.now)) c.in_ok-new.ensures.scope c.in_ok-new.ensures.locals) c.family.ensures)
+    (subst (Expands read_family c.family.result) (ap₂ (λ s l. expand_family s l (read_expr c.args.expr.now)) c.in_ok-new.ensures.scope c.in_ok-new.ensures.locals) c.family.ensures)

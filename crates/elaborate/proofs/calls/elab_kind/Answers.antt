@@ -13,9 +13,9 @@ use Rattle.elaborate.proofs.calls.elab_kind.Goals as goal
 pub returns-clause-stands : goal.returns-clause-stands
 returns-clause-stands c =
     stands_by read_kind (StandsKind (read_scope c.args.scope.now) (read_locals c.args.vars.now) (read_expr c.args.expr.now)) (expand_kind (read_scope c.args.scope.now) (read_locals c.args.vars.now) (read_expr c.args.expr.now)) (kind_sound (read_expr c.args.expr.now) (read_scope c.args.scope.now) (read_locals c.args.vars.now)) c.kind.result
-      (subst (Expands read_kind c.kind.result) (ap₂ (λ s l. expand_kind s l (read_expr c.args.expr.now)) c.in_ok-new.ensures.scope c.in_ok-new.ensures.locals) c.kind.ensures)
+    (subst (Expands read_kind c.kind.result) (ap₂ (λ s l. expand_kind s l (read_expr c.args.expr.now)) c.in_ok-new.ensures.scope c.in_ok-new.ensures.locals) c.kind.ensures)
 
 pub returns-clause-only : goal.returns-clause-only
 returns-clause-only c =
     only_by read_kind (StandsKind (read_scope c.args.scope.now) (read_locals c.args.vars.now) (read_expr c.args.expr.now)) (expand_kind (read_scope c.args.scope.now) (read_locals c.args.vars.now) (read_expr c.args.expr.now)) (kind_complete (read_expr c.args.expr.now) (read_scope c.args.scope.now) (read_locals c.args.vars.now)) c.kind.result
-      (subst (Expands read_kind c.kind.result) (ap₂ (λ s l. expand_kind s l (read_expr c.args.expr.now)) c.in_ok-new.ensures.scope c.in_ok-new.ensures.locals) c.kind.ensures)
+    (subst (Expands read_kind c.kind.result) (ap₂ (λ s l. expand_kind s l (read_expr c.args.expr.now)) c.in_ok-new.ensures.scope c.in_ok-new.ensures.locals) c.kind.ensures)

@@ -13,9 +13,9 @@ use Rattle.elaborate.proofs.calls.elab_obj.Goals as goal
 pub returns-clause-stands : goal.returns-clause-stands
 returns-clause-stands c =
     stands_by read_object (StandsObject (read_scope c.args.scope.now) (read_locals c.args.vars.now) (read_expr c.args.expr.now) (read_family c.args.fam.now)) (expand_object (read_scope c.args.scope.now) (read_locals c.args.vars.now) (read_expr c.args.expr.now) (read_family c.args.fam.now)) (object_sound (read_expr c.args.expr.now) (read_scope c.args.scope.now) (read_locals c.args.vars.now) (read_family c.args.fam.now)) c.object.result
-      (subst (Expands read_object c.object.result) (ap₂ (λ s l. expand_object s l (read_expr c.args.expr.now) (read_family c.args.fam.now)) c.in_ok-new.ensures.scope c.in_ok-new.ensures.locals) c.object.ensures)
+    (subst (Expands read_object c.object.result) (ap₂ (λ s l. expand_object s l (read_expr c.args.expr.now) (read_family c.args.fam.now)) c.in_ok-new.ensures.scope c.in_ok-new.ensures.locals) c.object.ensures)
 
 pub returns-clause-only : goal.returns-clause-only
 returns-clause-only c =
     only_by read_object (StandsObject (read_scope c.args.scope.now) (read_locals c.args.vars.now) (read_expr c.args.expr.now) (read_family c.args.fam.now)) (expand_object (read_scope c.args.scope.now) (read_locals c.args.vars.now) (read_expr c.args.expr.now) (read_family c.args.fam.now)) (object_complete (read_expr c.args.expr.now) (read_scope c.args.scope.now) (read_locals c.args.vars.now) (read_family c.args.fam.now)) c.object.result
-      (subst (Expands read_object c.object.result) (ap₂ (λ s l. expand_object s l (read_expr c.args.expr.now) (read_family c.args.fam.now)) c.in_ok-new.ensures.scope c.in_ok-new.ensures.locals) c.object.ensures)
+    (subst (Expands read_object c.object.result) (ap₂ (λ s l. expand_object s l (read_expr c.args.expr.now) (read_family c.args.fam.now)) c.in_ok-new.ensures.scope c.in_ok-new.ensures.locals) c.object.ensures)

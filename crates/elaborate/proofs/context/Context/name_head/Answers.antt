@@ -14,9 +14,9 @@ returns-in_err-index c =
 pub returns-in-Var : goal.returns-in-Var
 returns-in-Var c =
     resolved_begins (read_level c.args.level) (scope_of c.args.self.now) (locals_of c.args.self.now) (read_span c.args.span) c.args.written.now _ c.variable_head.result
-      (c.in_ok-index.ensures ∙ ap (λ f. Ok (read_found f)) c.in-Var.is) c.variable_head.ensures
+    (c.in_ok-index.ensures ∙ ap (λ f. Ok (read_found f)) c.in-Var.is) c.variable_head.ensures
 
 pub returns-in-Decl : goal.returns-in-Decl
 returns-in-Decl c =
     resolved_begins (read_level c.args.level) (scope_of c.args.self.now) (locals_of c.args.self.now) (read_span c.args.span) c.args.written.now _ c.declared_head.result
-      (c.in_ok-index.ensures ∙ ap (λ f. Ok (read_found f)) c.in-Decl.is) c.declared_head.ensures
+    (c.in_ok-index.ensures ∙ ap (λ f. Ok (read_found f)) c.in-Decl.is) c.declared_head.ensures
