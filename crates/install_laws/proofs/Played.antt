@@ -1,12 +1,12 @@
 -- What is told of a script is backed by the history of its session.
-use Rattle.std.proofs.Common.{◌≡◌, ℕ, ◌-◌, ◌<◌, ◌≤◌, Bool, true, false, cond, List, [], ◌∷◌, ◌++◌, length, map, slice_get, nat_eq, Option, Some, None, ◌⊎◌, inl, inr, ⊎_elim, refl, sym, ap, ◌∙◌, subst, true≢false, arith, eqb-true, append-nil, append_assoc, length-append}
+use Rattle.std.proofs.Common.{◌≡◌, ℕ, ◌-◌, ◌<◌, ◌≤◌, Bool, true, false, cond, List, [], ◌∷◌, ◌++◌, length, nat_eq, Some, None, inl, inr, ⊎_elim, refl, sym, ap, ◌∙◌, subst, arith, append-nil, append_assoc, length-append}
 use Rattle.std.proofs.lemmas.Option.{same_Some}
 use Rattle.std.proofs.lemmas.Bool.Decides.{nat_tests}
 use Rattle.name_meaning.specs.Names.{Name}
 use Rattle.list_laws.proofs.Members.{Member, in_append, append_left, in_map, in_filter_map, member_place, place_member}
 use Rattle.log_meaning.specs.Log.{Log, names_of, library_of, version_of}
 use Rattle.walk_meaning.specs.Walks.{Dependencies, is_grounded}
-use Rattle.board_meaning.specs.Events.{History, log_of, version_after}
+use Rattle.board_meaning.specs.Events.{History, version_after}
 use Rattle.board_meaning.specs.Standing.{IsBacked}
 use Rattle.board_laws.proofs.Backing.{standing_backed, stays_backed}
 use Rattle.run_meaning.specs.ScriptCommands.{Command, EditCommand, ReportCommand, CheckCommand, FlatCommand, CarryCommand, LogCommand, BlankCommand}
@@ -15,8 +15,8 @@ use Rattle.run_meaning.specs.ScriptOutput.{report_part, command_parts, command_t
 use Rattle.run_meaning.specs.ScriptLogs.{commands_of, log_through, told_from, told_within, script_told, told_by}
 use Rattle.run_meaning.specs.Judging.{Judging}
 use Rattle.run_meaning.specs.Parts.{Telling, Part, telling_of}
-use Rattle.run_meaning.specs.Backing.{AreBacked, BacksScript}
-use Rattle.run_laws.specs.RunLaws.{spoken_text, IsToldWithin}
+use Rattle.run_meaning.specs.Backing.{AreBacked}
+use Rattle.run_laws.specs.RunLaws.{spoken_text}
 use Rattle.run_laws.proofs.Logs.{beginnings_tell}
 use Rattle.install_laws.specs.ScriptBacking.{StandsAt, PlayedIsBacked, WholeIsBacked, FewerAreBacked, LaterBacksScript}
 use Rattle.install_laws.proofs.Tellings.{stay_backed}
