@@ -1,5 +1,5 @@
 -- Which verdicts stand in a legal history, before and after one more entry.
-use Rattle.std.proofs.Common.{◌≡◌, ℕ, zero, suc, ◌<◌, Bool, true, false, not, List, [], ◌∷◌, ◌++◌, length, take, drop, slice_get, filter_map, Option, Some, None, is_some, ◌||◌, ◌&&◌, ⊎_elim, refl, sym, ap, ◌∙◌, subst, true≢false, Decides}
+use Rattle.std.proofs.Common.{◌≡◌, ℕ, zero, suc, ◌<◌, Bool, true, false, not, List, [], ◌∷◌, ◌++◌, length, take, drop, slice_get, filter_map, Option, Some, is_some, ◌||◌, ◌&&◌, ⊎_elim, refl, sym, ap, ◌∙◌, subst, true≢false, Decides}
 use Rattle.std.specs.List.{list_any}
 use Rattle.std.proofs.lemmas.Bool.{and_parts, and_from, not_from_false}
 use Rattle.name_meaning.specs.Names.{Name}

@@ -1,13 +1,13 @@
 -- Maps that agree on the constants of a signature translate what is typed over it alike.
-use Rattle.std.proofs.Common.{◌≡◌, ℕ, zero, suc, [], ◌∷◌, Some, refl, ap, ap₂}
-use Rattle.lf_meaning.specs.Terms.{Constant, Object, Lam, At, Atomic, Var, Con, App, Family, Pi, AtFamily, AtomicFamily, FamilyCon, FamilyApp, Kind, Ty, PiKind, Context, with_domains}
+use Rattle.std.proofs.Common.{◌≡◌, ℕ, zero, suc, [], ◌∷◌, refl, ap, ap₂}
+use Rattle.lf_meaning.specs.Terms.{Object, Lam, At, Atomic, Var, Con, App, Family, Pi, AtFamily, AtomicFamily, FamilyCon, FamilyApp, Kind, Ty, PiKind, Context, with_domains}
 use Rattle.lf_meaning.specs.Erasure.{erase, erase_context}
 use Rattle.lf_meaning.specs.Replacement.{object_of, takes, replace, replace_head, of_constants}
-use Rattle.lf_meaning.specs.Signatures.{Class, FamilyClass, KindClass, Value, SameAs, TermValue, FamilyValue, Signature, class_of}
+use Rattle.lf_meaning.specs.Signatures.{Class, FamilyClass, KindClass, Value, SameAs, TermValue, FamilyValue, Signature}
 use Rattle.lf_meaning.specs.Judgements.{Checks, IsFamily, IsKind, IsContext, IsClass, Fits}
 use Rattle.lf_typing.proofs.Typed.{checks_sort}
 use Rattle.translation_meaning.specs.Heads.{head_takes}
-use Rattle.lf_meaning.specs.HeadMaps.{HeadMap, image_of}
+use Rattle.lf_meaning.specs.HeadMaps.{HeadMap}
 use Rattle.translation_meaning.specs.Translation.{headed_image, family_head_image, family_of, translate_object, translate_head, translate_family, translate_kind, translate_class, translate_value, object_value, family_value, same_image}
 use Rattle.translation_typing.specs.TypedTranslation.{translate_context}
 use Rattle.translation_sort_laws.proofs.Kinded.{family_kinded, kind_kinded}

@@ -1,16 +1,16 @@
 -- Walks of graphs, and of libraries whose dependencies a graph holds.
-use Rattle.std.proofs.Common.{◌≡◌, ℕ, zero, suc, Bool, true, false, not, cond, List, [], ◌∷◌, length, map, filter, flat_map, unwrap_or, Option, Some, None, is_some, ◌&&◌, ◌⊎◌, inl, inr, ⊎_elim, refl, sym, ap, ◌∙◌, subst, true≢false}
+use Rattle.std.proofs.Common.{◌≡◌, ℕ, zero, suc, Bool, true, false, not, cond, List, [], ◌∷◌, length, filter, flat_map, unwrap_or, Option, Some, None, is_some, ◌&&◌, ◌⊎◌, inl, inr, refl, sym, ap, ◌∙◌, true≢false}
 use Rattle.std.specs.List.{list_any}
 use Rattle.std.proofs.lemmas.Bool.{cases_Bool, and_from, and_parts, not_from_false}
 use Rattle.name_meaning.specs.Names.{Name, Text, same_name, is_among, with_name, with_names}
-use Rattle.name_meaning.specs.Rows.{Rows, row_names, row_of, with_row, without_row}
-use Rattle.log_meaning.specs.Log.{Library, Module, Edit, Put, Drop, edited_name, edited, names_of, with_module, without_module, text_of, is_present}
+use Rattle.name_meaning.specs.Rows.{row_names, row_of, without_row}
+use Rattle.log_meaning.specs.Log.{Library, Module, Edit, Put, Drop, edited, names_of, without_module, text_of, is_present}
 use Rattle.walk_meaning.specs.Walks.{Dependencies, of_text, direct, walking, ungrounded_names, is_ungrounded, is_grounded}
-use Rattle.walk_meaning.specs.Reach.{widened, reach_within, reach}
+use Rattle.walk_meaning.specs.Reach.{reach_within, reach}
 use Rattle.walk_meaning.specs.Graphs.{Graph, row_dependencies, row_library, graph_reach, is_graph_ungrounded, graph_grounded, HoldsDependencies}
 use Rattle.walk_laws.specs.GraphLaws.{graph_edited}
 use Rattle.list_laws.proofs.Members.{Member}
-use Rattle.name_laws.proofs.Order.{among_member, member_among, same_sound}
+use Rattle.name_laws.proofs.Order.{among_member, same_sound}
 use Rattle.name_laws.proofs.Rows.{row_with, row_without, row_among, names_with_row}
 use Rattle.log_laws.proofs.Libraries.{present_among, text_edited, names_with}
 use Rattle.walk_laws.proofs.Agreement.{direct_same}

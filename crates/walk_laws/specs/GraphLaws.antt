@@ -1,8 +1,8 @@
 -- Laws of graphs that hold the dependencies of a library (this profile).
-use Rattle.std.specs.Prelude.{◌≡◌, [], ◌∷◌, ◌++◌, List, filter}
+use Rattle.std.specs.Prelude.{◌≡◌, [], filter}
 use Rattle.name_meaning.specs.Names.{Name}
 use Rattle.name_meaning.specs.Rows.{with_row, without_row}
-use Rattle.log_meaning.specs.Log.{Library, Edit, Put, Drop, IsLibrary, names_of, edited}
+use Rattle.log_meaning.specs.Log.{Library, Edit, Put, Drop, names_of, edited}
 use Rattle.walk_meaning.specs.Walks.{Dependencies, is_ungrounded, is_grounded}
 use Rattle.walk_meaning.specs.Reach.{reach}
 use Rattle.walk_meaning.specs.Graphs.{Graph, HoldsDependencies, graph_reach, is_graph_ungrounded, graph_grounded}
