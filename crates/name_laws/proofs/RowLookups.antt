@@ -1,10 +1,11 @@
 -- Look-up in rows in any order: by the test of a table, in rows that are read off others, and in rows with one more.
-use Rattle.std.proofs.Common.{◌≡◌, Bool, true, false, cond, List, [], ◌∷◌, ◌++◌, map, Option, Some, None, refl, ap}
+use Rattle.std.proofs.Common.{◌≡◌, Bool, true, false, cond, List, [], ◌∷◌, ◌++◌, map, Option, Some, None, ◌||◌, refl, sym, ap}
 use Rattle.std.specs.Prelude.{option_map}
 use Rattle.std.specs.Map.{lookup}
-use Rattle.name_meaning.specs.Names.{Name, same_name}
+use Rattle.name_meaning.specs.Names.{Name, same_name, is_among}
 use Rattle.name_meaning.specs.Rows.{Rows, row_of}
 use Rattle.list_laws.proofs.Options.{mapped_by}
+use Rattle.name_laws.proofs.Order.{same_sound}
 use Rattle.name_laws.proofs.Rows.{other_branch, not_both}
 
 module _ {A : Type 0} where
@@ -31,3 +32,14 @@ pub row_mapped : {A B : Type 0} (f : A → B) (rows : Rows A) (n : Name) → row
 unfolding row_of
 row_mapped f [] n = refl
 row_mapped {A} {B} f (row ∷ rows) n = mapped_by f (same_name n row.0) row.1 (row_of rows n) (row_of (map (λ (row : Name × A). (row.0, f row.1)) rows) n) (row_mapped f rows n)
+
+-- the row of a name among rows that are made of names
+pub row_made : {A : Type 0} (made : Name → A) (names : List Name) (n : Name) → row_of (map (λ (m : Name). (m, made m)) names) n ≡ cond (is_among names n) (Some (made n)) None
+unfolding row_of is_among
+row_made made [] n = refl
+row_made {A} made (m ∷ names) n = by (same_name n m) refl (row_made made names n)
+  where
+    by : (b : Bool) → same_name n m ≡ b → row_of (map (λ (k : Name). (k, made k)) names) n ≡ cond (is_among names n) (Some (made n)) None
+        → cond b (Some (made m)) (row_of (map (λ (k : Name). (k, made k)) names) n) ≡ cond (b || is_among names n) (Some (made n)) None
+    by true e rest = ap (λ k. Some (made k)) (sym (same_sound n m e))
+    by false e rest = rest
