@@ -4,3 +4,4 @@ pub mod Computed
 pub mod ComputedWords
 pub mod Resolving
 pub mod KnownRows
+pub mod OwnConstants
