@@ -1,0 +1,100 @@
+//! Faces and names that tests read from texts.
+
+use include_closure::add;
+use lf_terms::{Arc, Name, Names, Path, Sequence};
+use mmt_interface::{Faces, Interface, TheoryFace, Verdict};
+use std::alloc::Global;
+use std::test::Fail;
+use test_texts::signature;
+
+/// The names of a text, with spaces between them.
+pub fn names(alloc: Global, text: &str) -> Result<Names, Fail> {
+    let mut names = Names::new(alloc);
+    for word in text.split_whitespace() {
+        names.add(Name::new(alloc, word)?)?;
+    }
+    Ok(names)
+}
+
+/// The path of a text, with dots between its names.
+pub fn path(alloc: Global, text: &str) -> Result<Path, Fail> {
+    match text.split_once('.') {
+        None => Ok(Path::new(alloc, Name::new(alloc, text)?)?),
+        Some((first, second)) => {
+            let mut path = Path::new(alloc, Name::new(alloc, first)?)?;
+            path.push(Name::new(alloc, second)?)?;
+            Ok(path)
+        }
+    }
+}
+
+/// The closure of these inclusions, in their order.
+pub fn closure(alloc: Global, faces: &Faces, inclusions: &str) -> Result<Names, Fail> {
+    let mut includes = Names::new(alloc);
+    for word in inclusions.split_whitespace() {
+        let theory = Name::new(alloc, word)?;
+        add(alloc, faces, &mut includes, &theory)?;
+    }
+    Ok(includes)
+}
+
+/// Accepts a theory that includes these, with these own constants.
+pub fn accept(
+    alloc: Global,
+    faces: &mut Faces,
+    name: &str,
+    inclusions: &str,
+    own: &str,
+) -> Result<(), Fail> {
+    let includes = closure(alloc, faces, inclusions)?;
+    let own = signature(alloc, own)?;
+    let face_name = Name::new(alloc, name)?;
+    let name = Name::new(alloc, name)?;
+    let face = TheoryFace {
+        name: face_name,
+        own: Box::into_inner(own),
+        includes,
+        structs: Sequence::new(alloc),
+    };
+    accept_face(alloc, faces, name, Box::new(alloc, face)?)
+}
+
+fn accept_face(
+    alloc: Global,
+    faces: &mut Faces,
+    name: Name,
+    face: Box<TheoryFace>,
+) -> Result<(), Fail> {
+    let face = Box::into_inner(face);
+    let interface = Box::new(alloc, Interface::Theory { face, size: 0 })?;
+    let verdict = Verdict::Accepted(Arc::new(alloc, Box::into_inner(interface))?);
+    match faces.push(name, verdict) {
+        Ok(()) => Ok(()),
+        Err(fault) => {
+            drop(fault);
+            Err("not pushed".into())
+        }
+    }
+}
+
+/// The diamond: B and C include A, and D both of them. Two of them have a constant `k`.
+pub fn diamond(alloc: Global) -> Result<Faces, Fail> {
+    let mut faces = Faces::new(alloc);
+    accept(alloc, &mut faces, "A", "", "A.a : type")?;
+    accept(alloc, &mut faces, "B", "A", "B.k : type\nB.b : type")?;
+    accept(alloc, &mut faces, "C", "A", "C.k : type\nC.A.a : type")?;
+    accept(alloc, &mut faces, "D", "B C", "D.d : type\nD.B.b : type")?;
+    Ok(faces)
+}
+
+/// Whether the names are those of the text.
+pub fn are(names: &Names, text: &str) -> bool {
+    let mut count = 0usize;
+    for (i, word) in text.split_whitespace().enumerate() {
+        if !names.get(i).is_some_and(|name| name.as_str() == word) {
+            return false;
+        }
+        count = i;
+    }
+    names.len() == 0 || names.len() - 1 == count
+}
