@@ -17,7 +17,15 @@ use Rattle.verdict_board.proofs.Edits.{grounded_among, ungrounded_listed}
 use Rattle.walk_laws.proofs.Walking.{in_present, walking_present, ungrounded_in}
 use Rattle.edit_log.specs.declared.edit.Edit as code
 use Rattle.edit_log.specs.declared.edit.Edit.TheVariants.{Put, Drop}
-use Rattle.edit_log.specs.Readings.{read_edit}
+use Rattle.edit_log.specs.Readings.{read_edit, read_edited}
+use Rattle.edit_log.specs.declared.answers.Edited as code_answers
+use Rattle.edit_log.specs.declared.answers.Edited.TheVariants.{Made, Same, Absent}
+use Rattle.log_meaning.specs.Append as answers
+use Rattle.log_meaning.specs.Append.{append_answer, appended, log_after}
+use Rattle.log_laws.proofs.Limits.{made_not_full}
+use Rattle.board_meaning.specs.Events.{History}
+use Rattle.board_meaning.specs.Machine.{EditCall, edit_reply, edit_event, event_of, after_call}
+use Rattle.verdict_board.proofs.Calls.{not_called}
 
 pub if_ok : {A E : Type 0} (P Q : A → Type 0) (r : Result A E) → ((x : A) → P x → Q x) → IfOk r P → IfOk r Q
 if_ok P Q (Ok x) f h = f x h
@@ -89,3 +97,19 @@ module _ (graph : Graph) (D : Dependencies) (L : Library) (holds : HoldsDependen
 
   pub bad_listed : (bad : List Name) → bad ≡ filter (λ (n : Name). not (is_among known n)) (row_names graph) → bad ≡ ungrounded_names D L
   bad_listed bad b = b ∙ ap (λ (names : List Name). filter (λ (n : Name). not (is_among names n)) (row_names graph)) e ∙ ungrounded_listed graph D L holds t
+
+-- ---- the answer to an edit
+
+module _ (D : Dependencies) (H : History) (pass : ℕ) (e : logs.Edit) where
+  pub unmade_after : (answer : code_answers.Edited) → ((v : ℕ) → answer ≡ Made v → ⊥) → edit_reply H e ≡ read_edited answer → H ≡ after_call D H pass (EditCall e)
+  unfolding event_of
+  unmade_after (Made v) n h = absurd (n v refl)
+  unmade_after (Same v) n h = sym (not_called D H pass (EditCall e) (ap (edit_event e) h))
+  unmade_after (Absent v) n h = sym (not_called D H pass (EditCall e) (ap (edit_event e) h))
+
+pub appended_made : (log : logs.Log) (e : logs.Edit) (v : ℕ) → append_answer log e ≡ answers.Made v → appended log e ≡ log ++ e ∷ []
+unfolding appended
+appended_made log e v h = ap (log_after log e) h
+
+pub made_version : (log : logs.Log) (e : logs.Edit) (v : ℕ) → append_answer log e ≡ answers.Made v → v ≡ suc (length log)
+made_version log e v h = (made_not_full log e v h).1

@@ -47,7 +47,10 @@ impl<S: Subject> Board<S> {
         let graph = self.graph_after(alloc, &edit)?;
         let stages = self.stages_after(alloc, &edit, &graph)?;
         let event = event_of(alloc, &edit)?;
-        let _ = self.log.append(alloc, edit)?;
+        match self.log.append(alloc, edit) {
+            Ok(_) => {}
+            Err(fault) => return Err(fault),
+        }
         self.graph = graph;
         self.stages = stages;
         self.history = noted(&self.history, pass, version, event);
