@@ -96,7 +96,7 @@ module _ (H : History) (e : Entry) where
   none_more : claimed_name e.event ≡ None → length (open_claims (H ++ e ∷ [])) ≡ length (filter (is_open (H ++ e ∷ [])) (claims_from 0 H))
   none_more h =
       let z : length (filter (is_open (H ++ e ∷ [])) (cons_option (option_map (λ (name : Name). 0 + length H) (claimed_name e.event)) [])) ≡ 0 =
-          ap (λ (o : Option Name). length (filter (is_open (H ++ e ∷ [])) (cons_option (option_map (λ (name : Name). 0 + length H) o) []))) h in
+      ap (λ (o : Option Name). length (filter (is_open (H ++ e ∷ [])) (cons_option (option_map (λ (name : Name). 0 + length H) o) []))) h in
       omega (arith, parts, z)
 
   pub opened_more : length (open_claims (H ++ e ∷ [])) ≤ length (open_claims H) + 1

@@ -12,15 +12,15 @@ use Rattle.verdict_board.proofs.board.Board.answers_among.Goals as goal
 pub answer_of-requires-after_bounds : goal.answer_of-requires-after_bounds
 answer_of-requires-after_bounds g c κs b =
     let here : slice_get c.args.reached.now c.loop-other.other-index ≡ Some c.other-item.result =
-        subst (λ (xs : List Name). slice_get xs c.loop-other.other-index ≡ Some c.other-item.result) c.as_slice-other-items.ensures
-        (slice_get-get_or c.as_slice-other-items.result.now c.loop-other.other-index c.other-item.result c.loop-other-test.true ∙ ap Some (sym c.other-item.is)) in
+    subst (λ (xs : List Name). slice_get xs c.loop-other.other-index ≡ Some c.other-item.result) c.as_slice-other-items.ensures
+    (slice_get-get_or c.as_slice-other-items.result.now c.loop-other.other-index c.other-item.result c.loop-other-test.true ∙ ap Some (sym c.other-item.is)) in
     c.requires.known c.other-item.result (place_member c.args.reached.now c.loop-other.other-index c.other-item.result here) (sym c.eq.ensures ∙ c.if-eq.false)
 
 pub push-requires : goal.push-requires
 push-requires g c =
     let here : slice_get c.args.reached.now c.loop-other.other-index ≡ Some c.other-item.result =
-        subst (λ (xs : List Name). slice_get xs c.loop-other.other-index ≡ Some c.other-item.result) c.as_slice-other-items.ensures
-        (slice_get-get_or c.as_slice-other-items.result.now c.loop-other.other-index c.other-item.result c.loop-other-test.true ∙ ap Some (sym c.other-item.is)) in
+    subst (λ (xs : List Name). slice_get xs c.loop-other.other-index ≡ Some c.other-item.result) c.as_slice-other-items.ensures
+    (slice_get-get_or c.as_slice-other-items.result.now c.loop-other.other-index c.other-item.result c.loop-other-test.true ∙ ap Some (sym c.other-item.is)) in
     let f = present_answer g.S.Subject.subject (library_after c.args.self.now) in
     let p = λ (other : Name). not (same_name c.args.name.now other) in
     rw c.in_ok-copy.ensures (answers_table g.S.Subject.meaning f p c.args.reached.now (suc c.loop-other.other-index) _
@@ -30,8 +30,8 @@ push-requires g c =
 pub loop-other-preserved : goal.loop-other-preserved
 loop-other-preserved g c =
     let here : slice_get c.args.reached.now c.loop-other.other-index ≡ Some c.other-item.result =
-        subst (λ (xs : List Name). slice_get xs c.loop-other.other-index ≡ Some c.other-item.result) c.as_slice-other-items.ensures
-        (slice_get-get_or c.as_slice-other-items.result.now c.loop-other.other-index c.other-item.result c.loop-other-test.true ∙ ap Some (sym c.other-item.is)) in
+    subst (λ (xs : List Name). slice_get xs c.loop-other.other-index ≡ Some c.other-item.result) c.as_slice-other-items.ensures
+    (slice_get-get_or c.as_slice-other-items.result.now c.loop-other.other-index c.other-item.result c.loop-other-test.true ∙ ap Some (sym c.other-item.is)) in
     let f = present_answer g.S.Subject.subject (library_after c.args.self.now) in
     let p = λ (other : Name). not (same_name c.args.name.now other) in
     let one : c.loop-other.other-index + 1 ≡ suc c.loop-other.other-index = omega arith in

@@ -45,7 +45,7 @@ invariant_of-self-2 g c =
     let reply : append_answer (log_of c.self.inside.history.entries) e ≡ Made c.in-Made.version = ap (λ log. append_answer log e) (sym c.self.invariant.logged) ∙ made in
     let v : c.in-Made.version ≡ suc (version_after c.self.inside.history.entries) = made_version (log_of c.self.inside.history.entries) e c.in-Made.version reply in
     let stages = subst (λ (z : History). AreStages g.S.Subject.subject g.S.Subject.meaning z c.in_ok-stages.stages)
-        (λ i. c.self.inside.history.entries ++ entry (sym c.requires i) (sym v i) (EditMade e) ∷ []) (rw c.self.view_is c.in_ok-stages.ensures) in
+    (λ i. c.self.inside.history.entries ++ entry (sym c.requires i) (sym v i) (EditMade e) ∷ []) (rw c.self.view_is c.in_ok-stages.ensures) in
     let holds : HoldsDependencies c.in_ok-graph.graph g.S.Subject.subject.dependencies (edited (library_after c.self.inside.history.entries) e) = rw c.self.view_is c.in_ok-graph.ensures in
     let few = c.if-self-ge-MOST.false in
     let less = c.if-self-ge-MOST-2.false in

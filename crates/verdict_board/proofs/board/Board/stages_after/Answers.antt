@@ -68,10 +68,10 @@ pub loop-place-preserved : goal.loop-place-preserved
 loop-place-preserved g c =
     let one : c.loop-place.place + 1 ≡ suc c.loop-place.place = omega arith in
     let new : IsStage g.S.Subject.subject g.S.Subject.meaning (after_edit_of c.args.self.now (read_edit c.args.edit.now)) c.name_at-name.result.now c.if-contains.stage =
-        elim c.if-contains.branch [
-          | then-contains+in_ok-stage w ↦ subst (IsStage g.S.Subject.subject g.S.Subject.meaning (after_edit_of c.args.self.now (read_edit c.args.edit.now)) c.name_at-name.result.now) (sym w.stage-is) w.in_ok-stage.ensures
-          | else-contains+in_ok-stage-2 w ↦ subst (IsStage g.S.Subject.subject g.S.Subject.meaning (after_edit_of c.args.self.now (read_edit c.args.edit.now)) c.name_at-name.result.now) (sym w.stage-is) w.in_ok-stage-2.ensures
-        ] in
+    elim c.if-contains.branch [
+      | then-contains+in_ok-stage w ↦ subst (IsStage g.S.Subject.subject g.S.Subject.meaning (after_edit_of c.args.self.now (read_edit c.args.edit.now)) c.name_at-name.result.now) (sym w.stage-is) w.in_ok-stage.ensures
+      | else-contains+in_ok-stage-2 w ↦ subst (IsStage g.S.Subject.subject g.S.Subject.meaning (after_edit_of c.args.self.now (read_edit c.args.edit.now)) c.name_at-name.result.now) (sym w.stage-is) w.in_ok-stage-2.ensures
+    ] in
     rw (one, c.in-Ok.ensures.ok, c.in_ok-copy.ensures) (record {
       names = names_more c.loop-place.stages (row_names c.args.graph.now) c.loop-place.place c.name_at-name.result.now c.if-contains.stage c.loop-place.invariant.names c.name_at-name.ensures;
       staged = λ name stage at. ⊎_elim (λ before. c.loop-place.invariant.staged name stage before)
