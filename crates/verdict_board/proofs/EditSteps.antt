@@ -1,11 +1,11 @@
 -- The steps of an edit, in the words of its calls.
-use Rattle.std.proofs.Common.{◌≡◌, ℕ, zero, suc, ◌+◌, ◌<◌, ◌≤◌, Bool, true, false, not, List, [], ◌∷◌, ◌++◌, length, take, filter, slice_get, Option, Some, None, is_some, cond, Result, Ok, Err, IfOk, ◌⊎◌, inl, inr, ⊎_elim, refl, sym, ap, ◌∙◌, subst, true≢false, arith, append-nil, ◌&&◌}
+use Rattle.std.proofs.Common.{◌≡◌, ℕ, suc, Bool, true, false, not, List, [], ◌∷◌, ◌++◌, length, take, filter, slice_get, Some, None, cond, Result, Ok, Err, IfOk, ◌⊎◌, inl, inr, refl, sym, ap, ◌∙◌, subst, true≢false, append-nil, ◌&&◌}
 use Rattle.std.proofs.lemmas.List.{map-append}
 use Rattle.name_meaning.specs.Names.{Name, Text, same_name, is_among, is_ascending}
 use Rattle.name_meaning.specs.Rows.{Rows, row_names, row_of, with_row, without_row, IsTable}
 use Rattle.name_laws.proofs.Order.{same_sound, ascending_filtered}
 use Rattle.name_table.proofs.Fronts.{ascending_front}
-use Rattle.list_laws.proofs.Places.{take_more, place_within}
+use Rattle.list_laws.proofs.Places.{take_more}
 use Rattle.log_meaning.specs.Log as logs
 use Rattle.log_meaning.specs.Log.{Library, edited, text_of, is_present, names_of}
 use Rattle.walk_meaning.specs.Walks.{Dependencies, is_ungrounded, is_grounded, ungrounded_names}

@@ -1,14 +1,14 @@
 -- How modules stand after an edit.
-use Rattle.std.proofs.Common.{◌≡◌, ℕ, zero, suc, ◌+◌, ◌<◌, ◌≤◌, ◌^◌, Bool, true, false, not, List, [], ◌∷◌, ◌++◌, length, take, filter, Option, Some, None, option_map, is_some, cond, ◌||◌, ◌&&◌, ⊎_elim, refl, sym, ap, ◌∙◌, subst, true≢false, arith, length-append, eq-eqb}
+use Rattle.std.proofs.Common.{◌≡◌, ℕ, zero, suc, ◌+◌, ◌<◌, ◌^◌, Bool, true, false, not, List, [], ◌∷◌, ◌++◌, length, filter, Some, cond, ◌&&◌, ⊎_elim, refl, sym, ap, ◌∙◌, subst, true≢false, arith, length-append, eq-eqb}
 use Rattle.std.specs.List.{list_any}
 use Rattle.std.proofs.Math.Bool.{or-false}
-use Rattle.std.proofs.lemmas.Bool.{and_parts, false_from_ne_true}
-use Rattle.name_meaning.specs.Names.{Name, Text, same_name, is_among, is_ascending}
-use Rattle.name_meaning.specs.Rows.{Rows, row_names, row_of}
+use Rattle.std.proofs.lemmas.Bool.{false_from_ne_true}
+use Rattle.name_meaning.specs.Names.{Name, same_name, is_among, is_ascending}
+use Rattle.name_meaning.specs.Rows.{Rows, row_names}
 use Rattle.name_laws.proofs.Order.{same_sound, same_itself, among_member, member_among, ascending_filtered}
-use Rattle.log_meaning.specs.Log.{Edit, Log, Library, edited, edited_name, library_of, text_of, names_of, is_present}
+use Rattle.log_meaning.specs.Log.{Edit, Log, Library, edited, edited_name, library_of, names_of, is_present}
 use Rattle.log_meaning.specs.Append.{Made}
-use Rattle.log_laws.proofs.Libraries.{library_last, library_ascending, present_among}
+use Rattle.log_laws.proofs.Libraries.{library_last, library_ascending}
 use Rattle.walk_meaning.specs.Walks.{Dependencies, is_grounded, is_ungrounded, ungrounded_names, walking, direct}
 use Rattle.walk_meaning.specs.Reach.{reach, AgreesOn}
 use Rattle.walk_meaning.specs.Graphs.{Graph, graph_grounded, HoldsDependencies}
@@ -19,9 +19,9 @@ use Rattle.walk_laws.proofs.Reaching.{one_list, reach_ascending}
 use Rattle.walk_laws.proofs.Walking.{walking_present, in_present, in_ungrounded, ungrounded_in}
 use Rattle.list_laws.proofs.Members.{Member, in_filter, filter_in}
 use Rattle.list_laws.proofs.Options.{clash}
-use Rattle.board_meaning.specs.Events.{EditMade, Entry, History, edit_in, log_of, library_after, version_after}
+use Rattle.board_meaning.specs.Events.{EditMade, Entry, History, log_of, library_after, version_after}
 use Rattle.board_meaning.specs.Claims.{claimed_name, claim_at}
-use Rattle.board_meaning.specs.Standing.{is_edit_of, stands}
+use Rattle.board_meaning.specs.Standing.{stands}
 use Rattle.board_meaning.specs.Ready.{is_closed}
 use Rattle.board_meaning.specs.Machine.{EditCall, edit_event, edit_reply, event_of, may_call}
 use Rattle.board_meaning.specs.Legal.{IsLegal}
@@ -34,7 +34,7 @@ use Rattle.verdict_board.specs.Entries.{entry}
 use Rattle.verdict_board.specs.Stages.{stage_after, HasSortedInputs, IsCurrent, IsWaiting, IsStage, AreStages}
 use Rattle.verdict_board.specs.Keeping.{IsKept, HasRoom}
 use Rattle.verdict_board.proofs.Currents.{current_more, current_less, claim_more, current_grounded, current_reach, current_stands_not, one_current}
-use Rattle.verdict_board.proofs.Reports.{absent_row, ungrounded_not}
+use Rattle.verdict_board.proofs.Reports.{ungrounded_not}
 use Rattle.verdict_board.proofs.Rooms.{closed_more, installs_more, opened_same}
 use Rattle.verdict_board.proofs.Calls.{legal_with}
 use Rattle.verdict_board.proofs.Transitions.{present_of}

@@ -1,5 +1,5 @@
 -- How many claims are open and how many verdicts were installed, after one more entry.
-use Rattle.std.proofs.Common.{◌≡◌, ℕ, zero, suc, ◌+◌, ◌<◌, ◌≤◌, Bool, true, false, not, List, [], ◌∷◌, ◌++◌, length, filter, slice_get, Option, Some, None, option_map, option_to_list, is_some, cond, ◌||◌, ◌⊎◌, inl, inr, ⊎_elim, refl, sym, ap, ◌∙◌, subst, true≢false, arith, length-append, append-nil}
+use Rattle.std.proofs.Common.{◌≡◌, ℕ, suc, ◌+◌, ◌<◌, ◌≤◌, Bool, true, false, List, [], ◌∷◌, ◌++◌, length, filter, Option, Some, None, option_map, option_to_list, is_some, cond, ◌||◌, inl, inr, ⊎_elim, refl, sym, ap, ◌∙◌, true≢false, arith, length-append}
 use Rattle.std.specs.List.{cons_option}
 use Rattle.std.proofs.Math.Bool.{or-false}
 use Rattle.std.proofs.lemmas.Bool.{or_parts}
@@ -8,7 +8,7 @@ use Rattle.std.proofs.lemmas.List.Elements.{filter-append}
 use Rattle.name_meaning.specs.Names.{Name}
 use Rattle.list_laws.proofs.Members.{Member, in_option}
 use Rattle.walk_laws.proofs.Walking.{filter_shorter, filter_within}
-use Rattle.board_meaning.specs.Events.{Event, Entry, History}
+use Rattle.board_meaning.specs.Events.{Entry, History}
 use Rattle.board_meaning.specs.Claims.{claimed_name, claim_at, claims_from, ends_claim, is_ended, is_open, open_claims}
 use Rattle.board_meaning.specs.Standing.{installed_claim, installed_claims, installs}
 use Rattle.board_meaning.specs.Ready.{is_close, is_closed}

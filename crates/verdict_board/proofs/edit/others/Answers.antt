@@ -1,4 +1,4 @@
-use Rattle.std.proofs.Common.{◌≡◌, ◌∷◌, ◌++◌, [], ◌+◌, suc, not, List, sym, ap, ◌∙◌, arith}
+use Rattle.std.proofs.Common.{◌≡◌, ◌∷◌, ◌++◌, [], ◌+◌, suc, not, sym, ap, ◌∙◌, arith}
 use Rattle.name_meaning.specs.Names.{Name, is_among}
 use Rattle.name_meaning.specs.Rows.{row_names}
 use Rattle.verdict_board.proofs.EditSteps.{filter_skip, filter_keep}

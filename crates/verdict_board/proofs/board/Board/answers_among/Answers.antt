@@ -1,12 +1,11 @@
-use Rattle.std.proofs.Common.{◌≡◌, ◌∷◌, ◌++◌, [], ◌+◌, suc, true, false, not, List, Option, Some, filter, map, length, slice_get, sym, ap, ◌∙◌, subst, arith}
+use Rattle.std.proofs.Common.{◌≡◌, ◌+◌, suc, not, List, Some, filter, map, length, slice_get, sym, ap, ◌∙◌, subst, arith}
 use Rattle.std.proofs.lemmas.Option.{slice_get-get_or}
 use Rattle.name_meaning.specs.Names.{Name, same_name, is_ascending}
-use Rattle.name_meaning.specs.Rows.{IsTable}
 use Rattle.walk_laws.proofs.Reaching.{reach_ascending}
 use Rattle.walk_meaning.specs.Subject.{present_answer, answers_of}
 use Rattle.board_meaning.specs.Events.{library_after}
 use Rattle.list_laws.proofs.Members.{place_member}
-use Rattle.verdict_board.proofs.Reports.{AreAnswers, answers_more, answers_table, all_taken}
+use Rattle.verdict_board.proofs.Reports.{answers_more, answers_table, all_taken}
 use Rattle.verdict_board.proofs.board.Board.answers_among.Goals as goal
 
 pub answer_of-requires-after_bounds : goal.answer_of-requires-after_bounds

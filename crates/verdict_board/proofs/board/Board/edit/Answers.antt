@@ -1,13 +1,12 @@
-use Rattle.std.proofs.Common.{◌≡◌, ◌∷◌, ◌++◌, [], ℕ, suc, Err, List, sym, ap, ◌∙◌, subst, arith}
+use Rattle.std.proofs.Common.{◌≡◌, ◌∷◌, ◌++◌, [], suc, Err, sym, ap, ◌∙◌, subst, arith}
 use Rattle.log_meaning.specs.Log.{Log, edited}
 use Rattle.log_meaning.specs.Append.{Made, append_answer}
 use Rattle.log_laws.proofs.Limits.{made_short}
 use Rattle.walk_meaning.specs.Graphs.{HoldsDependencies}
 use Rattle.board_meaning.specs.Events.{EditMade, Event, History, log_of, library_after, version_after}
-use Rattle.board_meaning.specs.Machine.{EditCall, after_call}
 use Rattle.edit_log.specs.Readings.{read_edit, read_edited, IsAnswer}
 use Rattle.verdict_board.specs.Entries.{entry}
-use Rattle.verdict_board.specs.Stages.{AreStages, after_edit_of}
+use Rattle.verdict_board.specs.Stages.{AreStages}
 use Rattle.verdict_board.proofs.Calls.{edit_after}
 use Rattle.verdict_board.proofs.Edits.{kept_edit}
 use Rattle.verdict_board.proofs.EditSteps.{unmade_after, appended_made, made_version}

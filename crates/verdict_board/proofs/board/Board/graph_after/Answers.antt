@@ -1,4 +1,4 @@
-use Rattle.std.proofs.Common.{◌≡◌, sym, ap, ◌∙◌}
+use Rattle.std.proofs.Common.{◌∙◌}
 use Rattle.verdict_board.proofs.EditSteps.{put_holds, drop_holds}
 use Rattle.verdict_board.proofs.board.Board.graph_after.Goals as goal
 use Rattle.verdict_board.proofs.board.Board.graph_after.Goals.{in-Put+in_ok-dependencies-in-Put+in_ok-copy-in-Put+in_ok-set-in-Put, in-Drop}

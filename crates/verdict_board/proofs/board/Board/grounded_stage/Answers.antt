@@ -1,5 +1,5 @@
-use Rattle.std.proofs.Common.{◌≡◌, ℕ, suc, true, sym, ap, ◌∙◌, subst, Option, Some, None}
-use Rattle.board_meaning.specs.Events.{History, library_after, version_after}
+use Rattle.std.proofs.Common.{◌≡◌, suc, true, sym, ap, ◌∙◌, subst}
+use Rattle.board_meaning.specs.Events.{library_after, version_after}
 use Rattle.walk_meaning.specs.Walks.{is_grounded}
 use Rattle.edit_log.specs.Readings.{read_edit}
 use Rattle.verdict_board.specs.declared.stage.Stage.{Stage}

@@ -1,4 +1,4 @@
-use Rattle.std.proofs.Common.{◌≡◌, ◌&&◌, true, false, suc, ◌+◌, Bool, refl, Some, length, sym, ◌∙◌, arith, true≢false}
+use Rattle.std.proofs.Common.{◌≡◌, ◌&&◌, true, false, suc, ◌+◌, Bool, refl, sym, ◌∙◌, arith, true≢false}
 use Rattle.name_laws.proofs.Rows.{row_at}
 use Rattle.board_meaning.specs.Ready.{dependencies_stand}
 use Rattle.verdict_board.specs.Stages.{is_waiting}

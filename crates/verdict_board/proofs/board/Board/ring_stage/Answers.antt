@@ -1,10 +1,9 @@
-use Rattle.std.proofs.Common.{◌≡◌, suc, Some, None, is_some, true≢false, sym, ap, ◌∙◌}
+use Rattle.std.proofs.Common.{suc, is_some, true≢false, sym, ap, ◌∙◌}
 use Rattle.std.specs.Option.{option_copied}
 use Rattle.log_meaning.specs.Log.{Library, text_of}
 use Rattle.log_laws.proofs.Libraries.{library_ascending}
 use Rattle.board_meaning.specs.Events.{log_of, library_after, version_after}
 use Rattle.edit_log.specs.Readings.{read_edit}
-use Rattle.module_graph.specs.Subjects.{IsCyclic}
 use Rattle.verdict_board.specs.Stages.{after_edit_of}
 use Rattle.verdict_board.proofs.Edits.{library_edited}
 use Rattle.verdict_board.proofs.EditSteps.{ungrounded_present}

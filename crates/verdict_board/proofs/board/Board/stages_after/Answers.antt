@@ -1,13 +1,12 @@
-use Rattle.std.proofs.Common.{◌≡◌, ◌∷◌, ◌++◌, [], ℕ, ◌+◌, suc, length, List, Some, None, take, ⊎_elim, refl, sym, ap, ◌∙◌, subst, arith}
+use Rattle.std.proofs.Common.{◌≡◌, ◌+◌, suc, List, ⊎_elim, refl, sym, ap, ◌∙◌, subst, arith}
 use Rattle.std.proofs.lemmas.List.{length-map}
 use Rattle.name_meaning.specs.Names.{Name}
-use Rattle.name_meaning.specs.Rows.{Rows, row_names, row_of, IsTable}
-use Rattle.log_meaning.specs.Log.{names_of, Library}
+use Rattle.name_meaning.specs.Rows.{row_names, row_of}
+use Rattle.log_meaning.specs.Log.{names_of}
 use Rattle.log_laws.proofs.Libraries.{library_ascending}
 use Rattle.walk_meaning.specs.Graphs.{HoldsDependencies}
 use Rattle.board_meaning.specs.Events.{log_of, library_after, version_after}
 use Rattle.edit_log.specs.Readings.{read_edit}
-use Rattle.verdict_board.specs.declared.stage.Stage.{Stage}
 use Rattle.verdict_board.specs.Stages.{IsStage, after_edit_of}
 use Rattle.verdict_board.proofs.Reports.{all_taken}
 use Rattle.verdict_board.proofs.Edits.{library_edited}
