@@ -1,18 +1,17 @@
 -- Current claims of a legal history, before and after one more entry.
-use Rattle.std.proofs.Common.{◌≡◌, ℕ, suc, ◌<◌, ◌≤◌, Bool, true, false, not, [], ◌∷◌, ◌++◌, length, take, drop, slice_get, Option, Some, None, is_some, ◌||◌, ◌&&◌, ◌⊎◌, inl, inr, ⊎_elim, refl, sym, ap, ◌∙◌, subst, true≢false, arith}
-use Rattle.std.specs.List.{list_any, list_all}
+use Rattle.std.proofs.Common.{◌≡◌, ℕ, suc, ◌<◌, ◌≤◌, true, false, not, [], ◌∷◌, ◌++◌, length, take, drop, Some, is_some, ◌||◌, ◌&&◌, ◌⊎◌, inl, inr, ⊎_elim, refl, sym, ap, ◌∙◌, subst, true≢false, arith}
+use Rattle.std.specs.List.{list_all}
 use Rattle.std.proofs.Math.Bool.{or-false}
-use Rattle.std.proofs.lemmas.Bool.{cases_Bool, and_parts, and_from, not_from_false, not-true, or_parts, or_from, false_from_ne_true}
+use Rattle.std.proofs.lemmas.Bool.{and_parts, and_from, not_from_false, not-true, or_parts, or_from}
 use Rattle.std.proofs.lemmas.List.Folds.{list_any-append}
 use Rattle.name_meaning.specs.Names.{Name}
 use Rattle.walk_meaning.specs.Walks.{Dependencies, is_grounded}
 use Rattle.walk_meaning.specs.Reach.{reach}
 use Rattle.list_laws.proofs.Members.{Member, any_found, in_filter}
-use Rattle.list_laws.proofs.Places.{place_within, get_front, get_last, get_more, take_front, take_length, drop_front}
+use Rattle.list_laws.proofs.Places.{get_last, get_more, take_length}
 use Rattle.board_meaning.specs.Events.{Claim, Entry, History, edit_in, library_after}
 use Rattle.board_meaning.specs.Claims.{claimed_name, claim_at, ends_claim, is_ended, is_open, claims_from, open_claims, inputs_of, is_unchanged, is_claim_of, has_current_claim}
-use Rattle.board_meaning.specs.Standing.{is_edit_of, is_edited, is_edited_after, is_unedited, stands}
-use Rattle.board_meaning.specs.Machine.{IsInstalled, install_reply}
+use Rattle.board_meaning.specs.Standing.{is_edit_of, is_edited, stands}
 use Rattle.board_meaning.specs.Legal.{IsLegal}
 use Rattle.board_machine_laws.proofs.Claiming.{claim_entry, claim_found, claim_within, claim_front, is_name_some, installed_unedited, unedited_from}
 use Rattle.board_machine_laws.proofs.Earlier.{current, claim_before, unedited_before, open_before}

@@ -1,13 +1,12 @@
 -- The end of a claim that was handed out.
-use Rattle.std.proofs.Common.{◌≡◌, ℕ, zero, suc, get_or, ◌+◌, ◌-◌, ◌<◌, ◌≤◌, ◌^◌, Bool, true, false, not, List, [], ◌∷◌, ◌++◌, length, take, ◌⊎◌, ⊎_elim, slice_get, nat_eq, Option, Some, None, option_map, is_some, cond, ◌&&◌, refl, sym, ap, ◌∙◌, subst, true≢false, arith, eq-eqb, eqb-true, MatchBool}
+use Rattle.std.proofs.Common.{◌≡◌, ℕ, zero, suc, get_or, ◌+◌, ◌<◌, ◌≤◌, ◌^◌, Bool, true, false, not, List, [], ◌∷◌, length, take, ◌⊎◌, ⊎_elim, slice_get, nat_eq, Some, None, option_map, is_some, ◌&&◌, refl, sym, ap, ◌∙◌, subst, true≢false, arith, eq-eqb, eqb-true, MatchBool}
 use Rattle.list_laws.proofs.Places.{place_within}
 use Rattle.verdict_board.proofs.Ready.{first_found, none_found}
-use Rattle.std.proofs.lemmas.Bool.{and_parts, false_from_ne_true}
+use Rattle.std.proofs.lemmas.Bool.{and_parts}
 use Rattle.name_meaning.specs.Names.{Name}
 use Rattle.name_meaning.specs.Rows.{Rows, row_of}
-use Rattle.log_meaning.specs.Log.{Log, Library, is_present}
+use Rattle.log_meaning.specs.Log.{Log, Library}
 use Rattle.walk_meaning.specs.Reach.{reach}
-use Rattle.walk_meaning.specs.Walks.{is_grounded, is_ungrounded}
 use Rattle.walk_meaning.specs.Graphs.{Graph}
 use Rattle.walk_meaning.specs.Subject.{Subject, KeepsToReach}
 use Rattle.board_meaning.specs.Events.{History, library_after, stamp_after}
@@ -24,11 +23,11 @@ use Rattle.verdict_board.specs.Changes.{IsFirstChanged}
 use Rattle.verdict_board.specs.declared.inputs.Input as inputs
 use Rattle.std.proofs.lemmas.Option.{slice_get-map, slice_get-get_or}
 use Rattle.std.proofs.lemmas.List.{length-map}
-use Rattle.verdict_board.specs.Stages.{claim_in, IsCurrent, IsStage, AreStages}
+use Rattle.verdict_board.specs.Stages.{claim_in, IsCurrent, IsStage}
 use Rattle.verdict_board.specs.Keeping.{IsKept, HasRoom}
 use Rattle.verdict_board.proofs.Currents.{current_grounded, current_stands_not, one_current}
 use Rattle.verdict_board.proofs.Jobs.{job_at, job_inputs, job_names, job_answer}
-use Rattle.verdict_board.proofs.Reports.{absent_row, staged_present, ungrounded_not}
+use Rattle.verdict_board.proofs.Reports.{staged_present, ungrounded_not}
 use Rattle.verdict_board.proofs.Rooms.{installs_within}
 use Rattle.verdict_board.proofs.Transitions.{present_of}
 

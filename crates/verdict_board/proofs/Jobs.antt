@@ -1,12 +1,12 @@
 -- The job of a claim taken apart.
-use Rattle.std.proofs.Common.{◌≡◌, ℕ, true, List, [], ◌∷◌, length, take, Option, Some, None, option_map, option_and_then, refl, sym, ap, ◌∙◌, subst}
+use Rattle.std.proofs.Common.{◌≡◌, ℕ, true, length, take, Option, Some, None, option_map, option_and_then, refl, sym, ap, ◌∙◌}
 use Rattle.name_meaning.specs.Names.{Name, Text}
 use Rattle.log_meaning.specs.Log.{Library, text_of}
 use Rattle.log_laws.proofs.Libraries.{library_ascending}
 use Rattle.walk_meaning.specs.Reach.{reach}
 use Rattle.walk_meaning.specs.Subject.{Subject, KeepsToReach, answers_of}
 use Rattle.board_meaning.specs.Events.{History, log_of, library_after}
-use Rattle.board_meaning.specs.Claims.{Input, claim_at, inputs_after, inputs_of, input_names}
+use Rattle.board_meaning.specs.Claims.{claim_at, inputs_after, inputs_of, input_names}
 use Rattle.board_meaning.specs.Standing.{is_unedited}
 use Rattle.board_meaning.specs.Machine.{Job, job_after, job_of}
 use Rattle.board_meaning.specs.Legal.{IsLegal}

@@ -1,29 +1,24 @@
 -- How modules stand after an entry that is no edit.
-use Rattle.std.proofs.Common.{◌≡◌, ℕ, Bool, true, false, not, [], ◌∷◌, ◌++◌, length, take, nat_eq, Option, Some, None, ◌||◌, ◌&&◌, ◌⊎◌, inl, inr, ⊎_elim, refl, sym, ap, ◌∙◌, subst, true≢false, eq-eqb, eqb-true, cond}
-use Rattle.std.proofs.Math.Bool.{or-false}
-use Rattle.std.proofs.lemmas.Bool.{cases_Bool, false_from_ne_true, or_right}
+use Rattle.std.proofs.Common.{◌≡◌, ℕ, Bool, true, false, [], ◌∷◌, ◌++◌, Some, None, ⊎_elim, refl, sym, ap, ◌∙◌, subst, cond}
 use Rattle.name_meaning.specs.Names.{Name, same_name, with_name}
 use Rattle.name_meaning.specs.Rows.{Rows, row_names, row_of, with_row}
-use Rattle.name_laws.proofs.Order.{same_sound, same_itself, with_present, among_member}
-use Rattle.name_laws.proofs.Rows.{row_with, names_with_row, row_among}
+use Rattle.name_laws.proofs.Order.{same_sound, with_present, among_member}
+use Rattle.name_laws.proofs.Rows.{row_with, names_with_row}
 use Rattle.log_meaning.specs.Log.{Library, library_of, names_of, is_present}
 use Rattle.log_laws.proofs.Libraries.{library_ascending, present_among}
 use Rattle.walk_meaning.specs.Walks.{Dependencies, is_grounded, is_ungrounded}
 use Rattle.walk_meaning.specs.Reach.{reach}
 use Rattle.walk_meaning.specs.Subject.{Subject}
 use Rattle.list_laws.proofs.Options.{clash}
-use Rattle.board_meaning.specs.Events.{Event, Claim, Install, Stale, Release, Close, Entry, History, edit_in, log_of, library_after}
-use Rattle.board_meaning.specs.Claims.{claimed_name, claim_at, ends_claim, is_claim_of, is_name}
-use Rattle.board_meaning.specs.Standing.{installed_claim, is_edit_of, is_unedited, stands}
-use Rattle.board_meaning.specs.Machine.{IsInstalled, IsStale, install_reply}
+use Rattle.board_meaning.specs.Events.{Entry, History, edit_in, log_of, library_after}
+use Rattle.board_meaning.specs.Claims.{claimed_name, ends_claim}
+use Rattle.board_meaning.specs.Standing.{is_edit_of, stands}
 use Rattle.board_meaning.specs.Legal.{IsLegal}
 use Rattle.board_machine_laws.proofs.Histories.{log_none}
-use Rattle.board_machine_laws.proofs.Claiming.{some_is_name, unedited_installed}
-use Rattle.board_laws.proofs.Following.{others_leave, install_makes}
 use Rattle.verdict_board.specs.declared.stage.Stage.{Stage}
 use Rattle.verdict_board.specs.declared.stage.Stage.TheVariants.{Waiting, Claimed, Standing, Cyclic}
-use Rattle.verdict_board.specs.Stages.{IsCurrent, IsWaiting, IsClaimed, IsStanding, IsRing, IsStage, AreStages}
-use Rattle.verdict_board.proofs.Currents.{current_more, current_less, claim_more, new_current, current_grounded, current_reach, current_stands_not, one_current}
+use Rattle.verdict_board.specs.Stages.{IsCurrent, IsStage, AreStages}
+use Rattle.verdict_board.proofs.Currents.{current_more, current_less, claim_more}
 
 some_same : {A : Type 0} {x y : A} → Some x ≡ Some y → x ≡ y
 some_same p = cc

@@ -9,3 +9,5 @@ pub mod Reports
 pub mod Ready
 pub mod Ends
 pub mod Handing
+pub mod Edits
+pub mod EditSteps

@@ -1,5 +1,5 @@
 -- Which names are ready, by their stages.
-use Rattle.std.proofs.Common.{◌≡◌, ℕ, zero, suc, ◌<◌, ◌≤◌, Bool, true, false, not, List, [], ◌∷◌, ◌++◌, map, take, length, find, slice_get, Option, Some, None, is_some, cond, ◌||◌, ◌&&◌, ◌⊎◌, ⊎_elim, refl, sym, ap, ◌∙◌, subst, true≢false, arith}
+use Rattle.std.proofs.Common.{◌≡◌, ℕ, zero, suc, ◌<◌, ◌≤◌, Bool, true, false, not, List, [], ◌∷◌, take, length, find, slice_get, Some, None, is_some, cond, ◌||◌, ◌&&◌, ◌⊎◌, ⊎_elim, refl, sym, ap, ◌∙◌, subst, true≢false, arith}
 use Rattle.std.specs.List.{list_all}
 use Rattle.std.specs.Option.{option_map}
 use Rattle.std.proofs.lemmas.Option.{slice_get-map}
@@ -10,21 +10,21 @@ use Rattle.name_meaning.specs.Names.{Name}
 use Rattle.name_meaning.specs.Rows.{Rows, row_names, row_of, IsTable}
 use Rattle.name_laws.proofs.Rows.{row_at}
 use Rattle.log_meaning.specs.Log.{Library, names_of, is_present}
-use Rattle.walk_meaning.specs.Walks.{Dependencies, direct, is_grounded, is_ungrounded}
+use Rattle.walk_meaning.specs.Walks.{Dependencies}
 use Rattle.walk_meaning.specs.Graphs.{Graph, HoldsDependencies}
 use Rattle.walk_meaning.specs.Subject.{Subject}
-use Rattle.list_laws.proofs.Members.{Member, all_at, place_member}
+use Rattle.list_laws.proofs.Members.{all_at, place_member}
 use Rattle.list_laws.proofs.Places.{place_within}
-use Rattle.board_meaning.specs.Events.{History, library_after, stamp_after}
-use Rattle.board_meaning.specs.Claims.{Input, has_current_claim}
+use Rattle.board_meaning.specs.Events.{History, library_after}
+use Rattle.board_meaning.specs.Claims.{has_current_claim}
 use Rattle.board_meaning.specs.Standing.{stands}
 use Rattle.board_meaning.specs.Ready.{is_closed, dependencies_stand, is_ready, least_ready}
 use Rattle.board_meaning.specs.Legal.{IsLegal}
-use Rattle.board_laws.proofs.Standings.{ReadyParts, ready_parts, ready_from, standing_grounded}
+use Rattle.board_laws.proofs.Standings.{ready_parts, ready_from, standing_grounded}
 use Rattle.verdict_board.specs.declared.stage.Stage.{Stage}
 use Rattle.verdict_board.specs.declared.stage.Stage.TheVariants.{Waiting, Claimed, Standing, Cyclic}
 use Rattle.verdict_board.specs.Stages.{is_waiting, standing_in, waits, IsStage, AreStages}
-use Rattle.verdict_board.proofs.Currents.{current_grounded, current_stands_not, current_told, told_current}
+use Rattle.verdict_board.proofs.Currents.{current_stands_not, current_told, told_current}
 use Rattle.verdict_board.proofs.Reports.{present_row, absent_row, ungrounded_not}
 
 -- ---- lists

@@ -1,14 +1,14 @@
 -- What is told of a name, by its stage.
-use Rattle.std.proofs.Common.{◌≡◌, ℕ, zero, suc, ◌≤◌, length, arith, Bool, true, false, not, List, [], ◌∷◌, ◌++◌, map, filter, take, slice_get, Option, Some, None, option_map, is_some, cond, ◌||◌, ◌&&◌, refl, sym, ap, ◌∙◌, subst, true≢false, append-nil}
+use Rattle.std.proofs.Common.{◌≡◌, ℕ, zero, suc, ◌≤◌, length, arith, Bool, true, false, not, List, [], ◌∷◌, ◌++◌, map, filter, take, slice_get, Option, Some, None, option_map, is_some, cond, ◌&&◌, refl, sym, ap, ◌∙◌, subst, true≢false, append-nil}
 use Rattle.std.proofs.lemmas.Bool.{and_parts, and_from, not-true, or_left, or_right, or_from}
 use Rattle.std.proofs.lemmas.List.{map-append}
 use Rattle.std.proofs.lemmas.List.Elements.{filter-append}
-use Rattle.name_meaning.specs.Names.{Name, same_name, is_among, is_ascending}
+use Rattle.name_meaning.specs.Names.{Name, is_among, is_ascending}
 use Rattle.name_meaning.specs.Rows.{Rows, row_names, row_of, IsTable}
 use Rattle.name_laws.proofs.Order.{ascending_filtered}
 use Rattle.name_laws.proofs.Rows.{row_among}
 use Rattle.name_table.proofs.Fronts.{ascending_front}
-use Rattle.log_meaning.specs.Log.{Library, names_of, is_present}
+use Rattle.log_meaning.specs.Log.{Library, is_present}
 use Rattle.log_laws.proofs.Libraries.{present_among}
 use Rattle.walk_meaning.specs.Walks.{Dependencies, is_grounded, is_ungrounded}
 use Rattle.walk_meaning.specs.Reach.{reach}
@@ -19,7 +19,7 @@ use Rattle.board_laws.proofs.Standings.{standing_grounded}
 use Rattle.list_laws.proofs.Places.{take_more}
 use Rattle.board_meaning.specs.Events.{History, library_after, version_after}
 use Rattle.board_meaning.specs.Standing.{stands}
-use Rattle.board_meaning.specs.Machine.{Told, IsVerdict, IsPending, IsAbsent, told_by, is_known, report_reply, answers_reply}
+use Rattle.board_meaning.specs.Machine.{IsVerdict, IsPending, IsAbsent, told_by, is_known, report_reply, answers_reply}
 use Rattle.board_meaning.specs.Legal.{IsLegal}
 use Rattle.module_graph.specs.Subjects.{read_answers}
 use Rattle.verdict_board.specs.declared.stage.Stage.{Stage}

@@ -1,5 +1,5 @@
 -- How many claims are open and how many verdicts were installed, after one more entry.
-use Rattle.std.proofs.Common.{◌≡◌, ℕ, zero, suc, ◌+◌, ◌<◌, ◌≤◌, Bool, true, false, not, List, [], ◌∷◌, ◌++◌, length, filter, slice_get, Option, Some, None, option_map, option_to_list, is_some, cond, ◌||◌, ◌⊎◌, inl, inr, ⊎_elim, refl, sym, ap, ◌∙◌, subst, true≢false, arith, length-append, append-nil}
+use Rattle.std.proofs.Common.{◌≡◌, ℕ, suc, ◌+◌, ◌<◌, ◌≤◌, Bool, true, false, List, [], ◌∷◌, ◌++◌, length, filter, Option, Some, None, option_map, option_to_list, is_some, cond, ◌||◌, inl, inr, ⊎_elim, refl, sym, ap, ◌∙◌, true≢false, arith, length-append}
 use Rattle.std.specs.List.{cons_option}
 use Rattle.std.proofs.Math.Bool.{or-false}
 use Rattle.std.proofs.lemmas.Bool.{or_parts}
@@ -8,7 +8,7 @@ use Rattle.std.proofs.lemmas.List.Elements.{filter-append}
 use Rattle.name_meaning.specs.Names.{Name}
 use Rattle.list_laws.proofs.Members.{Member, in_option}
 use Rattle.walk_laws.proofs.Walking.{filter_shorter, filter_within}
-use Rattle.board_meaning.specs.Events.{Event, Entry, History}
+use Rattle.board_meaning.specs.Events.{Entry, History}
 use Rattle.board_meaning.specs.Claims.{claimed_name, claim_at, claims_from, ends_claim, is_ended, is_open, open_claims}
 use Rattle.board_meaning.specs.Standing.{installed_claim, installed_claims, installs}
 use Rattle.board_meaning.specs.Ready.{is_close, is_closed}
@@ -96,7 +96,7 @@ module _ (H : History) (e : Entry) where
   none_more : claimed_name e.event ≡ None → length (open_claims (H ++ e ∷ [])) ≡ length (filter (is_open (H ++ e ∷ [])) (claims_from 0 H))
   none_more h =
       let z : length (filter (is_open (H ++ e ∷ [])) (cons_option (option_map (λ (name : Name). 0 + length H) (claimed_name e.event)) [])) ≡ 0 =
-          ap (λ (o : Option Name). length (filter (is_open (H ++ e ∷ [])) (cons_option (option_map (λ (name : Name). 0 + length H) o) []))) h in
+      ap (λ (o : Option Name). length (filter (is_open (H ++ e ∷ [])) (cons_option (option_map (λ (name : Name). 0 + length H) o) []))) h in
       omega (arith, parts, z)
 
   pub opened_more : length (open_claims (H ++ e ∷ [])) ≤ length (open_claims H) + 1

@@ -1,10 +1,10 @@
 -- What the tables keep true, over each call that is no edit.
-use Rattle.std.proofs.Common.{◌≡◌, ℕ, suc, ◌+◌, ◌-◌, ◌<◌, ◌≤◌, ◌^◌, Bool, true, false, not, List, [], ◌∷◌, ◌++◌, length, take, nat_eq, slice_get, Option, Some, None, option_map, option_to_list, is_some, ◌||◌, ◌&&◌, ⊎_elim, refl, sym, ap, ◌∙◌, subst, true≢false, arith, length-append, eqb-true, eq-eqb, cond}
+use Rattle.std.proofs.Common.{◌≡◌, ℕ, ◌+◌, ◌-◌, ◌<◌, ◌^◌, Bool, true, false, not, List, [], ◌∷◌, ◌++◌, length, take, nat_eq, slice_get, Option, Some, None, option_map, option_to_list, ◌||◌, ⊎_elim, refl, sym, ap, ◌∙◌, subst, true≢false, arith, length-append, eqb-true, eq-eqb, cond}
 use Rattle.std.proofs.Math.Bool.{or-false}
 use Rattle.std.proofs.lemmas.Bool.{and_parts, and_from, false_from_ne_true, or_right}
 use Rattle.name_meaning.specs.Names.{Name, same_name}
 use Rattle.name_meaning.specs.Rows.{Rows, row_of, with_row}
-use Rattle.name_laws.proofs.Order.{same_sound, same_itself}
+use Rattle.name_laws.proofs.Order.{same_itself}
 use Rattle.log_meaning.specs.Log.{Log, Library, library_of, is_present}
 use Rattle.walk_meaning.specs.Walks.{Dependencies, is_grounded, is_ungrounded}
 use Rattle.walk_meaning.specs.Reach.{reach}
@@ -15,19 +15,18 @@ use Rattle.board_meaning.specs.Events.{Event, Claim, Install, Stale, Release, Cl
 use Rattle.board_meaning.specs.Claims.{claimed_name, claim_at, claims_from, ends_claim, is_open, open_claims, is_claim_of}
 use Rattle.board_meaning.specs.Standing.{installed_claim, installed_claims, installs, is_unedited, stands}
 use Rattle.board_meaning.specs.Ready.{is_close, is_closed, least_ready}
-use Rattle.board_meaning.specs.Machine.{IsInstalled, IsStale, install_event, install_reply, Call, ClaimCall, InstallCall, ReleaseCall, CloseCall, event_of, is_by, may_call}
-use Rattle.board_meaning.specs.Legal.{IsLegal}
+use Rattle.board_meaning.specs.Machine.{IsInstalled, IsStale, install_event, install_reply, ClaimCall, InstallCall, ReleaseCall, CloseCall, event_of, is_by, may_call}
 use Rattle.board_machine_laws.proofs.Histories.{log_none}
 use Rattle.board_machine_laws.proofs.Claiming.{some_is_name, is_name_some, installed_unedited, unedited_installed}
 use Rattle.board_laws.proofs.Legality.{legal_empty, least_is_ready}
 use Rattle.board_laws.proofs.Standings.{ready_parts, reach_now, grounded_now}
 use Rattle.board_laws.proofs.Following.{others_leave, install_makes}
 use Rattle.verdict_board.specs.declared.stage.Stage.{Stage}
-use Rattle.verdict_board.specs.declared.stage.Stage.TheVariants.{Waiting, Claimed, Standing, Cyclic}
-use Rattle.verdict_board.specs.Stages.{IsCurrent, IsStage, AreStages}
+use Rattle.verdict_board.specs.declared.stage.Stage.TheVariants.{Waiting, Claimed, Standing}
+use Rattle.verdict_board.specs.Stages.{IsCurrent}
 use Rattle.verdict_board.specs.Keeping.{IsKept, HasRoom}
-use Rattle.verdict_board.proofs.Currents.{new_current, current_less, current_grounded, current_stands_not, one_current, claim_more}
-use Rattle.verdict_board.proofs.Kept.{same_library, no_claim, stages_kept, stages_replaced, stage_kept}
+use Rattle.verdict_board.proofs.Currents.{new_current, current_less, current_stands_not, one_current, claim_more}
+use Rattle.verdict_board.proofs.Kept.{same_library, no_claim, stages_kept, stages_replaced}
 use Rattle.verdict_board.proofs.Rooms.{closed_more, installs_more, opened_more, opened_same, opened_less}
 use Rattle.verdict_board.proofs.Calls.{legal_with}
 use Rattle.verdict_board.specs.Entries.{entry}

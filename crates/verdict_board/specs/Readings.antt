@@ -1,5 +1,5 @@
 -- What jobs and replies of this crate stand for (this profile).
-use Rattle.std.specs.Prelude.{ℕ, ◌≤◌, List, map, length, Option}
+use Rattle.std.specs.Prelude.{◌≤◌, List, map, length}
 use Rattle.name_meaning.specs.Names.{Name, Text}
 use Rattle.name_meaning.specs.Limits.{text_limit}
 use Rattle.board_meaning.specs.Events.{History, stamp_after}

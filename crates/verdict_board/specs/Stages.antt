@@ -1,12 +1,13 @@
 -- How a module stands after a history (this profile).
-use Rattle.std.specs.Prelude.{◌≡◌, ℕ, Bool, true, false, ◌&&◌, not, List, Option, Some, None, if◌then◌else◌}
+use Rattle.std.specs.Prelude.{◌≡◌, ℕ, suc, [], ◌∷◌, ◌++◌, Bool, true, false, ◌&&◌, not, List, Option, Some, None, if◌then◌else◌}
 use Rattle.name_meaning.specs.Names.{Name, is_among, is_ascending}
 use Rattle.name_meaning.specs.Rows.{Rows, row_names, row_of}
-use Rattle.log_meaning.specs.Log.{names_of, is_present}
+use Rattle.log_meaning.specs.Log.{Edit, names_of, is_present}
 use Rattle.walk_meaning.specs.Walks.{Dependencies, is_grounded, is_ungrounded}
 use Rattle.walk_meaning.specs.Reach.{reach}
 use Rattle.walk_meaning.specs.Subject.{Subject}
-use Rattle.board_meaning.specs.Events.{History, library_after}
+use Rattle.board_meaning.specs.Events.{EditMade, History, library_after, version_after}
+use Rattle.verdict_board.specs.Entries.{entry}
 use Rattle.board_meaning.specs.Claims.{claim_at, is_open}
 use Rattle.board_meaning.specs.Standing.{is_unedited, stands}
 use Rattle.verdict_board.specs.declared.stage.Stage.{Stage}
@@ -57,6 +58,10 @@ HasSortedInputs Waiting = Unit {0}
 HasSortedInputs (Claimed claim inputs) = is_ascending inputs ≡ true
 HasSortedInputs (Standing answer inputs) = is_ascending inputs ≡ true
 HasSortedInputs (Cyclic answer) = Unit {0}
+
+-- The history with this edit made after it.
+abbrev pub after_edit_of : History → Edit → History
+after_edit_of history edit = history ++ entry 0 (suc (version_after history)) (EditMade edit) ∷ []
 
 -- An open claim of the name, none of whose inputs was edited after it.
 pub record IsCurrent (dependencies : Dependencies) (history : History) (name : Name) (claim : ℕ) : Type 0 where

@@ -6,8 +6,8 @@ ghost use Rattle.board_meaning.specs.Ready.{is_closed};
 ghost use Rattle.board_meaning.specs.Machine.{CloseCall, after_call};
 ghost use Rattle.board_meaning.specs.Legal.{IsLegal};
 
-use crate::stage::Stage;
 use crate::Event;
+use crate::stage::Stage;
 use crate::trail::{Trail, noted};
 use edit_log::Log;
 use lf_terms::Memory;

@@ -3,6 +3,7 @@
 
 mod board;
 mod claim;
+mod edit;
 mod event;
 mod inputs;
 mod install;

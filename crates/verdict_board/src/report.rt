@@ -40,11 +40,7 @@ impl<S: Subject> Board<S> {
 
     /// The answers of what a name reaches, itself left out, in byte order. None exactly where the library lacks the name, or it
     /// is ungrounded, or has no standing verdict.
-    pub fn answers(
-        &self,
-        alloc: Global,
-        name: &Name,
-    ) -> Result<Option<Answers<S::Answer>>, Memory>
+    pub fn answers(&self, alloc: Global, name: &Name) -> Result<Option<Answers<S::Answer>>, Memory>
         ensures { IfOk result (λ answers. option_map (read_answers S.meaning) answers ≡ answers_reply S.subject self.now name.now) }
     {
         let Some(stage) = self.stages.get(name) else {

@@ -1,4 +1,4 @@
-use Rattle.std.proofs.Common.{Some, sym, ap, ◌∙◌}
+use Rattle.std.proofs.Common.{sym, ap, ◌∙◌}
 use Rattle.std.specs.Option.{option_copied}
 use Rattle.verdict_board.proofs.Reports.{answer_absent, answer_known, answer_unknown}
 use Rattle.verdict_board.proofs.board.Board.answer_of.Goals as goal

@@ -3,8 +3,7 @@ use Rattle.log_meaning.specs.Log.{library_of, text_of}
 use Rattle.walk_laws.proofs.Graphs.{graph_reaches}
 use Rattle.board_meaning.specs.Claims.{input_names}
 use Rattle.board_meaning.specs.Ready.{least_ready}
-use Rattle.board_meaning.specs.Machine.{claim_reply, ClaimCall, after_call}
-use Rattle.name_meaning.specs.Names.{Name, Text}
+use Rattle.name_meaning.specs.Names.{Text}
 use Rattle.verdict_board.specs.Readings.{IsShort, read_inputs}
 use Rattle.verdict_board.proofs.Calls.{none_claimed, claim_after}
 use Rattle.verdict_board.proofs.Transitions.{kept_claim}

@@ -1,6 +1,5 @@
-use Rattle.std.proofs.Common.{◌≡◌, sym, ap, ◌∙◌, length, arith}
-use Rattle.board_meaning.specs.Events.{History}
-use Rattle.board_meaning.specs.Machine.{Job, InstallCall, after_call}
+use Rattle.std.proofs.Common.{sym, ap, ◌∙◌, length, arith}
+use Rattle.board_meaning.specs.Machine.{InstallCall, after_call}
 use Rattle.verdict_board.proofs.Calls.{install_after}
 use Rattle.verdict_board.proofs.Transitions.{kept_install, some_opened}
 use Rattle.verdict_board.proofs.Ends.{here_at, here_install, here_names, here_answer, here_reply, entries_fit, installed_fits, claimed_present}

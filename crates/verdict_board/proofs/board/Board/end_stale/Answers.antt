@@ -1,6 +1,5 @@
 use Rattle.std.proofs.Common.{◌≡◌, Some, slice_get, subst, sym, ap, ◌∙◌, length, arith}
 use Rattle.board_meaning.specs.Machine.{Job, IsStale, InstallCall, install_reply, after_call}
-use Rattle.board_meaning.specs.Claims.{Input}
 use Rattle.verdict_board.proofs.Calls.{stale_after}
 use Rattle.verdict_board.proofs.Transitions.{kept_stale, some_opened}
 use Rattle.verdict_board.proofs.Ends.{here_at, here_install, here_stale, entries_fit, got_same}

@@ -1,4 +1,4 @@
-use Rattle.std.proofs.Common.{sym, ap, ◌∙◌}
+use Rattle.std.proofs.Common.{sym}
 use Rattle.verdict_board.proofs.Ends.{current_absent, current_none, current_decides}
 use Rattle.verdict_board.proofs.board.Board.is_current.Goals as goal
 

@@ -1,4 +1,4 @@
-use Rattle.std.proofs.Common.{◌≡◌, ◌&&◌, true, false, suc, ◌+◌, Bool, refl, Some, length, sym, ◌∙◌, arith, true≢false}
+use Rattle.std.proofs.Common.{◌≡◌, ◌&&◌, true, false, suc, ◌+◌, Bool, refl, sym, ◌∙◌, arith, true≢false}
 use Rattle.name_laws.proofs.Rows.{row_at}
 use Rattle.board_meaning.specs.Ready.{dependencies_stand}
 use Rattle.verdict_board.specs.Stages.{is_waiting}
@@ -33,7 +33,7 @@ pub loop-place-preserved : goal.loop-place-preserved
 loop-place-preserved g c =
     let one : c.loop-place.place + 1 ≡ suc c.loop-place.place = omega arith in
     let next = ready_next g.S.Subject.subject g.S.Subject.meaning c.self.inside.history.entries c.self.invariant.legal c.self.inside.stages c.self.invariant.staged c.loop-place.place c.row_at.result.0.now c.row_at.result.1.now
-        c.len-place-end.ensures.ordered (sym c.self.invariant.closed_is ∙ c.if-self.false) c.row_at.ensures in
+    c.len-place-end.ensures.ordered (sym c.self.invariant.closed_is ∙ c.if-self.false) c.row_at.ensures in
     rw one (next
     (elim c.else-is_waiting.branch [
       | else-is_waiting-via-then-is_waiting+else-rests w ↦ second_not (is_waiting c.row_at.result.1.now) (dependencies_stand g.S.Subject.subject.dependencies c.self.inside.history.entries c.row_at.result.0.now) (rw c.self.view_is (sym w.rests.ensures ∙ w.if-rests.false))

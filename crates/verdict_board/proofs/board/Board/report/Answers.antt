@@ -1,4 +1,4 @@
-use Rattle.std.proofs.Common.{◌≡◌, true, sym, ap, ◌∙◌, length, Result, Ok, Err}
+use Rattle.std.proofs.Common.{sym, ap, ◌∙◌, length, Result, Ok, Err}
 use Rattle.std.specs.Option.{option_copied}
 use Rattle.std.specs.Result.{OnErr}
 use Rattle.board_meaning.specs.Points.{is_verdict}

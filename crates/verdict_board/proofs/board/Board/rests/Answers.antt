@@ -1,11 +1,11 @@
-use Rattle.std.proofs.Common.{◌≡◌, true, false, not, ◌||◌, suc, ◌+◌, Some, length, slice_get, sym, ap, ◌∙◌, arith}
+use Rattle.std.proofs.Common.{true, not, ◌||◌, Some, sym, ap, ◌∙◌, arith}
 use Rattle.std.specs.List.{list_all}
 use Rattle.std.proofs.lemmas.Option.{slice_get-get_or}
 use Rattle.name_meaning.specs.Names.{Name}
 use Rattle.log_meaning.specs.Log.{is_present}
 use Rattle.board_meaning.specs.Events.{library_after}
 use Rattle.board_meaning.specs.Standing.{stands}
-use Rattle.verdict_board.proofs.Ready.{all_fails, all_next, rest_one, rests_told}
+use Rattle.verdict_board.proofs.Ready.{all_fails, rest_one, rests_told}
 use Rattle.verdict_board.proofs.Reports.{all_taken}
 use Rattle.verdict_board.proofs.board.Board.rests.Goals as goal
 

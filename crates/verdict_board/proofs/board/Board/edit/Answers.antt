@@ -1,0 +1,62 @@
+use Rattle.std.proofs.Common.{◌≡◌, ◌∷◌, ◌++◌, [], suc, Err, sym, ap, ◌∙◌, subst, arith}
+use Rattle.log_meaning.specs.Log.{Log, edited}
+use Rattle.log_meaning.specs.Append.{Made, append_answer}
+use Rattle.log_laws.proofs.Limits.{made_short}
+use Rattle.walk_meaning.specs.Graphs.{HoldsDependencies}
+use Rattle.board_meaning.specs.Events.{EditMade, Event, History, log_of, library_after, version_after}
+use Rattle.edit_log.specs.Readings.{read_edit, read_edited, IsAnswer}
+use Rattle.verdict_board.specs.Entries.{entry}
+use Rattle.verdict_board.specs.Stages.{AreStages}
+use Rattle.verdict_board.proofs.Calls.{edit_after}
+use Rattle.verdict_board.proofs.Edits.{kept_edit}
+use Rattle.verdict_board.proofs.EditSteps.{unmade_after, appended_made, made_version}
+use Rattle.verdict_board.proofs.board.Board.edit.Goals as goal
+
+pub returns-in_default : goal.returns-in_default
+returns-in_default g c =
+    let e = read_edit c.args.edit in
+    let reply : append_answer (log_of c.self.inside.history.entries) e ≡ read_edited c.in_ok-answer.answer = ap (λ log. append_answer log e) (sym c.self.invariant.logged) ∙ c.in_ok-answer.ensures in
+    record {
+      answer = rw (← c.self.view_is) reply;
+      history = rw (← c.self.view_is) (unmade_after g.S.Subject.subject.dependencies c.self.inside.history.entries c.args.pass e c.in_ok-answer.answer c.in_default.not-Made reply);
+      unchanged = tt;
+    }
+
+pub graph_after-requires-after_bounds : goal.graph_after-requires-after_bounds
+graph_after-requires-after_bounds g c κs b =
+    made_short c.self.inside.log (read_edit c.args.edit) c.in-Made.version (c.in_ok-answer.ensures ∙ ap read_edited c.in-Made.is)
+
+pub stages_after-requires-clause-short : goal.stages_after-requires-clause-short
+stages_after-requires-clause-short g c κs b =
+    made_short c.self.inside.log (read_edit c.args.edit) c.in-Made.version (c.in_ok-answer.ensures ∙ ap read_edited c.in-Made.is)
+
+pub returns-in-Err-clause-answer : goal.returns-in-Err-clause-answer
+returns-in-Err-clause-answer g c =
+    rw (← c.self.view_is) (subst (λ (log : Log). IsAnswer (Err c.in-Err.fault) (append_answer log (read_edit c.args.edit))) c.self.invariant.logged c.in-Err.ensures.answer)
+
+pub returns-in-Err-clause-unchanged : goal.returns-in-Err-clause-unchanged
+returns-in-Err-clause-unchanged g c = c.self.view_is
+
+pub invariant_of-self-2 : goal.invariant_of-self-2
+invariant_of-self-2 g c =
+    let e = read_edit c.args.edit in
+    let made : append_answer c.self.inside.log e ≡ Made c.in-Made.version = c.in_ok-answer.ensures ∙ ap read_edited c.in-Made.is in
+    let reply : append_answer (log_of c.self.inside.history.entries) e ≡ Made c.in-Made.version = ap (λ log. append_answer log e) (sym c.self.invariant.logged) ∙ made in
+    let v : c.in-Made.version ≡ suc (version_after c.self.inside.history.entries) = made_version (log_of c.self.inside.history.entries) e c.in-Made.version reply in
+    let stages = subst (λ (z : History). AreStages g.S.Subject.subject g.S.Subject.meaning z c.in_ok-stages.stages)
+    (λ i. c.self.inside.history.entries ++ entry (sym c.requires i) (sym v i) (EditMade e) ∷ []) (rw c.self.view_is c.in_ok-stages.ensures) in
+    let holds : HoldsDependencies c.in_ok-graph.graph g.S.Subject.subject.dependencies (edited (library_after c.self.inside.history.entries) e) = rw c.self.view_is c.in_ok-graph.ensures in
+    let few = c.if-self-ge-MOST.false in
+    let less = c.if-self-ge-MOST-2.false in
+    rw (c.noted-self-inside.ensures, c.in_ok-event.ensures)
+    (kept_edit g.S.Subject.subject g.S.Subject.meaning c.self.inside.history.entries c.self.inside.log c.self.inside.graph c.self.inside.stages c.self.inside.closed c.self.inside.opened c.self.inside.entries c.self.inside.installed c.self.invariant e c.args.pass c.in-Made.version c.in-Made.version c.append.new.self c.in_ok-graph.graph c.in_ok-stages.stages c.requires reply v
+    (c.in-Ok.ensures.log ∙ appended_made c.self.inside.log e c.in-Made.version made) holds stages (omega (arith, few)) (omega (arith, less)))
+
+pub returns-clause-history : goal.returns-clause-history
+returns-clause-history g c =
+    let e = read_edit c.args.edit in
+    let made : append_answer c.self.inside.log e ≡ Made c.in-Made.version = c.in_ok-answer.ensures ∙ ap read_edited c.in-Made.is in
+    let reply : append_answer (log_of c.self.inside.history.entries) e ≡ Made c.in-Made.version = ap (λ log. append_answer log e) (sym c.self.invariant.logged) ∙ made in
+    let v : c.in-Made.version ≡ suc (version_after c.self.inside.history.entries) = made_version (log_of c.self.inside.history.entries) e c.in-Made.version reply in
+    c.noted-self-inside.ensures ∙ ap (λ (event : Event). c.self.inside.history.entries ++ entry c.args.pass c.in-Made.version event ∷ []) c.in_ok-event.ensures
+    ∙ rw (← c.self.view_is) (sym (edit_after g.S.Subject.subject.dependencies c.self.inside.history.entries c.args.pass c.in-Made.version e c.in-Made.version reply v))
