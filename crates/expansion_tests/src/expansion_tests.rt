@@ -87,7 +87,7 @@ fn values_stand_for_terms(rt: HostRuntime) -> Result<(), Fail> {
         ("p : a -> type", "same p"),
         ("[x] r x d : a -> type", "family x. r x (f z)"),
         ("[x:a] [y] r y x : a -> a -> type", "family x y. r y x"),
-        ("v z : type", "family. r z z"),
+        ("v z : type", "family . r z z"),
     ] {
         assert!(rt; has_value(alloc, &theory, text, wanted)?, "{text}");
     }
@@ -138,7 +138,7 @@ fn the_first_rule_that_a_value_breaks(rt: HostRuntime) -> Result<(), Fail> {
         ("f type : a", Rule::Level, 2, 6),
         ("f ({x:a} a) : a", Rule::Level, 3, 10),
         ("([x] x) z : a", Rule::NotCanonical, 1, 6),
-        ("(a -> a) z : a", Rule::Level, 0, 8),
+        ("(a -> a) z : a", Rule::Level, 1, 7),
         ("r z : a -> type", Rule::NotCanonical, 0, 3),
         ("[x] p : a -> type", Rule::NotCanonical, 4, 5),
         ("a -> a : type", Rule::FamilyNotAtomic, 0, 6),

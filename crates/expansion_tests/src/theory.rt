@@ -29,6 +29,7 @@ v : a -> type = family x. r x z
 w : a -> type = same p";
 
 /// What is looked up: the theory's constants, with no inclusions.
+#[derive(Drop)]
 pub struct Theory {
     pub own: Box<FlatSig>,
     includes: Names,

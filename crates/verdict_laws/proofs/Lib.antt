@@ -1,3 +1,4 @@
 pub mod Rounds
 pub mod Shortness
+pub mod KnownAnswers
 pub mod Verdicts

@@ -2,4 +2,5 @@
 //! code: each function here does nothing, and its contract is a law.
 #![tactic(auto)]
 
+pub mod answer_laws;
 pub mod verdict_laws;
