@@ -3,7 +3,7 @@
 use elaborate::{ElabFault, elab_class, elab_value};
 use lf_terms::{Class, FlatSig, Names, Value};
 use mmt_interface::Faces;
-use mmt_syntax::Expr;
+use mmt_syntax::{Expr, Judgement};
 use names::Scope;
 use std::alloc::Global;
 use std::test::Fail;
@@ -58,13 +58,24 @@ impl Theory {
     }
 }
 
+/// The longest text that is read.
+const LONGEST: usize = 67_108_864;
+
+fn judgement(alloc: Global, text: &str) -> Result<Box<Judgement>, Fail> {
+    let bytes = text.as_bytes();
+    if bytes.len() > LONGEST {
+        return Err("too long".into());
+    }
+    Ok(Box::new(alloc, read_judgement(alloc, bytes)?)?)
+}
+
 /// What stands behind the colon of a judgement, as a class.
 pub fn class_of(
     alloc: Global,
     theory: &Theory,
     text: &str,
 ) -> Result<Box<Result<Class, ElabFault>>, Fail> {
-    let judgement = Box::new(alloc, read_judgement(alloc, text.as_bytes())?)?;
+    let judgement = judgement(alloc, text)?;
     Ok(Box::new(alloc, elab_class(alloc, &theory.scope(), &judgement.fam))?)
 }
 
@@ -74,7 +85,7 @@ pub fn value_of(
     theory: &Theory,
     text: &str,
 ) -> Result<Box<Result<Value, ElabFault>>, Fail> {
-    let judgement = Box::new(alloc, read_judgement(alloc, text.as_bytes())?)?;
+    let judgement = judgement(alloc, text)?;
     let class = Box::new(alloc, elab_class(alloc, &theory.scope(), &judgement.fam)?)?;
     value_at(alloc, theory, &judgement.obj, &class)
 }
