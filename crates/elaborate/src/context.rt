@@ -136,7 +136,8 @@ impl<'a> Context<'a> {
         })
     }
 
-    /// The context under a binder of that name, if it has one, whose variable has that family.
+    /// The context under a binder of that name, if it has one, whose variable has that family. Callers lend a context that
+    /// they were lent anew, `(&*context).under(..)`: within a cycle of calls the proof wants the shorter loan.
     pub(crate) fn under(&'a self, name: Option<&'a Name>, family: &'a Fam) -> Context<'a>
         ensures scope { scope_of result ≡ scope_of self.now }
         ensures locals { locals_of result ≡ with_local (option_copied name.entry) (read_family family.now) (locals_of self.now) }

@@ -77,7 +77,8 @@ impl<'a> Environment<'a> {
         }
     }
 
-    /// The environment under a binder whose variable has that family.
+    /// The environment under a binder whose variable has that family. Callers lend an environment that they were lent anew,
+    /// `(&*environment).under(..)`: within a cycle of calls the proof wants the shorter loan.
     pub(crate) fn under(&'a self, family: &'a Fam) -> Environment<'a>
         ensures signature { signature_over result ≡ signature_over self.now }
         ensures context { context_over result ≡ read_family family.now ∷ context_over self.now }

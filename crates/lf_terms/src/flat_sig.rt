@@ -1,5 +1,5 @@
 //! Flat signatures: declarations in order, with a table of their names.
-ghost use Rattle.std.specs.Prelude.{◌≡◌, ◌↔◌, ◌≤◌, ◌∷◌, ◌++◌, [], length, slice_get, IfErr, IsErrOf, IsSome, None, MatchOption, OnErr, OnOk, IsNone};
+ghost use Rattle.std.specs.Prelude.{◌≡◌, ◌↔◌, ◌≤◌, ◌∷◌, ◌++◌, [], length, slice_get, take, IfErr, IsErrOf, IsSome, None, MatchOption, OnErr, OnOk, IsNone};
 ghost use Rattle.std.specs.Option.{option_copied, option_map};
 ghost use Rattle.lf_meaning.specs.Signatures.{declaration_of};
 ghost use Rattle.term_trees.specs.Readings.{read_constant, read_declaration, read_signature};
@@ -109,6 +109,13 @@ impl FlatSig {
             Some((_, decl)) => Some(decl),
             None => None,
         }
+    }
+
+    /// Keeps the first `len` declarations, and lets the others go. It takes no memory.
+    pub fn truncate(&mut self, len: usize)
+        ensures { self.new ≡ take len self.old }
+    {
+        self.decls.truncate(len);
     }
 
     /// The number of declarations.

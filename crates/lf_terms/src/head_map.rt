@@ -1,12 +1,12 @@
 //! Maps from constants to their images, in order.
-ghost use Rattle.std.specs.Prelude.{◌≡◌, ◌↔◌, ◌≤◌, ◌∷◌, ◌++◌, [], length, slice_get, IfErr, IsErrOf, IsNone, IsSome, OnErr, OnOk};
+ghost use Rattle.std.specs.Prelude.{◌≡◌, ◌↔◌, ◌≤◌, ◌∷◌, ◌++◌, [], length, slice_get, IfErr, IfOk, IsErrOf, IsNone, IsSome, OnErr, OnOk};
 ghost use Rattle.std.specs.Option.{option_copied, option_map};
 ghost use Rattle.lf_meaning.specs.HeadMaps as meant;
 ghost use Rattle.term_trees.specs.Readings.{read_constant, read_image, read_map, read_mapping};
 ghost use Rattle.lf_terms.specs.Tables.{image_of, pair_handed_back, HasDistinctHeads};
 ghost use Rattle.lf_terms.specs.declared.head_map.MapFault.TheVariants.{Twice};
 
-use base_types::QName;
+use base_types::{Memory, QName};
 use indexmap::IndexMap;
 use std::alloc::Global;
 use std::marker::Model;
@@ -88,6 +88,34 @@ impl HeadMap {
         ensures meaning { option_map (λ pair. read_mapping (pair.0.now, pair.1.now)) result ≡ slice_get (read_map self.now) i }
     {
         self.images.get_index(i)
+    }
+
+    /// The same constants, with copies of their images.
+    pub fn copy(&self, alloc: Global) -> Result<HeadMap, Memory>
+        ensures { IfOk result (λ map. read_map map ≡ read_map self.now) }
+    {
+        let mut copied = HeadMap::new(alloc);
+        for i in 0..self.len() {
+            if let Some((name, image)) = self.at(i) {
+                copied.push_copy(alloc, name, image)?;
+            }
+        }
+        Ok(copied)
+    }
+
+    /// Adds copies of a constant and its image.
+    fn push_copy(&mut self, alloc: Global, name: &QName, image: &Image) -> Result<(), Memory>
+        ensures { OnOk result (read_map self.new ≡ read_map self.old ++ read_mapping (name.now, image.now) ∷ []) }
+    {
+        let copied = image.copy(alloc)?;
+        match self.push(name.copy(alloc)?, copied) {
+            Ok(()) => Ok(()),
+            // The names of a map differ, so this is want of memory.
+            Err(fault) => {
+                drop(fault);
+                Err(Memory)
+            }
+        }
     }
 
     /// The number of constants.

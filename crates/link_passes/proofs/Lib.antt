@@ -1,0 +1,5 @@
+pub mod Chained
+mod Reaching
+mod Imaging
+mod SharedParts
+mod Spans

@@ -1,0 +1,45 @@
+use Rattle.std.proofs.Common.{[], ◌∷◌, drop, sym, ap, ◌∙◌, ◌+◌}
+use Rattle.std.proofs.lemmas.List.{map-append}
+use Rattle.std.proofs.lemmas.Result.{err_from_is_err_and}
+use Rattle.link_meaning.specs.Assignments as passes
+use Rattle.mmt_syntax.specs.Readings as trees
+use Rattle.morphism.specs.Readings.{read_all_assigned, read_assigned, read_setting}
+use Rattle.morphism.specs.Steps.{earlier_targets}
+use Rattle.morphism.proofs.AssignmentsLeft.{all_given, goes_on_with, next_given, none_given}
+use Rattle.morphism.proofs.FirstRefusals.{goes_on, refuses_first}
+use Rattle.morphism.proofs.assignments.read_assigns.Goals as goal
+
+pub loop-assign-init : goal.loop-assign-init
+loop-assign-init c = record {
+  given = none_given (read_setting c.args.setting.now) (earlier_targets c.new-targets.result) (read_all_assigned c.new-given.result.items) c.as_slice-assign-items.result.now
+      c.new-targets.ensures.targets (ap read_all_assigned c.new-given.ensures.items);
+  tabled = c.new-targets.ensures.tabled;
+}
+
+pub returns-in_err-read_assign : goal.returns-in_err-read_assign
+returns-in_err-read_assign c =
+    let p = err_from_is_err_and c.from_residual.result c.from_residual.ensures.1 in
+    let assigns = c.as_slice-assign-items.result.now in
+    let more = next_given (read_setting c.args.setting.now) (earlier_targets c.loop-assign.targets) (read_all_assigned c.loop-assign.given.items) assigns c.loop-assign.assign-index c.assign-item.result c.loop-assign-test.true c.assign-item.is in
+    let whole = ap (λ given. passes.read_assigns (read_setting c.args.setting.now) [] (trees.read_assigns given)) (sym c.as_slice-assign-items.ensures) ∙ c.loop-assign.invariant.given ∙ more in
+    rw (p.1, p.2) (refuses_first c.in_err-read_assign.field-0.0 _ _ _ whole c.in_err-read_assign.ensures)
+
+pub loop-assign-preserved : goal.loop-assign-preserved
+loop-assign-preserved c =
+    let setting = read_setting c.args.setting.now in
+    let assigns = c.as_slice-assign-items.result.now in
+    let i = c.loop-assign.assign-index in
+    let more = next_given setting (earlier_targets c.loop-assign.targets) (read_all_assigned c.loop-assign.given.items) assigns i c.assign-item.result c.loop-assign-test.true c.assign-item.is in
+    let pushed = ap read_all_assigned c.in_ok-push.ensures.items ∙ map-append read_assigned c.loop-assign.given.items (c.in_ok-read_assign.field-0 ∷ []) in
+    record {
+      given = goes_on _ _ _ _ (c.loop-assign.invariant.given ∙ more) c.in_ok-read_assign.ensures
+          ∙ (λ j. goes_on_with setting (sym c.in_ok-add.ensures.targets j) (sym pushed j) (drop (i + 1) assigns));
+      tabled = c.in_ok-add.ensures.tabled c.loop-assign.invariant.tabled;
+    }
+
+pub returns : goal.returns
+returns c =
+    let setting = read_setting c.args.setting.now in
+    let assigns = c.as_slice-assign-items.result.now in
+    ap (λ given. passes.read_assigns setting [] (trees.read_assigns given)) (sym c.as_slice-assign-items.ensures) ∙ c.loop-assign.invariant.given
+    ∙ all_given setting (earlier_targets c.loop-assign.targets) (read_all_assigned c.loop-assign.given.items) assigns c.loop-assign.assign-index c.loop-assign-test.false

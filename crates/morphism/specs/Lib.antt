@@ -1,0 +1,5 @@
+pub mod Readings
+pub mod Answers
+pub mod Steps
+pub mod CoverTables
+pub mod CoverCalls

@@ -1,0 +1,30 @@
+//! The second pass: how the theories that the domain of a link includes are covered.
+ghost use Rattle.link_meaning.specs.CoveringMaps as passes;
+ghost use Rattle.term_trees.specs.Readings.{read_map};
+ghost use Rattle.morphism.specs.Readings.{read_all_assigned, read_setting};
+ghost use Rattle.morphism.specs.Answers.{Links};
+
+use crate::images::images;
+use crate::link_coverings::Coverings;
+use crate::{Assigned, LinkFault, Setting};
+use lf_terms::HeadMap;
+use std::alloc::Global;
+
+/// The images of the constants that the domain includes, in the order of its flat signature (this profile); or the first refusal,
+/// theory by theory in the order of the domain's inclusion closure: `IncludeNotCovered` at the link's own name, with the theory
+/// that has no covering, or `MorphismsDisagree` at the first word of the first covering assignment of a theory that gives other
+/// values than the covering with which it is compared, which is the identity where that covers, else the first assignment.
+///
+/// A theory that the identity covers costs in proportion to its own constants. In coherent faces no constant comes twice, and a
+/// class holds only constants that stand before it; where that failed, the answer would be want of memory.
+pub fn covering_map(
+    alloc: Global,
+    setting: &Setting<'_>,
+    assigned: &[Assigned<'_>],
+) -> Result<HeadMap, LinkFault>
+    ensures { Links read_map result (passes.covering_map (read_setting setting.now) (read_all_assigned assigned.now)) }
+{
+    let coverings = Coverings::new(alloc, setting, assigned)?;
+    coverings.test_domain(alloc)?;
+    images(alloc, &coverings)
+}

@@ -1,0 +1,143 @@
+//! The images of what the domain of a link includes.
+ghost use Rattle.std.specs.Prelude.{◌≡◌, ◌∷◌, ◌++◌, [], IfOk, OnOk, Ok};
+ghost use Rattle.std.specs.Option.{option_copied, option_map};
+ghost use Rattle.translation_meaning.specs.Translation as translation;
+ghost use Rattle.library_meaning.specs.Faces as faces_meant;
+ghost use Rattle.link_meaning.specs.Coverings as meant;
+ghost use Rattle.link_meaning.specs.CoveringMaps.{cover_all, included_part};
+ghost use Rattle.link_meaning.specs.Passes.{mapping_to};
+ghost use Rattle.term_trees.specs.Readings.{read_class, read_constant, read_declaration, read_map, read_signature, read_value};
+ghost use Rattle.morphism.specs.Answers.{Links};
+ghost use Rattle.morphism.specs.CoverTables.{assigned_of, setting_of, AreCoverings, IsChosen};
+
+use crate::LinkFault;
+use crate::chosen::{Chosen, value_at};
+use crate::covering_refusals::not_covered;
+use crate::link_coverings::Coverings;
+use lf_terms::{Class, FlatDecl, FlatSig, HeadMap, Image, Memory, Name, Value};
+use lf_translate::translate_class;
+use std::alloc::Global;
+
+/// The images of what the domain includes, in order.
+pub(crate) fn images(alloc: Global, coverings: &Coverings<'_>) -> Result<HeadMap, LinkFault>
+    requires { AreCoverings coverings.now }
+    ensures { Links read_map result (cover_all (setting_of coverings.now.covers) (assigned_of coverings.now.covers) [] (included_part (setting_of coverings.now.covers))) }
+{
+    let mut so_far = HeadMap::new(alloc);
+    let setting = &coverings.covers.setting;
+    if let Some(face) = setting.scope.faces.theory(setting.domain) {
+        add_all_own(alloc, coverings, &mut so_far, face.includes.as_slice())?;
+    }
+    Ok(so_far)
+}
+
+/// Adds the images of the own parts of theories, in order.
+fn add_all_own<'a>(
+    alloc: Global,
+    coverings: &'a Coverings<'_>,
+    so_far: &mut HeadMap,
+    theories: &'a [Name],
+) -> Result<(), LinkFault>
+    requires { AreCoverings coverings.now }
+    ensures { Links (λ _. read_map so_far.new) result (cover_all (setting_of coverings.now.covers) (assigned_of coverings.now.covers) (read_map so_far.old) (faces_meant.own_parts (setting_of coverings.now.covers).environment theories.now)) }
+{
+    for theory in theories {
+        let chosen = coverings.chosen(theory);
+        if let Some(own) = chosen.own {
+            add_own(alloc, coverings, so_far, chosen, own)?;
+        }
+    }
+    Ok(())
+}
+
+/// Adds the images of the own part of a theory.
+fn add_own(
+    alloc: Global,
+    coverings: &Coverings<'_>,
+    so_far: &mut HeadMap,
+    chosen: Chosen<'_>,
+    own: &FlatSig,
+) -> Result<(), LinkFault>
+    requires tables { AreCoverings coverings.now }
+    requires chosen { IsChosen (setting_of coverings.now.covers) (assigned_of coverings.now.covers) chosen }
+    ensures { Links (λ _. read_map so_far.new) result (cover_all (setting_of coverings.now.covers) (assigned_of coverings.now.covers) (read_map so_far.old) (read_signature own.now)) }
+{
+    for i in 0..own.len() {
+        if let Some(decl) = own.at(i) {
+            let value = covering_value(alloc, coverings, chosen, decl)?;
+            add_image(alloc, so_far, decl, value)?;
+        }
+    }
+    Ok(())
+}
+
+/// The value that the coverings of its theory give to a constant. In coherent faces the constants of an own part have the name of
+/// their theory, so that its covering is at hand.
+fn covering_value(
+    alloc: Global,
+    coverings: &Coverings<'_>,
+    chosen: Chosen<'_>,
+    decl: &FlatDecl,
+) -> Result<Value, LinkFault>
+    requires tables { AreCoverings coverings.now }
+    requires chosen { IsChosen (setting_of coverings.now.covers) (assigned_of coverings.now.covers) chosen }
+    ensures { Links read_value result (meant.covering_value (setting_of coverings.now.covers) (assigned_of coverings.now.covers) (read_declaration decl.now)) }
+{
+    match covered_value(alloc, coverings, chosen, decl)? {
+        Some(value) => Ok(value),
+        None => Err(not_covered(alloc, &coverings.covers.setting, &decl.name.theory)),
+    }
+}
+
+/// This value, if there is one.
+fn covered_value(
+    alloc: Global,
+    coverings: &Coverings<'_>,
+    chosen: Chosen<'_>,
+    decl: &FlatDecl,
+) -> Result<Option<Value>, Memory>
+    requires tables { AreCoverings coverings.now }
+    requires chosen { IsChosen (setting_of coverings.now.covers) (assigned_of coverings.now.covers) chosen }
+    ensures { IfOk result (λ value. option_map read_value value ≡ meant.covered_value (setting_of coverings.now.covers) (assigned_of coverings.now.covers) (read_declaration decl.now)) }
+{
+    if *chosen.theory == decl.name.theory {
+        value_at(alloc, chosen, &decl.name)
+    } else {
+        value_at(alloc, coverings.chosen(&decl.name.theory), &decl.name)
+    }
+}
+
+/// Adds the image of a constant: its class, translated along the map so far, and this value.
+fn add_image(
+    alloc: Global,
+    so_far: &mut HeadMap,
+    decl: &FlatDecl,
+    value: Value,
+) -> Result<(), Memory>
+    ensures { OnOk result (read_map so_far.new ≡ read_map so_far.old ++ mapping_to (read_map so_far.old) (read_declaration decl.now) (read_value value) ∷ []) }
+{
+    let class = translated_class(alloc, so_far, &decl.class)?;
+    let name = decl.name.copy(alloc)?;
+    match so_far.push(name, Image { class, value }) {
+        Ok(()) => Ok(()),
+        Err(fault) => {
+            // No constant is twice in coherent faces, so this is want of memory.
+            drop(fault);
+            Err(Memory)
+        }
+    }
+}
+
+/// A class, translated along the map so far.
+fn translated_class(alloc: Global, so_far: &HeadMap, class: &Class) -> Result<Class, Memory>
+    ensures { IfOk result (λ translated. read_class translated ≡ translation.translate_class (read_map so_far.now) (read_class class.now)) }
+{
+    match translate_class(alloc, so_far, class) {
+        Ok(class) => Ok(class),
+        // In coherent faces a class holds only constants that stand before it, which the map has; so this is want of memory.
+        Err(fault) => {
+            drop(fault);
+            Err(Memory)
+        }
+    }
+}

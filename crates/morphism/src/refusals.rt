@@ -1,0 +1,86 @@
+//! Refusals of links and of their assignments.
+ghost use Rattle.std.specs.Prelude.{◌≡◌, ◌∷◌, ◌++◌, [], IfOk, OnOk};
+ghost use Rattle.std.specs.Option.{option_copied};
+ghost use Rattle.link_meaning.specs.Assignments as passes;
+ghost use Rattle.link_meaning.specs.Refusals as refusals;
+ghost use Rattle.mmt_syntax.specs.Readings.{read_span};
+ghost use Rattle.mmt_interface.specs.ReadRules.{read_rule};
+ghost use Rattle.morphism.specs.Readings.{read_setting};
+ghost use Rattle.morphism.specs.Answers.{Links};
+ghost use Rattle.morphism.specs.Steps.{IsRefused, label_of};
+
+use crate::{LinkFault, Setting};
+use lf_terms::{Memory, Name, Path, Span};
+use mmt_interface::{Refusal, Rule};
+use std::alloc::Global;
+
+/// The label of an assignment to a path: the path, behind the name of the structure if the link is one.
+pub fn label_along(alloc: Global, setting: &Setting<'_>, path: &Path) -> Result<Path, Memory>
+    ensures { IfOk result (λ label. label ≡ passes.label_along (read_setting setting.now) path.now) }
+{
+    let Some(structure) = setting.structure else {
+        return path.copy(alloc);
+    };
+    let mut label = Path::new(alloc, structure.copy(alloc)?)?;
+    for name in path.as_slice() {
+        add(&mut label, name.copy(alloc)?)?;
+    }
+    Ok(label)
+}
+
+/// Adds a name at the end of a path.
+fn add(path: &mut Path, name: Name) -> Result<(), Memory>
+    ensures { OnOk result (path.new ≡ path.old ++ name ∷ []) }
+{
+    match path.push(name) {
+        Ok(()) => Ok(()),
+        Err(name) => {
+            drop(name);
+            Err(Memory)
+        }
+    }
+}
+
+/// The label of an assignment to a path; without one, the link's own.
+fn label(alloc: Global, setting: &Setting<'_>, target: Option<&Path>) -> Result<Path, Memory>
+    ensures { IfOk result (λ label. label ≡ label_of (read_setting setting.now) (option_copied target.entry)) }
+{
+    match target {
+        Some(path) => label_along(alloc, setting, path),
+        None => setting.at.path.copy(alloc),
+    }
+}
+
+/// A rule that is broken at a part of the text, by the assignment to a path, or by the link itself.
+pub(crate) fn broken(
+    alloc: Global,
+    setting: &Setting<'_>,
+    span: Span,
+    rule: Rule,
+    target: Option<&Path>,
+) -> LinkFault
+    ensures { IsRefused result (read_span span) (read_rule rule) (label_of (read_setting setting.now) (option_copied target.entry)) }
+{
+    match label(alloc, setting, target) {
+        Ok(label) => LinkFault::Broken(Refusal { span, rule, label }),
+        Err(Memory) => LinkFault::Memory,
+    }
+}
+
+/// Refuses the assignment to a path, unless the test holds.
+pub(crate) fn demand(
+    alloc: Global,
+    setting: &Setting<'_>,
+    holds: bool,
+    span: Span,
+    rule: Rule,
+    target: Option<&Path>,
+) -> Result<(), LinkFault>
+    ensures { Links (λ _. tt) result (refusals.demand holds (read_span span) (read_rule rule) (label_of (read_setting setting.now) (option_copied target.entry))) }
+{
+    if holds {
+        Ok(())
+    } else {
+        Err(broken(alloc, setting, span, rule, target))
+    }
+}

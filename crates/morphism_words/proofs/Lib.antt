@@ -1,0 +1,5 @@
+mod KnownWords
+pub mod ListsLeft
+mod Refusals
+pub mod RowsOfStructures
+mod RowsOfWords

@@ -1,0 +1,4 @@
+pub mod Readings
+pub mod Answers
+pub mod LentLinks
+pub mod Steps

@@ -1,0 +1,114 @@
+//! The constants that a structure induces.
+ghost use Rattle.std.specs.Prelude.{◌≡◌, ◌∷◌, ◌++◌, [], length, take, IfOk, OnErr, OnOk};
+ghost use Rattle.std.specs.Option.{option_map};
+ghost use Rattle.library_meaning.specs.Faces.{own_part};
+ghost use Rattle.term_trees.specs.Readings.{read_constant, read_declaration, read_image, read_map, read_signature, read_value};
+ghost use Rattle.mmt_interface.specs.Readings.{environment_of};
+ghost use Rattle.link_meaning.specs.Induced as meant;
+ghost use Rattle.struct_flatten.specs.Steps.{induced_into};
+
+use lf_terms::{FlatDecl, FlatSig, HeadMap, Image, Memory, Name, QName, Value};
+use link_passes::induced_constant;
+use mmt_interface::{Faces, StructFace};
+use std::alloc::Global;
+
+/// Adds the constants that a structure of the theory with this name induces: one for each own constant of its domain that
+/// has an image, in order. For want of memory some of them may have been added.
+pub(crate) fn add_induced(
+    alloc: Global,
+    faces: &Faces,
+    here: &Name,
+    face: &StructFace,
+    own: &mut FlatSig,
+) -> Result<(), Memory>
+    ensures ok { OnOk result (read_signature own.new ≡ read_signature own.old ++ induced_into here.now face.now.name (read_map face.now.map) (own_part (environment_of faces.now) face.now.domain)) }
+    ensures front { take (length own.old) own.new ≡ own.old }
+{
+    match faces.theory(&face.domain) {
+        Some(domain) => add_all(alloc, here, face, &domain.own, own),
+        None => Ok(()),
+    }
+}
+
+/// Adds those that are induced from these declarations.
+fn add_all(
+    alloc: Global,
+    here: &Name,
+    face: &StructFace,
+    declarations: &FlatSig,
+    own: &mut FlatSig,
+) -> Result<(), Memory>
+    ensures ok { OnOk result (read_signature own.new ≡ read_signature own.old ++ induced_into here.now face.now.name (read_map face.now.map) (read_signature declarations.now)) }
+    ensures front { take (length own.old) own.new ≡ own.old }
+{
+    for index in 0..declarations.len() {
+        if let Some(decl) = declarations.at(index) {
+            add_one(alloc, here, face, decl, own)?;
+        }
+    }
+    Ok(())
+}
+
+/// Adds the one that is induced from this declaration, if one is.
+fn add_one(
+    alloc: Global,
+    here: &Name,
+    face: &StructFace,
+    decl: &FlatDecl,
+    own: &mut FlatSig,
+) -> Result<(), Memory>
+    ensures ok { OnOk result (read_signature own.new ≡ read_signature own.old ++ induced_into here.now face.now.name (read_map face.now.map) (read_declaration decl.now ∷ [])) }
+    ensures front { take (length own.old) own.new ≡ own.old }
+{
+    match face.map.get(&decl.name) {
+        Some(image) => {
+            let constant = induced_constant(alloc, here, &face.name, &decl.name.path)?;
+            add(own, induced_with(alloc, constant, image)?)
+        }
+        None => Ok(()),
+    }
+}
+
+/// The constant with the class of an image, defined by the image's value.
+fn induced_with(alloc: Global, constant: QName, image: &Image) -> Result<FlatDecl, Memory>
+    ensures { IfOk result (λ decl. read_declaration decl ≡ meant.induced_with (read_constant constant) (read_image image.now)) }
+{
+    let value = defined_by(alloc, &constant, &image.value)?;
+    let class = image.class.copy(alloc)?;
+    Ok(FlatDecl {
+        name: constant,
+        class,
+        value,
+    })
+}
+
+/// The value, unless it is the constant itself.
+fn defined_by(alloc: Global, constant: &QName, value: &Value) -> Result<Option<Value>, Memory>
+    ensures { IfOk result (λ definition. option_map read_value definition ≡ meant.defined_by (read_constant constant.now) (read_value value.now)) }
+{
+    match value {
+        Value::Same(other) => {
+            if *other == *constant {
+                Ok(None)
+            } else {
+                Ok(Some(Value::Same(other.copy(alloc)?)))
+            }
+        }
+        _ => Ok(Some(value.copy(alloc)?)),
+    }
+}
+
+/// Adds a declaration.
+fn add(own: &mut FlatSig, decl: FlatDecl) -> Result<(), Memory>
+    ensures ok { OnOk result (read_signature own.new ≡ read_signature own.old ++ read_declaration decl ∷ []) }
+    ensures front { take (length own.old) own.new ≡ own.old }
+{
+    match own.push(decl) {
+        Ok(()) => Ok(()),
+        // The name of the structure is new, and the constants of its domain differ, so this is want of memory.
+        Err(fault) => {
+            drop(fault);
+            Err(Memory)
+        }
+    }
+}

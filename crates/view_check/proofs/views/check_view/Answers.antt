@@ -1,0 +1,34 @@
+use Rattle.std.proofs.Common.{◌∙◌}
+use Rattle.std.proofs.lemmas.Result.{err_from_is_err_and}
+use Rattle.link_meaning.specs.LinkMaps.{IsSettled}
+use Rattle.link_meaning.specs.Passes.{link_map}
+use Rattle.link_laws.proofs.Linked.{link_map_meets_equations}
+use Rattle.library_meaning.specs.Faces.{ViewFace}
+use Rattle.name_meaning.specs.Names.{Name}
+use Rattle.term_trees.specs.Readings.{read_map}
+use Rattle.mmt_syntax.specs.Readings.{read_assigns}
+use Rattle.mmt_interface.specs.Readings.{environment_of}
+use Rattle.mmt_interface.specs.declared.face.ViewFace as code
+use Rattle.link_passes.proofs.Chained.{refuses_nothing}
+use Rattle.view_check.specs.Answers.{setting_of}
+use Rattle.view_check.proofs.views.check_view.Goals as goal
+
+pub returns-in_err-map-clause-only : goal.returns-in_err-map-clause-only
+returns-in_err-map-clause-only c = λ along meets.
+    let setting = setting_of (environment_of c.args.faces.now) c.args.view.now in
+    let assigns = read_assigns c.args.view.now.assigns in
+    let settled : IsSettled setting = record { coherent = c.requires.coherent.known; theory = c.requires.domain } in
+    let p = err_from_is_err_and c.from_residual.result c.from_residual.ensures.1 in
+    rw (p.1, p.2) (refuses_nothing code.ViewFace c.in_err-map.field-0.0 (link_map setting assigns) along ((link_map_meets_equations setting assigns along settled).1 meets) c.in_err-map.ensures)
+
+pub returns-clause-map : goal.returns-clause-map
+returns-clause-map c =
+    let setting = setting_of (environment_of c.args.faces.now) c.args.view.now in
+    let assigns = read_assigns c.args.view.now.assigns in
+    let along = read_map c.in_ok-map.map in
+    let settled : IsSettled setting = record { coherent = c.requires.coherent.known; theory = c.requires.domain } in
+    let named : Name → Name → Name → ViewFace = λ n d e. record { name = n; domain = d; codomain = e; map = along } in (
+      along,
+      (link_map_meets_equations setting assigns along settled).0 c.in_ok-map.ensures,
+      (λ i. named ((c.in_ok-copy.ensures ∙ c.first_name.ensures) i) ((c.in_ok-copy-2.ensures ∙ c.first_name-2.ensures) i) ((c.in_ok-copy-3.ensures ∙ c.first_name-3.ensures) i)),
+    )
