@@ -1,0 +1,9 @@
+pub mod Crossing
+pub mod AnsweredFaces
+pub mod Judged
+pub mod FirstAmong
+pub mod SearchedNames
+pub mod NamesLeft
+pub mod Cyclic
+pub mod LibraryGraph
+pub mod FromTexts

@@ -1,0 +1,28 @@
+use Rattle.std.proofs.Common.{not, [], ◌∷◌, ◌++◌, sym, ap, ◌∙◌, subst}
+use Rattle.std.proofs.lemmas.Bool.{and_parts}
+use Rattle.std.specs.Option.{option_copied}
+use Rattle.indexmap.proofs.MapLemmas.{OnOk-map}
+use Rattle.log_meaning.specs.Log.{library_of, is_present}
+use Rattle.walk_meaning.specs.Walks.{is_ungrounded}
+use Rattle.text_meaning.specs.Dependencies.{dependencies}
+use Rattle.module_check.specs.Known.{AreVerdicts}
+use Rattle.module_check.proofs.FromTexts.{text_there, given_here, verdicts_more}
+use Rattle.module_check.proofs.from_scratch.add_judged.Goals as goal
+
+pub unreachable-requires : goal.unreachable-requires
+unreachable-requires c =
+    let L = library_of c.args.log.now in
+    let n = c.args.name.now in
+    text_there L n (option_copied c.text.result) c.text.ensures.text (and_parts (is_present L n) (not (is_ungrounded dependencies L n)) c.requires.grounded).0 (ap option_copied c.in_default.is)
+
+pub judged-requires-clause-given : goal.judged-requires-clause-given
+judged-requires-clause-given c =
+    (library_of c.args.log.now, given_here c.args.log.now c.args.name.now c.in-Some.text.now c.in_ok-answers.answers c.in-Some.ensures.text c.requires.grounded c.in_ok-answers.ensures)
+
+pub returns : goal.returns
+returns c =
+    let L = library_of c.args.log.now in
+    let here = given_here c.args.log.now c.args.name.now c.in-Some.text.now c.in_ok-answers.answers c.in-Some.ensures.text c.requires.grounded c.in_ok-answers.ensures in
+    OnOk-map c.add.result _ _
+    (λ h. subst (AreVerdicts L) (sym (h ∙ ap (λ n. c.args.faces.now ++ (n, c.in_ok-verdict.verdict) ∷ []) c.in_ok-copy.ensures)) (verdicts_more L c.args.faces.now c.args.name.now c.in_ok-verdict.verdict c.requires.verdicts (c.in_ok-verdict.ensures L here)))
+    c.add.ensures

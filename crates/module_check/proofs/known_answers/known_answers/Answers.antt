@@ -1,0 +1,44 @@
+use Rattle.std.proofs.Common.{◌≡◌, ◌+◌, suc, not, List, Some, filter, map, slice_get, sym, ap, ◌∙◌, arith}
+use Rattle.std.proofs.lemmas.Option.{slice_get-get_or}
+use Rattle.name_meaning.specs.Names.{Name, same_name, is_ascending}
+use Rattle.log_meaning.specs.Log.{library_of}
+use Rattle.walk_laws.proofs.Graphs.{graph_reaches}
+use Rattle.walk_laws.proofs.Reaching.{reach_ascending}
+use Rattle.walk_meaning.specs.Subject.{present_answer, answers_of}
+use Rattle.text_meaning.specs.Dependencies.{dependencies}
+use Rattle.verdict_meaning.specs.Rounds.{modules}
+use Rattle.mmt_interface.specs.Readings.{read_verdict}
+use Rattle.verdict_board.proofs.Reports.{answers_more, answers_table, all_taken}
+use Rattle.module_check.proofs.known_answers.known_answers.Goals as goal
+
+pub push-requires : goal.push-requires
+push-requires c =
+    let L = library_of c.args.log.now in
+    let xs = c.as_slice-other-items.result.now in
+    let here : slice_get xs c.loop-other.other-index ≡ Some c.other-item.result = slice_get-get_or xs c.loop-other.other-index c.other-item.result c.loop-other-test.true ∙ ap Some (sym c.other-item.is) in
+    let f = present_answer modules L in
+    let p = λ (other : Name). not (same_name c.args.name.now other) in
+    rw c.in_ok-copy.ensures (answers_table read_verdict f p xs (suc c.loop-other.other-index) _
+    (ap is_ascending (c.as_slice-other-items.ensures ∙ c.in_ok-reached.ensures ∙ graph_reaches c.args.graph.now dependencies L c.requires.holds c.args.name.now) ∙ reach_ascending dependencies L c.args.name.now)
+    (answers_more read_verdict f p xs c.loop-other.other-index c.other-item.result c.loop-other.answers c.in_ok-answer.answer here (ap not (sym c.eq.ensures ∙ c.if-eq.false)) c.in_ok-answer.ensures c.loop-other.invariant))
+
+pub loop-other-preserved : goal.loop-other-preserved
+loop-other-preserved c =
+    let xs = c.as_slice-other-items.result.now in
+    let here : slice_get xs c.loop-other.other-index ≡ Some c.other-item.result = slice_get-get_or xs c.loop-other.other-index c.other-item.result c.loop-other-test.true ∙ ap Some (sym c.other-item.is) in
+    let f = present_answer modules (library_of c.args.log.now) in
+    let p = λ (other : Name). not (same_name c.args.name.now other) in
+    let one : c.loop-other.other-index + 1 ≡ suc c.loop-other.other-index = omega arith in
+    rw (one, c.in-Ok.ensures.ok, c.in_ok-copy.ensures)
+    (answers_more read_verdict f p xs c.loop-other.other-index c.other-item.result c.loop-other.answers c.in_ok-answer.answer here (ap not (sym c.eq.ensures ∙ c.if-eq.false)) c.in_ok-answer.ensures c.loop-other.invariant)
+
+pub returns : goal.returns
+unfolding answers_of
+returns c =
+    let L = library_of c.args.log.now in
+    let f = present_answer modules L in
+    let p = λ (other : Name). not (same_name c.args.name.now other) in
+    let past = c.loop-other-test.false in
+    c.loop-other.invariant
+    ∙ ap (λ (xs : List Name). map (λ (other : Name). (other, f other)) (filter p xs))
+    (all_taken c.as_slice-other-items.result.now c.loop-other.other-index (omega (arith, past)) ∙ c.as_slice-other-items.ensures ∙ c.in_ok-reached.ensures ∙ graph_reaches c.args.graph.now dependencies L c.requires.holds c.args.name.now)

@@ -1,0 +1,50 @@
+//! The faces that a job's answers give.
+ghost use Rattle.std.specs.Prelude.{◌≡◌, ◌∷◌, ◌++◌, [], IfOk, OnOk};
+ghost use Rattle.std.specs.Option.{option_copied};
+ghost use Rattle.module_check.specs.PresentRows.{present_row, present_rows};
+
+use lf_terms::{Memory, Name};
+use mmt_interface::{Faces, Verdict};
+use module_graph::Answers;
+use std::alloc::Global;
+
+/// The verdicts of the modules that are present, under their names. They are shared.
+pub(crate) fn faces_of(alloc: Global, answers: &Answers<Verdict>) -> Result<Faces, Memory>
+    ensures { IfOk result (λ faces. faces ≡ present_rows answers.now) }
+{
+    let mut faces = Faces::new(alloc);
+    for place in 0..answers.len() {
+        if let Some((name, verdict)) = answers.at(place) {
+            add_present(alloc, &mut faces, name, verdict)?;
+        }
+    }
+    Ok(faces)
+}
+
+/// Adds the verdict of a module that is present.
+fn add_present(
+    alloc: Global,
+    faces: &mut Faces,
+    name: &Name,
+    verdict: Option<&Verdict>,
+) -> Result<(), Memory>
+    ensures { OnOk result (faces.new ≡ faces.old ++ present_row name.now (option_copied verdict.entry)) }
+{
+    match verdict {
+        Some(verdict) => add(faces, name.copy(alloc)?, verdict.share()?),
+        None => Ok(()),
+    }
+}
+
+/// Adds a verdict. Names of answers differ, so that only memory can lack.
+pub(crate) fn add(faces: &mut Faces, name: Name, verdict: Verdict) -> Result<(), Memory>
+    ensures { OnOk result (faces.new ≡ faces.old ++ (name, verdict) ∷ []) }
+{
+    match faces.push(name, verdict) {
+        Ok(()) => Ok(()),
+        Err(fault) => {
+            drop(fault);
+            Err(Memory)
+        }
+    }
+}

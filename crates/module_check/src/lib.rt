@@ -1,0 +1,20 @@
+//! Verdicts: what a module is judged to be, from its text and the verdicts of what it reaches (this profile).
+#![tactic(auto)]
+
+mod answered;
+mod cycles;
+mod dependencies;
+mod from_scratch;
+mod judging;
+mod known_answers;
+mod library_graph;
+mod mentions;
+mod reading;
+mod search;
+mod subject;
+mod ungrounded;
+mod verdicts;
+
+pub use from_scratch::scratch;
+pub use judging::judge;
+pub use subject::Mmt;

@@ -1,0 +1,9 @@
+//! Libraries and the verdicts on their modules, judged from their texts alone: worked cases, in tables, with ample memory.
+#![tactic(auto)]
+
+#[cfg(test)]
+mod libraries;
+#[cfg(test)]
+mod link_tests;
+#[cfg(test)]
+mod verdict_tests;

@@ -1,0 +1,4 @@
+pub mod NamesUsed
+pub mod Built
+pub mod Declared
+pub mod WholeModules

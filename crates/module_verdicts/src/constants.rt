@@ -1,0 +1,96 @@
+//! Declared constants.
+ghost use Rattle.std.specs.Prelude.{◌≡◌, OnOk};
+ghost use Rattle.std.specs.Option.{option_map};
+ghost use Rattle.expansion_meaning.specs.Values.{expand_class, expand_value};
+ghost use Rattle.link_meaning.specs.Refusals as refusals;
+ghost use Rattle.verdict_meaning.specs.Modules as modules;
+ghost use Rattle.term_trees.specs.Readings.{read_class, read_declaration, read_value};
+ghost use Rattle.mmt_syntax.specs.Readings.{read_expr, read_written};
+ghost use Rattle.mmt_interface.specs.Readings.{read_theory};
+ghost use Rattle.names.specs.Readings.{read_scope};
+ghost use Rattle.morphism.specs.Answers.{Links};
+ghost use Rattle.module_verdicts.specs.Steps.{constant_answer, with_declaration};
+
+use crate::fault::labelled;
+use crate::modules::first_name;
+use crate::used::own_name;
+use elaborate::{elab_class, elab_value};
+use lf_terms::{Class, FlatDecl, Memory, Name, Path, Value};
+use mmt_interface::TheoryFace;
+use mmt_syntax::{Expr, Written};
+use morphism::LinkFault;
+use names::Scope;
+use std::alloc::Global;
+
+/// The constant that is declared with this class and this value.
+pub(crate) fn constant(
+    alloc: Global,
+    scope: &Scope<'_>,
+    theory: &Name,
+    name: &Written,
+    class: &Expr,
+    value: &Option<Expr>,
+) -> Result<FlatDecl, LinkFault>
+    ensures { Links read_declaration result (constant_answer (read_scope scope.now) theory.now (read_written name.now) (read_expr class.now) (option_map read_expr value.now)) }
+{
+    let constant = own_name(alloc, theory, first_name(name))?;
+    let class = declared_class(alloc, scope, &name.path, class)?;
+    match declared_value(alloc, scope, &name.path, &class, value) {
+        Ok(value) => Ok(FlatDecl {
+            name: constant,
+            class,
+            value,
+        }),
+        Err(fault) => {
+            drop(class);
+            Err(fault)
+        }
+    }
+}
+
+/// The class that an expression stands for; a fault has the label of the declaration.
+fn declared_class(
+    alloc: Global,
+    scope: &Scope<'_>,
+    label: &Path,
+    class: &Expr,
+) -> Result<Class, LinkFault>
+    ensures { Links read_class result (refusals.labelled label.now (expand_class (read_scope scope.now) (read_expr class.now))) }
+{
+    match elab_class(alloc, scope, class) {
+        Ok(class) => Ok(class),
+        Err(fault) => Err(labelled(alloc, fault, label)),
+    }
+}
+
+/// The value of a declaration that has one.
+fn declared_value(
+    alloc: Global,
+    scope: &Scope<'_>,
+    label: &Path,
+    class: &Class,
+    value: &Option<Expr>,
+) -> Result<Option<Value>, LinkFault>
+    ensures { Links (option_map read_value) result (modules.declared_value (read_scope scope.now) label.now (read_class class.now) (option_map read_expr value.now)) }
+{
+    match value {
+        Some(value) => match elab_value(alloc, scope, value, class) {
+            Ok(value) => Ok(Some(value)),
+            Err(fault) => Err(labelled(alloc, fault, label)),
+        },
+        None => Ok(None),
+    }
+}
+
+/// Adds a constant to the theory. Its name is unused; were it not, the answer would be want of memory.
+pub(crate) fn add(here: &mut TheoryFace, decl: FlatDecl) -> Result<(), Memory>
+    ensures { OnOk result (read_theory here.new ≡ with_declaration (read_theory here.old) (read_declaration decl)) }
+{
+    match here.own.push(decl) {
+        Ok(()) => Ok(()),
+        Err(fault) => {
+            drop(fault);
+            Err(Memory)
+        }
+    }
+}
