@@ -1,3 +1,4 @@
 pub mod ReadRules
 pub mod Readings
 pub mod CoherentFaces
+pub mod Carriages
