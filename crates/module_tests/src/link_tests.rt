@@ -5,7 +5,8 @@ use std::alloc::Global;
 use std::test::Fail;
 
 /// A monoid over first-order logic, with a structure from a magma; and a theory that does not include the logic.
-const MONOID: &str = "FOL\n%sig FOL = {\ni : type.\no : type.\npf : o -> type.\neq : i -> i -> o.\nall : (i -> o) -> o.\n}.\n\n\
+const MONOID: &str =
+    "FOL\n%sig FOL = {\ni : type.\no : type.\npf : o -> type.\neq : i -> i -> o.\nall : (i -> o) -> o.\n}.\n\n\
 Magma\n%sig Magma = {\n%include FOL.\nop : i -> i -> i.\n}.\n\n\
 Monoid\n%sig Monoid = {\n%include FOL.\n%struct mag : Magma.\ne : i.\nleft : {x:i} pf (eq (mag.op e x) x).\nright : {x:i} pf (eq (mag.op x e) x).\n}.\n\n\
 Bare\n%sig Bare = {\n%struct m : Magma.\n}.\n";
@@ -69,10 +70,16 @@ fn structures(rt: HostRuntime) -> Result<(), Fail> {
             MONOID,
             "FOL theory 5\nMagma theory 6\nMonoid theory 9\nBare refused 2:9 include-not-covered FOL",
         ),
-        (TWO_COPIES, "Car theory 2\nTwo theory 7\nMixed refused 7:16 mismatch w"),
+        (
+            TWO_COPIES,
+            "Car theory 2\nTwo theory 7\nMixed refused 7:16 mismatch w",
+        ),
         (ASSIGNED, "Nat theory 6"),
         (RING, "Set theory 1\nMag theory 2\nRing theory 4"),
-        (WORDS, "Mon theory 3\nShared theory 5\nRow theory 5\nByPath theory 5"),
+        (
+            WORDS,
+            "Mon theory 3\nShared theory 5\nRow theory 5\nByPath theory 5",
+        ),
         (
             WORDS,
             "Overlap refused 3:43 double-assignment n.u.a\nBehind refused 3:43 double-assignment n.u\nApart refused 3:40 morphism-ends n.u",

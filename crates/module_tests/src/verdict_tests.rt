@@ -45,7 +45,10 @@ fn theories(rt: HostRuntime) -> Result<(), Fail> {
         (DIAMOND, "A theory 1\nB theory 2\nC theory 2\nD theory 4"),
         (DIAMOND_OF_TWO, "D refused 4:5 ambiguous-name d\nE theory 6"),
         (ETA_SHORT, "E refused 5:11 not-canonical d\nF theory 4"),
-        (CYCLE, "A refused 2:10 cycle B\nB refused 2:10 cycle A\nC refused 2:10 cycle A"),
+        (
+            CYCLE,
+            "A refused 2:10 cycle B\nB refused 2:10 cycle A\nC refused 2:10 cycle A",
+        ),
         (
             BROKEN_CYCLE,
             "A refused 2:10 unknown-module B\nC refused 2:10 dependency-refused A",
@@ -106,7 +109,9 @@ fn a_chain_of_inclusions(rt: HostRuntime) -> Result<(), Fail> {
     library.push_str("T0\n%sig T0 = {\na : type.\n}.\n")?;
     for i in 1..50u32 {
         let before = i - 1;
-        let module = format!(in alloc; "\nT{i}\n%sig T{i} = {{\n%include T{before}.\nc : a.\n}}.\n")?;
+        let module = format!(in alloc;
+            "\nT{i}\n%sig T{i} = {{\n%include T{before}.\nc : a.\n}}.\n"
+        )?;
         library.push_str(module.as_str())?;
     }
     assert!(rt; holds(alloc, library.as_str(), "T0 theory 1\nT49 theory 50")?);
@@ -120,7 +125,9 @@ fn wide(alloc: Global, constants: u32) -> Result<String, Fail> {
     for i in 1..constants {
         text.push_str(format!(in alloc; "c{i} : a -> a.\n")?.as_str())?;
     }
-    text.push_str("}.\n\nS\n%sig S = { %struct w : W. d : w.a -> w.a. }.\n\nV\n%view V : W -> W = {\na := a.\n")?;
+    text.push_str(
+        "}.\n\nS\n%sig S = { %struct w : W. d : w.a -> w.a. }.\n\nV\n%view V : W -> W = {\na := a.\n",
+    )?;
     for i in 1..constants {
         text.push_str(format!(in alloc; "c{i} := [x] c{i} x.\n")?.as_str())?;
     }
@@ -132,6 +139,12 @@ fn wide(alloc: Global, constants: u32) -> Result<String, Fail> {
 fn a_thousand_constants(rt: HostRuntime) -> Result<(), Fail> {
     let alloc = rt.alloc();
     let library = wide(alloc, 1_000)?;
-    assert!(rt; holds(alloc, library.as_str(), "W theory 1000\nS theory 1001\nV view 1000")?);
+    assert!(rt;
+        holds(
+            alloc,
+            library.as_str(),
+            "W theory 1000\nS theory 1001\nV view 1000"
+        )?
+    );
     Ok(())
 }
