@@ -2,6 +2,8 @@
 #![tactic(auto)]
 
 #[cfg(test)]
+mod flat_tests;
+#[cfg(test)]
 mod line_tests;
 #[cfg(test)]
 mod term_tests;

@@ -1,2 +1,4 @@
 pub mod FileWords
 pub mod ToldLines
+pub mod FlatTexts
+pub mod CarryLines

@@ -1,5 +1,5 @@
 -- The line of what is told of a name, where its places are counted, and which numbers it has (this profile).
-use Rattle.std.specs.Prelude.{◌≡◌, ℕ, List, [], ◌∷◌, ◌++◌, ◌+◌, ◌-◌, ◌≤◌, ◌^◌, ◌==◌, length, take, drop, Option, Some, None, ⊤, if◌then◌else◌, codes}
+use Rattle.std.specs.Prelude.{◌≡◌, ℕ, List, [], ◌++◌, ◌+◌, ◌-◌, ◌≤◌, ◌^◌, ◌==◌, length, take, drop, Option, Some, None, ⊤, if◌then◌else◌, codes}
 use Rattle.std.specs.Fmt.{decimal}
 use Rattle.name_meaning.specs.Names.{Name}
 use Rattle.text_meaning.specs.Places.{line_at, column_at}
@@ -9,7 +9,7 @@ use Rattle.printing_meaning.specs.VerdictLines.{judged_line}
 use Rattle.printing_meaning.specs.FolderLines.{place_in_file}
 use Rattle.judged_meaning.specs.JudgingByRules.{judged_by}
 use Rattle.mmt_syntax.specs.declared.origin.Origin.{Origin}
-use Rattle.mmt_interface.specs.Readings.{read_theory, read_verdict, read_view}
+use Rattle.mmt_interface.specs.Readings.{read_theory, read_verdict}
 use Rattle.mmt_interface.specs.declared.verdict.Interface.TheVariants.{Theory, View}
 use Rattle.mmt_interface.specs.declared.verdict.Verdict as verdict
 use Rattle.mmt_interface.specs.declared.verdict.Verdict.TheVariants.{Accepted, Refused}

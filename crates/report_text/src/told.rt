@@ -68,10 +68,10 @@ fn verdict_line(
     match verdict {
         Verdict::Accepted(interface) => match interface.get() {
             Interface::Theory { size, .. } => {
-                accepted_line(alloc, name, version, b" accepted theory ", *size)
+                counted_line(alloc, name, version, b" accepted theory ", *size)
             }
             Interface::View(face) => {
-                accepted_line(
+                counted_line(
                     alloc,
                     name,
                     version,
@@ -87,7 +87,8 @@ fn verdict_line(
     }
 }
 
-fn accepted_line(
+/// A line that ends in words and a number behind its name and version.
+pub(crate) fn counted_line(
     alloc: Global,
     name: &Name,
     version: u32,
