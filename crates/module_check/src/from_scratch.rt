@@ -6,6 +6,7 @@ ghost use Rattle.text_meaning.specs.Dependencies.{dependencies};
 ghost use Rattle.walk_meaning.specs.Graphs.{HoldsDependencies, graph_grounded};
 ghost use Rattle.walk_meaning.specs.Walks.{is_grounded, is_ungrounded, ungrounded_names};
 ghost use Rattle.verdict_meaning.specs.Rounds.{verdict_of};
+ghost use Rattle.mmt_interface.specs.CoherentFaces.{AreCoherent};
 ghost use Rattle.mmt_interface.specs.Readings.{read_faces};
 ghost use Rattle.module_check.specs.Known.{AreVerdicts, HasEach};
 
@@ -23,9 +24,10 @@ use std::alloc::Global;
 
 /// The verdict on each module of a log's library, from the texts alone. First come the ungrounded modules, then the grounded
 /// ones, each after those that it reaches. A grounded module is judged once. A name that is not there is that of an absent
-/// module.
+/// module. The verdicts are coherent, as calls that take faces ask.
 pub fn scratch(alloc: Global, log: &Log) -> Result<Faces, Memory>
-    ensures { IfOk result (λ faces. (name : List ℕ) → row_of (read_faces faces) name ≡ verdict_of (library_of log.now) name) }
+    ensures verdicts { IfOk result (λ faces. (name : List ℕ) → row_of (read_faces faces) name ≡ verdict_of (library_of log.now) name) }
+    ensures coherent { IfOk result (λ faces. AreCoherent faces) }
 {
     let graph = graph_of(alloc, log)?;
     let known = grounded(alloc, &graph)?;

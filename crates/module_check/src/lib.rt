@@ -16,5 +16,6 @@ mod ungrounded;
 mod verdicts;
 
 pub use from_scratch::scratch;
+pub use judgement_carrying::carry;
 pub use judging::judge;
 pub use subject::Mmt;
