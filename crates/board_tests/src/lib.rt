@@ -5,6 +5,6 @@
 mod graph_tests;
 #[cfg(test)]
 mod log_tests;
-mod sizes;
+pub mod sizes;
 #[cfg(test)]
 mod subject_tests;

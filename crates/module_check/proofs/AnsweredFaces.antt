@@ -122,12 +122,16 @@ module _ (library : Library) (name : Name) (text : Text) (rows : Rows (Option Ve
       (sym (row_mapped read_verdict (present_rows rows) name) ∙ answered name
       ∙ ap (λ b. cond b (present_answer modules library name) None) (apart (is_among (others_reached library name) name) refl))
 
+  -- A verdict that is found under a name is the library's on a name that the module reaches.
+  pub answered_verdict : (n : Name) (verdict : verdicts.Verdict) → row_of (read_faces (present_rows rows)) n ≡ Some verdict → (is_among (others_reached library name) n ≡ true) × (verdict_of library n ≡ Some verdict)
+  answered_verdict n verdict h = found (is_among (others_reached library name) n) (is_present library n) (verdict_of library n) verdict (sym (answered n) ∙ h)
+
   -- They are coherent.
   pub answered_coherent : AreCoherent (present_rows rows)
   answered_coherent =
       record {
         known = subst IsCoherent (sym known) (grounded_know_coherent library name given.grounded);
         sizes = λ n face size h.
-            (let f = found (is_among (others_reached library name) n) (is_present library n) (verdict_of library n) (verdicts.Accepted (verdicts.Theory face size)) (sym (answered n) ∙ h) in
+            (let f = answered_verdict n (verdicts.Accepted (verdicts.Theory face size)) h in
             grounded_know_sizes library name n face size given.grounded f.0 f.1 ∙ ap (λ (z : faces.Environment). length (flat_signature z face)) (sym known));
       }

@@ -21,6 +21,20 @@ pub(crate) fn faces_of(alloc: Global, answers: &Answers<Verdict>) -> Result<Face
     Ok(faces)
 }
 
+/// The same with the verdict on the module itself behind them.
+pub fn faces_with(
+    alloc: Global,
+    answers: &Answers<Verdict>,
+    name: &Name,
+    verdict: &Verdict,
+) -> Result<Faces, Memory>
+    ensures { IfOk result (λ faces. faces ≡ present_rows answers.now ++ (name.now, verdict.now) ∷ []) }
+{
+    let mut faces = faces_of(alloc, answers)?;
+    add(&mut faces, name.copy(alloc)?, verdict.share()?)?;
+    Ok(faces)
+}
+
 /// Adds the verdict of a module that is present.
 fn add_present(
     alloc: Global,

@@ -15,6 +15,7 @@ mod subject;
 mod ungrounded;
 mod verdicts;
 
+pub use answered::faces_with;
 pub use from_scratch::scratch;
 pub use judgement_carrying::carry;
 pub use judging::judge;

@@ -1,1 +1,3 @@
+pub mod CarriedAlike
+pub mod ExpandedAlike
 pub mod PrintedInReach

@@ -73,6 +73,9 @@ module _ (library : Library) (name : Name) (first second : Environment)
     pub view_line_same : (version : ℕ) → view_line first name version face ≡ view_line second name version face
     view_line_same version = ap (λ (s : Signature). named_at name version ++ codes " accepted view " ++ decimal (length s) ++ end_of_line) (flat_both face.domain domain_reached)
 
+    pub codomain_seen : seen_from first face.codomain ≡ seen_from second face.codomain
+    codomain_seen = seen_both face.codomain codomain_reached
+
     pub view_text_same : (version : ℕ) → view_text first name version face ≡ view_text second name version face
     view_text_same version =
         ap (λ (s : Signature). named_at name version ++ codes " map " ++ decimal (length s) ++ end_of_line ++ flat_map (mapping_line (seen_from first face.domain) (seen_from first face.codomain)) face.map) (flat_both face.domain domain_reached)
@@ -97,4 +100,5 @@ faces_print_views library names name face have known =
       known = view_there library name (known_of names (verdicts library)) (told_by library) f g face known;
       line = view_line_same library name (known_of names (verdicts library)) (told_by library) f g face known;
       text = view_text_same library name (known_of names (verdicts library)) (told_by library) f g face known;
+      seen = codomain_seen library name (known_of names (verdicts library)) (told_by library) f g face known;
     }

@@ -1,0 +1,4 @@
+pub mod Turns
+pub mod Ending
+pub mod Results
+pub mod Staying

@@ -1,0 +1,12 @@
+//! A board of verdicts that several threads share: each call takes one turn with the board, and the history is one for all.
+#![tactic(auto)]
+
+mod calls;
+mod entry;
+pub mod job_laws;
+mod seated;
+mod shared_board;
+
+pub use entry::SeenEntry;
+pub use seated::{BoardPass, Seated};
+pub use shared_board::SharedBoard;

@@ -1,0 +1,6 @@
+//! Tests of a board that threads share: workers judge what the front puts, and what they leave.
+#![tactic(auto)]
+
+mod runs;
+#[cfg(test)]
+mod tests;

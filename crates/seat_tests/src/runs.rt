@@ -1,0 +1,189 @@
+//! Threads that share a board, and what they leave.
+ghost use Rattle.std.specs.Prelude.{◌≡◌, ◌<◌, []};
+ghost use Rattle.turn_meaning.specs.Passes.{IsIdleOf};
+ghost use Rattle.board_seats.specs.Seats.{Keeps};
+
+use board_seats::{BoardPass, SharedBoard};
+use board_tests::sizes::Sizes;
+use crossbeam_utils::Backoff;
+use edit_log::{Edit, Edited};
+use lf_terms::{Arc, Bytes, Memory, Name, Steps};
+use mmt_outside::OpenGate;
+use std::alloc::Global;
+use std::marker::Brand;
+use std::sync::Wait;
+use std::sync::ledger::{Blank, Ledger};
+use std::thread::{Threads, join};
+use verdict_board::{Board, Told};
+use worker_loop::work;
+
+pub type Shared = SharedBoard<Sizes>;
+
+pub type Seat = BoardPass<Sizes>;
+
+/// The edit that puts a module with an empty text.
+pub fn empty_module(alloc: Global, name: &Name) -> Result<Edit, Memory> {
+    Ok(Edit::Put {
+        name: name.copy(alloc)?,
+        text: Arc::new(alloc, Bytes::new(alloc))?,
+    })
+}
+
+/// Puts a module with an empty text under each of these names. The answer is whether each edit was made.
+pub fn put_all<R: Wait>(
+    rt: &R,
+    alloc: Global,
+    board: &Shared,
+    pass: &mut Seat,
+    names: &[Name],
+) -> Result<bool, Memory>
+    requires idle { IsIdleOf board.now pass.old }
+    requires front { pass.old.number ≡ 0 }
+    ensures { Keeps pass.old pass.new }
+{
+    let mut all = true;
+    for name in names {
+        let edit = empty_module(alloc, name)?;
+        let made = matches!(board.edit(rt, alloc, pass, edit), Ok(Edited::Made(_)));
+        all = all && made;
+    }
+    Ok(all)
+}
+
+/// Waits until the verdict of a name is told.
+pub fn wait_for<R: Wait>(
+    rt: &R,
+    board: &Shared,
+    pass: &mut Seat,
+    name: &Name,
+) -> Result<usize, Memory>
+    requires idle { IsIdleOf board.now pass.old }
+    ensures { Keeps pass.old pass.new }
+{
+    let backoff = Backoff::new();
+    for _ in rt.forever() {
+        if let Told::Verdict { answer, .. } = board.report(rt, pass, name)? {
+            return Ok(answer);
+        }
+        backoff.snooze();
+    }
+    unreachable!()
+}
+
+/// Waits until the verdicts of all names are told. The answer is whether each is the size of an empty text.
+pub fn wait_for_all<R: Wait>(
+    rt: &R,
+    board: &Shared,
+    pass: &mut Seat,
+    names: &[Name],
+) -> Result<bool, Memory>
+    requires idle { IsIdleOf board.now pass.old }
+    ensures { Keeps pass.old pass.new }
+{
+    let mut all = true;
+    for name in names {
+        let size = wait_for(rt, board, pass, name)?;
+        all = all && size == 0;
+    }
+    Ok(all)
+}
+
+/// The front: it puts the modules, waits for their verdicts, and closes the board.
+pub fn lead<R: Wait>(
+    rt: &R,
+    alloc: Global,
+    board: &Shared,
+    mut pass: Seat,
+    names: &[Name],
+) -> (Seat, bool)
+    requires idle { IsIdleOf board.now pass }
+    requires front { pass.number ≡ 0 }
+    ensures { Keeps pass result.0 }
+{
+    let put = matches!(put_all(rt, alloc, board, &mut pass, names), Ok(true));
+    let told = put && matches!(wait_for_all(rt, board, &mut pass, names), Ok(true));
+    board.close(rt, &mut pass);
+    (pass, told)
+}
+
+fn work_on<L: Ledger, R: Wait>(
+    rt: &R,
+    alloc: Global,
+    board: &Shared,
+    mut pass: Seat,
+    blank: Blank,
+) -> (Seat, bool)
+    requires name { blank.name ≡ L.name }
+    requires parts { blank.parts ≡ L.parts }
+    requires some { 0 < blank.parts }
+    requires idle { IsIdleOf board.now pass }
+    ensures { Keeps pass result.0 }
+{
+    let mut steps = Steps::<L>::new(blank);
+    let done = work(rt, alloc, board, &Sizes, &mut pass, &OpenGate, &mut steps);
+    (pass, done.is_ok())
+}
+
+/// A worker, until the board is closed.
+pub fn follow<R: Wait>(rt: &R, alloc: Global, board: &Shared, pass: Seat) -> (Seat, bool)
+    requires idle { IsIdleOf board.now pass }
+    ensures { Keeps pass result.0 }
+{
+    work_on::<Brand, R>(rt, alloc, board, pass, Blank::new(1))
+}
+
+/// Two workers.
+pub fn follow_by_two<R: Threads + Wait + Sync>(
+    rt: &R,
+    alloc: Global,
+    board: &Shared,
+    one: Seat,
+    two: Seat,
+) -> ((Seat, bool), (Seat, bool))
+    requires one { IsIdleOf board.now one }
+    requires two { IsIdleOf board.now two }
+    ensures one { Keeps one result.0.0 }
+    ensures two { Keeps two result.1.0 }
+{
+    join(
+        rt,
+        || -> (Seat, bool)
+            requires { IsIdleOf board.now one }
+            ensures { Keeps one result.0 }
+        { follow(rt, alloc, board, one) },
+        || -> (Seat, bool)
+            requires { IsIdleOf board.now two }
+            ensures { Keeps two result.0 }
+        { follow(rt, alloc, board, two) },
+    )
+}
+
+/// A front and two workers, in three threads. The answer is the board, and whether all verdicts were told and all work was done.
+pub fn by_three<R: Threads + Wait + Sync>(
+    rt: &R,
+    alloc: Global,
+    board: Shared,
+    mut first: Seat,
+    names: &[Name],
+) -> Result<(Board<Sizes>, bool), Memory>
+    requires { IsIdleOf board first × (first.number ≡ 0) × (first.made ≡ 1) × (first.joined ≡ []) }
+{
+    let one = board.split(&mut first)?;
+    let two = board.split(&mut first)?;
+    let shared = &board;
+    let ((mut first, told), (one, two)) = join(
+        rt,
+        || -> (Seat, bool)
+            requires { IsIdleOf shared.now first × (first.number ≡ 0) }
+            ensures { Keeps first result.0 }
+        { lead(rt, alloc, shared, first, names) },
+        || -> ((Seat, bool), (Seat, bool))
+            requires { IsIdleOf shared.now one × IsIdleOf shared.now two }
+            ensures { Keeps one result.0.0 × Keeps two result.1.0 }
+        { follow_by_two(rt, alloc, shared, one, two) },
+    );
+    let done = told && one.1 && two.1;
+    board.join(&mut first, one.0);
+    board.join(&mut first, two.0);
+    Ok((board.end(first), done))
+}

@@ -1,0 +1,42 @@
+//! The work of a worker.
+ghost use Rattle.std.specs.Prelude.{◌≡◌, ◌+◌, OnOk, OnErr};
+ghost use Rattle.turn_meaning.specs.Passes.{IsIdleOf};
+ghost use Rattle.board_seats.specs.Seats.{Keeps};
+ghost use Rattle.worker_loop.specs.Work.{IsDone, IsStopped};
+
+use crate::one_turn::{TurnEnd, turn};
+use board_seats::{BoardPass, SharedBoard};
+use crossbeam_utils::Backoff;
+use lf_terms::{Memory, Steps};
+use mmt_outside::Gate;
+use module_graph::Subject;
+use std::alloc::Global;
+use std::sync::Wait;
+use std::sync::ledger::Ledger;
+
+/// Turns until one finds the board closed, backing off where no module is ready. It stops for want of memory alone. The counter
+/// ticks once for each module that was judged.
+pub fn work<R: Wait, S: Subject, G: Gate, L: Ledger>(
+    rt: &R,
+    alloc: Global,
+    board: &SharedBoard<S>,
+    subject: &S,
+    pass: &mut BoardPass<S>,
+    gate: &G,
+    steps: &mut Steps<L>,
+) -> Result<(), Memory>
+    requires idle { IsIdleOf board.now pass.old }
+    ensures keeps { Keeps pass.old pass.new }
+    ensures done { OnOk result (IsDone S.subject pass.old.seen pass.old.number steps.old pass.new.seen steps.new) }
+    ensures stopped { OnErr result (IsStopped S.subject pass.old.seen pass.old.number steps.old pass.new.seen steps.new) }
+{
+    let backoff = Backoff::new();
+    for _ in rt.forever() {
+        match turn(rt, alloc, board, subject, pass, gate, steps)? {
+            TurnEnd::Worked { .. } => backoff.reset(),
+            TurnEnd::Idle => backoff.snooze(),
+            TurnEnd::Closed => return Ok(()),
+        }
+    }
+    unreachable!()
+}
