@@ -1,5 +1,4 @@
 //! Libraries that tests read from texts, and what their verdicts tell.
-ghost use Rattle.mmt_interface.specs.CoherentFaces.{AreCoherent};
 
 use edit_log::{Edit, Log};
 use lf_terms::{Arc, Bytes, Name, Path};
@@ -14,7 +13,6 @@ use std::test::Fail;
 pub struct Judged {
     log: Log,
     pub faces: Faces,
-    ghost coherent: { AreCoherent faces },
 }
 
 /// Puts a module into a library.
@@ -36,11 +34,6 @@ pub fn judge_all(alloc: Global, library: &str) -> Result<Box<Judged>, Fail> {
         let (name, text) = module.split_once('\n').ok_or("no text")?;
         put(alloc, &mut log, name, text)?;
     }
-    judge(alloc, log)
-}
-
-/// The library of a log with the verdicts on its modules.
-fn judge(alloc: Global, log: Log) -> Result<Box<Judged>, Fail> {
     let faces = scratch(alloc, &log)?;
     Ok(Box::new(alloc, Judged { log, faces })?)
 }
