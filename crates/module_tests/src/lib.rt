@@ -1,6 +1,9 @@
-//! Libraries and the verdicts on their modules, judged from their texts alone: worked cases, in tables, with ample memory.
+//! Libraries and the verdicts on their modules, judged from their texts alone, and judgements carried along their views: worked
+//! cases, in tables, with ample memory.
 #![tactic(auto)]
 
+#[cfg(test)]
+mod carry_tests;
 #[cfg(test)]
 mod libraries;
 #[cfg(test)]

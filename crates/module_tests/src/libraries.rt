@@ -1,4 +1,6 @@
 //! Libraries that tests read from texts, and what their verdicts tell.
+ghost use Rattle.std.specs.Prelude.{IfOk};
+ghost use Rattle.mmt_interface.specs.CoherentFaces.{AreCoherent};
 
 use edit_log::{Edit, Log};
 use lf_terms::{Arc, Bytes, Name, Path};
@@ -28,12 +30,21 @@ fn put(alloc: Global, log: &mut Log, name: &str, text: &str) -> Result<(), Fail>
 
 /// The verdicts on a library. Its modules are parted by empty lines; the first line of each is the name under which it is put,
 /// and the others are its text.
-pub fn judge_all(alloc: Global, library: &str) -> Result<Box<Judged>, Fail> {
+pub fn judge_all(alloc: Global, library: &str) -> Result<Box<Judged>, Fail>
+    ensures { IfOk result (λ judged. AreCoherent judged.value.faces) }
+{
     let mut log = Log::new(alloc);
     for module in library.split("\n\n") {
         let (name, text) = module.split_once('\n').ok_or("no text")?;
         put(alloc, &mut log, name, text)?;
     }
+    judge(alloc, log)
+}
+
+/// The library of a log with the verdicts on its modules.
+fn judge(alloc: Global, log: Log) -> Result<Box<Judged>, Fail>
+    ensures { IfOk result (λ judged. AreCoherent judged.value.faces) }
+{
     let faces = scratch(alloc, &log)?;
     Ok(Box::new(alloc, Judged { log, faces })?)
 }

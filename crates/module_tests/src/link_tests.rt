@@ -46,7 +46,8 @@ X\n%view X : Def -> T = {\na := b.\n}.\n\n\
 Y\n%view Y : Def -> T = {\na := b.\nc := j.\n}.\n";
 
 /// A view whose images are λs.
-const CARRIED: &str = "S\n%sig S = {\nt : type.\nz : t.\nf : t -> t.\napp : (t -> t) -> t.\n}.\n\n\
+pub const CARRIED: &str =
+    "S\n%sig S = {\nt : type.\nz : t.\nf : t -> t.\napp : (t -> t) -> t.\n}.\n\n\
 U\n%sig U = {\nu : type.\nz : u.\ng : u -> u -> u.\n}.\n\n\
 F\n%view F : S -> U = { t := u. z := z. f := [x] g x x. app := [h] h (h z). }.\n";
 

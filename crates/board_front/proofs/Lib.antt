@@ -1,0 +1,11 @@
+pub mod Accepts
+pub mod Asked
+pub mod CallPoints
+pub mod Checked
+pub mod EditAnswers
+pub mod FlatTexts
+pub mod Histories
+pub mod Printed
+pub mod ReachedFaces
+pub mod Standing
+pub mod Tellings

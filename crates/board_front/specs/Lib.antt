@@ -1,0 +1,4 @@
+pub mod Carries
+pub mod Faces
+pub mod Staying
+pub mod Told

@@ -1,0 +1,119 @@
+//! What the front asks of the shared board, through pass 0.
+ghost use Rattle.std.specs.Prelude.{◌≡◌, ◌<◌, IfOk};
+ghost use Rattle.std.specs.Option.{option_map};
+ghost use Rattle.board_meaning.specs.Events.{log_of};
+ghost use Rattle.board_meaning.specs.Machine.{answers_reply, report_reply};
+ghost use Rattle.log_meaning.specs.Append.{append_answer};
+ghost use Rattle.edit_log.specs.Readings.{read_edit, IsAnswer};
+ghost use Rattle.module_graph.specs.Subjects.{read_answers};
+ghost use Rattle.verdict_board.specs.Readings.{read_told};
+ghost use Rattle.verdict_meaning.specs.Rounds.{modules};
+ghost use Rattle.mmt_interface.specs.Readings.{read_verdict};
+ghost use Rattle.board_seats.specs.Seats.{Keeps};
+ghost use Rattle.board_front.specs.Staying.{EditGoes, IsAtFront, Stays};
+
+use board_seats::{BoardPass, SharedBoard};
+use edit_log::{Edit, EditFault, Edited};
+use lf_terms::{Memory, Name, Steps};
+use mmt_interface::Verdict;
+use mmt_outside::Gate;
+use module_check::Mmt;
+use module_graph::Answers;
+use std::alloc::Global;
+use std::marker::Brand;
+use std::sync::Wait;
+use std::sync::ledger::{Blank, Ledger};
+use verdict_board::Told;
+use worker_loop::{TurnEnd, turn};
+
+/// Makes an edit, unless it is refused.
+pub(crate) fn edit<R: Wait>(
+    rt: &R,
+    alloc: Global,
+    board: &SharedBoard<Mmt>,
+    pass: &mut BoardPass<Mmt>,
+    edit: Edit,
+) -> Result<Edited, EditFault>
+    requires front { IsAtFront board.now pass.old }
+    ensures keeps { Keeps pass.old pass.new }
+    ensures answer { IsAnswer result (append_answer (log_of pass.old.seen) (read_edit edit)) }
+    ensures goes { EditGoes result (read_edit edit) pass.old.seen pass.new.seen }
+{
+    board.edit(rt, alloc, pass, edit)
+}
+
+/// What is told of a name now.
+pub(crate) fn report<R: Wait>(
+    rt: &R,
+    board: &SharedBoard<Mmt>,
+    pass: &mut BoardPass<Mmt>,
+    name: &Name,
+) -> Result<Told<Verdict>, Memory>
+    requires front { IsAtFront board.now pass.old }
+    ensures keeps { Keeps pass.old pass.new }
+    ensures told { IfOk result (λ told. read_told read_verdict told ≡ report_reply modules pass.new.seen name.now) }
+    ensures stays { Stays pass.old.seen pass.new.seen }
+{
+    board.report(rt, pass, name)
+}
+
+/// The answers of what a name reaches, itself left out. None exactly where the library lacks the name, or it is ungrounded, or has
+/// no standing verdict.
+pub(crate) fn answers<R: Wait>(
+    rt: &R,
+    alloc: Global,
+    board: &SharedBoard<Mmt>,
+    pass: &mut BoardPass<Mmt>,
+    name: &Name,
+) -> Result<Option<Answers<Verdict>>, Memory>
+    requires front { IsAtFront board.now pass.old }
+    ensures keeps { Keeps pass.old pass.new }
+    ensures answers { IfOk result (λ answers. option_map (read_answers read_verdict) answers ≡ answers_reply modules pass.new.seen name.now) }
+    ensures stays { Stays pass.old.seen pass.new.seen }
+{
+    board.answers(rt, alloc, pass, name)
+}
+
+/// Closes the board.
+pub fn close<R: Wait>(rt: &R, board: &SharedBoard<Mmt>, pass: &mut BoardPass<Mmt>)
+    requires front { IsAtFront board.now pass.old }
+    ensures keeps { Keeps pass.old pass.new }
+    ensures stays { Stays pass.old.seen pass.new.seen }
+{
+    board.close(rt, pass);
+}
+
+/// One turn: where a name is ready, it is judged and its verdict brought.
+pub(crate) fn take_turn<R: Wait, G: Gate>(
+    rt: &R,
+    alloc: Global,
+    gate: &G,
+    board: &SharedBoard<Mmt>,
+    pass: &mut BoardPass<Mmt>,
+) -> Result<TurnEnd, Memory>
+    requires front { IsAtFront board.now pass.old }
+    ensures keeps { Keeps pass.old pass.new }
+    ensures stays { Stays pass.old.seen pass.new.seen }
+{
+    counted_turn::<R, G, Brand>(rt, alloc, gate, board, pass, Blank::new(1))
+}
+
+/// The same, counted on a ledger.
+fn counted_turn<R: Wait, G: Gate, L: Ledger>(
+    rt: &R,
+    alloc: Global,
+    gate: &G,
+    board: &SharedBoard<Mmt>,
+    pass: &mut BoardPass<Mmt>,
+    blank: Blank,
+) -> Result<TurnEnd, Memory>
+    requires front { IsAtFront board.now pass.old }
+    requires name { blank.name ≡ L.name }
+    requires parts { blank.parts ≡ L.parts }
+    requires some { 0 < blank.parts }
+    ensures keeps { Keeps pass.old pass.new }
+    ensures stays { Stays pass.old.seen pass.new.seen }
+{
+    let mut steps = Steps::<L>::new(blank);
+    turn(rt, alloc, board, &Mmt, pass, gate, &mut steps)
+}

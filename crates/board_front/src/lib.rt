@@ -1,0 +1,12 @@
+//! The front of a shared board of modules: edits are made and answered, and names are brought to verdicts by turns of its own,
+//! beside those of workers.
+#![tactic(auto)]
+
+mod calls;
+mod flats;
+mod reports;
+mod told;
+
+pub use calls::close;
+pub use flats::{carry_lines, flat_lines};
+pub use reports::{check_lines, edit_lines, report_lines};

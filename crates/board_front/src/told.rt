@@ -1,0 +1,52 @@
+//! A name is brought to a verdict.
+ghost use Rattle.std.specs.Prelude.{IfOk, OnOk};
+ghost use Rattle.board_meaning.specs.Events.{log_of};
+ghost use Rattle.board_meaning.specs.Legal.{IsLegal};
+ghost use Rattle.text_meaning.specs.Dependencies.{dependencies};
+ghost use Rattle.board_seats.specs.Seats.{Keeps};
+ghost use Rattle.board_front.specs.Staying.{IsAtFront, StandsIfGrounded, Stays};
+ghost use Rattle.board_front.specs.Told.{IsToldOf};
+
+use crate::calls::{report, take_turn};
+use board_seats::{BoardPass, SharedBoard};
+use crossbeam_utils::Backoff;
+use lf_terms::{Memory, Name};
+use mmt_interface::Verdict;
+use mmt_outside::Gate;
+use module_check::Mmt;
+use std::alloc::Global;
+use std::sync::Wait;
+use verdict_board::Told;
+use worker_loop::TurnEnd;
+
+/// What is told of a name once its verdict is not to come. While it is to come, turns are taken, with a pause where nothing is
+/// ready.
+pub(crate) fn told<R: Wait, G: Gate>(
+    rt: &R,
+    alloc: Global,
+    gate: &G,
+    board: &SharedBoard<Mmt>,
+    pass: &mut BoardPass<Mmt>,
+    name: &Name,
+) -> Result<Told<Verdict>, Memory>
+    requires front { IsAtFront board.now pass.old }
+    requires legal { IsLegal dependencies pass.old.seen }
+    ensures keeps { Keeps pass.old pass.new }
+    ensures stays { Stays pass.old.seen pass.new.seen }
+    ensures told { IfOk result (IsToldOf (log_of pass.new.seen) name.now) }
+    ensures stands { OnOk result (StandsIfGrounded pass.new.seen name.now) }
+{
+    let backoff = Backoff::new();
+    for _ in rt.forever() {
+        match report(rt, board, pass, name)? {
+            Told::Verdict { answer, version } => return Ok(Told::Verdict { answer, version }),
+            Told::Absent { version } => return Ok(Told::Absent { version }),
+            Told::Pending { .. } => {}
+        }
+        match take_turn(rt, alloc, gate, board, pass)? {
+            TurnEnd::Worked { .. } => backoff.reset(),
+            TurnEnd::Idle | TurnEnd::Closed => backoff.snooze(),
+        }
+    }
+    unreachable!()
+}
