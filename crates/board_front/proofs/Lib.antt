@@ -1,6 +1,7 @@
 pub mod Accepts
 pub mod Asked
 pub mod CallPoints
+pub mod Closing
 pub mod Checked
 pub mod EditAnswers
 pub mod FlatTexts

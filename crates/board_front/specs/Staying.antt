@@ -14,14 +14,14 @@ use Rattle.edit_log.specs.declared.answers.Edited.{Edited}
 use Rattle.edit_log.specs.declared.answers.EditFault.{EditFault}
 use Rattle.edit_log.specs.declared.answers.EditFault.TheVariants.{Full, TooLong, TooMany, Memory}
 
--- The history goes on with entries that leave its log, this one.
+-- The second history goes on from the first, is legal, and has this log.
 pub record GoesOn (log : Log) (before after : History) : Type 0 where
   pub legal : IsLegal dependencies after
   pub later : History
   pub begins : after ≡ before ++ later
   pub logged : log_of after ≡ log
 
--- The history goes on without an edit.
+-- The history goes on, with the same log.
 abbrev pub Stays : History → History → Type 0
 Stays before after = GoesOn (log_of before) before after
 
@@ -33,7 +33,7 @@ Edits edit before after = GoesOn (appended (log_of before) edit) before after
 abbrev pub StandsIfGrounded : History → Name → Type 0
 StandsIfGrounded history name = is_grounded dependencies (library_of (log_of history)) name ≡ true → stands dependencies history name ≡ true
 
--- So is each of these names.
+-- Each of these names stands where it is grounded.
 abbrev pub AllStand : History → List Name → Type 0
 AllStand history names = (name : Name) → Member name names → StandsIfGrounded history name
 

@@ -1,7 +1,8 @@
 //! What the front asks of the shared board, through pass 0.
-ghost use Rattle.std.specs.Prelude.{◌≡◌, ◌<◌, IfOk};
+ghost use Rattle.std.specs.Prelude.{◌≡◌, ◌<◌, true, IfOk};
 ghost use Rattle.std.specs.Option.{option_map};
 ghost use Rattle.board_meaning.specs.Events.{log_of};
+ghost use Rattle.board_meaning.specs.Ready.{is_closed};
 ghost use Rattle.board_meaning.specs.Machine.{answers_reply, report_reply};
 ghost use Rattle.log_meaning.specs.Append.{append_answer};
 ghost use Rattle.edit_log.specs.Readings.{read_edit, IsAnswer};
@@ -74,11 +75,12 @@ pub(crate) fn answers<R: Wait>(
     board.answers(rt, alloc, pass, name)
 }
 
-/// Closes the board.
+/// Closes the board, if it is not closed.
 pub fn close<R: Wait>(rt: &R, board: &SharedBoard<Mmt>, pass: &mut BoardPass<Mmt>)
     requires front { IsAtFront board.now pass.old }
     ensures keeps { Keeps pass.old pass.new }
     ensures stays { Stays pass.old.seen pass.new.seen }
+    ensures closed { is_closed pass.new.seen ≡ true }
 {
     board.close(rt, pass);
 }

@@ -1,6 +1,6 @@
 //! What a call on the outside answers where it did not succeed.
 ghost use Rattle.std.specs.Prelude.{◌≡◌};
-ghost use Rattle.mmt_outside.specs.declared.fault.OutFault.TheVariants.{Memory as WantOfMemory};
+ghost use Rattle.mmt_outside.specs.declared.fault.OutFault.TheVariants.{Failed as DeviceFailed, Memory as WantOfMemory};
 
 use lf_terms::Memory;
 
@@ -20,5 +20,13 @@ impl From<Memory> for OutFault {
 
     fn from(_: Memory) -> Self {
         OutFault::Memory
+    }
+}
+
+impl From<Failed> for OutFault {
+    ghost from_gives = { λ _ e. e ≡ DeviceFailed };
+
+    fn from(_: Failed) -> Self {
+        OutFault::Failed
     }
 }

@@ -10,6 +10,9 @@ use lf_terms::{Bytes, Texts};
 use std::alloc::Global;
 use std::marker::Model;
 
+/// The greatest number of bytes of a file that is read.
+pub(crate) const FILE_LIMIT: usize = 1 << 26;
+
 /// What was read of a file: all of it, or that it has more than 2^26 bytes.
 #[derive(Debug, Drop)]
 pub enum FileBytes {

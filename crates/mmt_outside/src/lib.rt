@@ -4,9 +4,11 @@
 
 mod calls;
 mod copying;
+mod disk_folder;
 mod fault;
 mod folder;
 mod gate;
+mod memory_folder;
 mod memory_sink;
 mod memory_source;
 mod numbers;
@@ -16,9 +18,11 @@ mod standard_input;
 mod standard_output;
 mod writing;
 
+pub use disk_folder::DiskFolder;
 pub use fault::{Failed, OutFault};
 pub use folder::{FileBytes, Folder, NoFolder};
 pub use gate::{Gate, OpenGate};
+pub use memory_folder::{MemFiles, MemFolder};
 pub use memory_sink::MemSink;
 pub use memory_source::MemSource;
 pub use numbers::Inputs64;

@@ -1,7 +1,6 @@
-pub mod Texts
+pub mod Commands
+pub mod Spoken
+pub mod Played
 pub mod Turns
 pub mod Sessions
-pub mod FirstPieces
-pub mod FirstForms
-pub mod FirstBodies
-pub mod FirstLevels
+pub mod Led

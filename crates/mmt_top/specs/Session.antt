@@ -1,54 +1,37 @@
--- What a session does, turn by turn.
-use Rattle.std.specs.Prelude.{◌≡◌, ℕ, Bool, true, false, List, [], ◌++◌, length, IfSome, IsSome, Option, Some, None}
-use Rattle.std.specs.Option.{option_map}
+-- What a session does, turn by turn (this profile).
+use Rattle.std.specs.Prelude.{◌≡◌, ◌<◌, ◌≤◌, ◌-◌, ℕ, Bool, true, false, List, [], ◌∷◌, ◌++◌, length, map, IfSome, IsSome, Option, Some, None, option_map}
 use Rattle.mmt_outside.specs.Bytes.{Taken, appended, flushed, TookPrefix}
+use Rattle.mmt_outside.specs.Faults.{Rose}
 use Rattle.output_meaning.specs.Lines.{lines_of}
-use Rattle.first_path_meaning.specs.Commands as commands
-use Rattle.first_path_meaning.specs.Script as meant
 use Rattle.output_meaning.specs.Printed.{bad_line, unended_line}
+use Rattle.log_meaning.specs.Log.{Log}
+use Rattle.text_meaning.specs.Dependencies.{dependencies}
+use Rattle.board_meaning.specs.Events.{History, log_of}
+use Rattle.board_meaning.specs.Legal.{IsLegal}
+use Rattle.board_meaning.specs.Ready.{is_closed}
+use Rattle.run_meaning.specs.ScriptCommands.{Command}
+use Rattle.run_meaning.specs.ScriptItems.{Item, Spoken, items_of, script_of}
+use Rattle.run_meaning.specs.ScriptOutput.{command_text, output_from, has_fault}
+use Rattle.run_meaning.specs.ScriptLogs.{commands_of, log_through}
+use Rattle.run_meaning.specs.Backing.{BacksScript}
+use Rattle.run_laws.specs.RunLaws.{spoken_text}
+use Rattle.install_laws.specs.ScriptBacking.{StandsAt}
+use Rattle.judged_meaning.specs.JudgingByRules.{rules}
+use Rattle.board_front.specs.Staying.{GoesOn}
 use Rattle.script_reader.specs.Reading.{Reading}
 use Rattle.script_reader.specs.declared.fault.ScriptFault.{ScriptFault as Fault}
 use Rattle.script_reader.specs.declared.fault.ScriptFault.TheVariants.{Bad, Unended, Failed, Spent, Memory as OutOfMemory}
-use Rattle.script_reader.specs.declared.command.Command.{Command}
-use Rattle.script_reader.specs.declared.command.Command.TheVariants as spoken
-use Rattle.mmt_top.specs.declared.first_answer.Theory.{Theory}
+use Rattle.mmt_top.specs.Plays.{Plays, PlaysAll}
 use Rattle.mmt_top.specs.declared.status.Status.{Status}
 use Rattle.mmt_top.specs.declared.status.Status.TheVariants.{Done, Refused, Usage, ReadFault, WriteFault, Memory, ScriptFault}
 
--- The text that was put, as the definitions have it.
-abbrev pub read_put : Option Theory → Option meant.Put
-read_put theory = option_map (λ t. record { name = t.name; text = t.text }) theory
-
--- The command that the reader gave, as the definitions have it. The reader does not give the commands that stand
--- for a blank line here, but for a blank line itself and the end, which has no line.
-abbrev pub read_command : Command → commands.Command
-read_command (spoken.Put name text) = commands.put name text
-read_command (spoken.Drop name) = commands.blank
-read_command (spoken.Report name) = commands.report name
-read_command spoken.Check = commands.blank
-read_command (spoken.Flat name) = commands.blank
-read_command (spoken.Carry view text) = commands.blank
-read_command spoken.Log = commands.blank
-read_command spoken.Blank = commands.blank
-read_command spoken.End = commands.blank
-
 -- The items of the bytes to come.
-abbrev pub items_to_come : Reading → List ℕ → List meant.Item
-items_to_come reading bytes = meant.items_of reading.line reading.may_put (lines_of bytes)
-
--- The output of the bytes to come.
-abbrev pub output_to_come : Option meant.Put → Reading → List ℕ → List ℕ
-output_to_come theory reading bytes = meant.output_from theory (items_to_come reading bytes)
-
--- Some bytes were written, and what is still to come is what follows them.
-pub record GoesOn (before now : Option Taken) (bytes : List ℕ) (theory next : Option meant.Put) (reading later : Reading) (rest : List ℕ) : Type 0 where
-  pub written : List ℕ
-  pub took : now ≡ appended before written
-  pub output : output_to_come theory reading bytes ≡ written ++ output_to_come next later rest
-  pub faults : meant.has_fault (items_to_come reading bytes) ≡ meant.has_fault (items_to_come later rest)
+abbrev pub items_to_come : Reading → List ℕ → List Item
+items_to_come reading bytes = items_of reading.line (lines_of bytes)
 
 -- How a session ends by a status, where this is the output and whether a line is at fault: at Done and at a script
--- fault all of the output was written, and flushed; with any other status a first part of it was written.
+-- fault all of the output was written, and flushed; at a fault of the outside and for want of memory a first part of it was written,
+-- and not flushed. A session ends with no other status.
 abbrev pub EndsAs : Status → Option Taken → Option Taken → List ℕ → Bool → Type 0
 EndsAs Done before now output fault = (fault ≡ false) × (now ≡ flushed (appended before output))
 EndsAs Refused before now output fault = ⊥
@@ -65,7 +48,7 @@ IsFlushed now = IfSome now (λ taken. taken.flushed ≡ length taken.bytes)
 -- With these statuses all is flushed.
 abbrev pub FlushesAt : Status → Option Taken → Type 0
 FlushesAt Done now = IsFlushed now
-FlushesAt Refused now = Unit {0}
+FlushesAt Refused now = IsFlushed now
 FlushesAt Usage now = IsFlushed now
 FlushesAt ReadFault now = Unit {0}
 FlushesAt WriteFault now = Unit {0}
@@ -82,13 +65,45 @@ IsSessionStatus WriteFault = Unit {0}
 IsSessionStatus Memory = Unit {0}
 IsSessionStatus ScriptFault = Unit {0}
 
--- A command was answered: its lines were written, and what was put is what the command leaves; or a first part of
--- its lines was written, and the session ends.
-abbrev pub SpokenTells : Option Status → Option Taken → Option Taken → Option meant.Put → Option meant.Put → commands.Command → Type 0
-SpokenTells None before now theory next command =
-    (now ≡ appended before (meant.command_lines theory command)) × (next ≡ meant.put_after theory command)
-SpokenTells (Some status) before now theory next command =
-    EndsAs status before now (meant.command_lines theory command) false × (status ≡ Done → ⊥)
+-- The first log begins the second.
+pub record Begins (log whole : Log) : Type 0 where
+  pub rest : Log
+  pub goes_on : whole ≡ log ++ rest
+
+-- The edits of a board after a session, where the script makes these: at Done and at a script fault these, at a fault of the outside
+-- and for want of memory the first of them.
+abbrev pub EditsAre : Status → Log → Log → Type 0
+EditsAre Done whole log = log ≡ whole
+EditsAre Refused whole log = ⊥
+EditsAre Usage whole log = ⊥
+EditsAre ReadFault whole log = Begins log whole
+EditsAre WriteFault whole log = Begins log whole
+EditsAre Memory whole log = Begins log whole
+EditsAre ScriptFault whole log = log ≡ whole
+
+-- Where the sink tells its bytes, the history backs what the bytes written tell of the script.
+abbrev pub BacksWritten : Option Taken → Option Taken → List ℕ → History → Type 0
+BacksWritten before now script history =
+    IfSome before (λ (old : Taken). IfSome now (λ (new : Taken). BacksScript rules history (length new.bytes - length old.bytes) script))
+
+-- All that is told by each of these commands of which a byte may be among the first so many, stands after some beginning of the
+-- history with the log over which the command is played, the first over this one.
+abbrev pub StoodWithin : ℕ → List Command → Log → History → Type 0
+StoodWithin count commands log history =
+    (done more : List Command) (command : Command) → commands ≡ done ++ command ∷ more → length (spoken_text rules log done) < count
+    → StandsAt rules history (log_through log done) command
+
+-- What the sink has taken, flushed or not.
+abbrev pub bytes_of : Option Taken → Option (List ℕ)
+bytes_of taken = option_map (λ (t : Taken). t.bytes) taken
+
+-- The board that a session leaves which ended by a status, over these items.
+pub record Leaves (status : Status) (before now : Option Taken) (items : List Item) (first last : History) : Type 0 where
+  pub goes_on : GoesOn (log_of last) first last
+  pub edits : EditsAre status (log_through (log_of first) (commands_of items)) (log_of last)
+  pub written : List ℕ
+  pub took : bytes_of now ≡ bytes_of (appended before written)
+  pub stood : StoodWithin (length written) (commands_of items) (log_of first) last
 
 -- How a session ends after an error of the script: the line of the fault is written; a failed source or want of
 -- memory writes nothing.
@@ -99,10 +114,42 @@ FaultTells Failed status before now = (status ≡ ReadFault) × (now ≡ before)
 FaultTells Spent status before now = ⊥
 FaultTells OutOfMemory status before now = (status ≡ Memory) × (now ≡ before)
 
+-- One command was played and its lines were written, and what is still to come is what follows it.
+pub record TurnGoesOn (before now : Option Taken) (bytes : List ℕ) (first second : History) (reading later : Reading) (rest : List ℕ) : Type 0 where
+  pub command : Command
+  pub items : items_to_come reading bytes ≡ Spoken command ∷ items_to_come later rest
+  pub took : now ≡ appended before (command_text rules (log_of first) command)
+  pub plays : Plays command first second
+
+-- Some commands were.
+pub record SessionGoesOn (before now : Option Taken) (bytes : List ℕ) (first second : History) (reading later : Reading) (rest : List ℕ) : Type 0 where
+  pub commands : List Command
+  pub items : items_to_come reading bytes ≡ map Spoken commands ++ items_to_come later rest
+  pub took : now ≡ appended before (spoken_text rules (log_of first) commands)
+  pub plays : PlaysAll commands first second
+
+-- How a session ends over these items.
+pub record SessionEnds (status : Status) (before now : Option Taken) (items : List Item) (first last : History) : Type 0 where
+  pub output : EndsAs status before now (output_from rules (log_of first) items) (has_fault items)
+  pub board : Leaves status before now items first last
+
 -- What a turn did: the session goes on, or ends.
-abbrev pub TurnTells : Option Status → Option Taken → Option Taken → List ℕ → Option (List ℕ) → Option meant.Put → Option meant.Put → Reading → Reading → Type 0
-TurnTells None before now bytes after theory next reading later =
-    IfSome after (λ rest. GoesOn before now bytes theory next reading later rest) × IsSome after
-TurnTells (Some status) before now bytes after theory next reading later =
-    EndsAs status before now (output_to_come theory reading bytes) (meant.has_fault (items_to_come reading bytes))
-    × (status ≡ Done → IfSome after (λ rest. rest ≡ []) × IsSome after)
+abbrev pub TurnTells : Option Status → Option Taken → Option Taken → List ℕ → Option (List ℕ) → History → History → Reading → Reading → Type 0
+TurnTells None before now bytes after first second reading later =
+    IfSome after (λ rest. TurnGoesOn before now bytes first second reading later rest) × IsSome after
+TurnTells (Some status) before now bytes after first second reading later =
+    SessionEnds status before now (items_to_come reading bytes) first second × (status ≡ Done → IfSome after (λ rest. rest ≡ []) × IsSome after)
+
+-- A session was led to its end by its front: the history that the front has then seen, what became of the source's bytes and of the
+-- sink's, and of their counts of faults.
+pub record IsLed (status : Status) (left rest : Option (List ℕ)) (reads reads_after : ℕ) (before now : Option Taken) (writes writes_after : ℕ) (last : History) : Type 0 where
+  pub legal : IsLegal dependencies last
+  pub closed : is_closed last ≡ true
+  pub ends : IfSome left (λ bytes. SessionEnds status before now (script_of bytes) [] last)
+  pub read_all : status ≡ Done → IfSome left (λ bytes. rest ≡ Some [])
+  pub answers : IsSessionStatus status
+  pub flush : FlushesAt status now
+  pub read : status ≡ ReadFault → Rose reads reads_after
+  pub write : status ≡ WriteFault → Rose writes writes_after
+  pub source_later : reads ≤ reads_after
+  pub sink_later : writes ≤ writes_after

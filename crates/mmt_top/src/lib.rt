@@ -1,17 +1,16 @@
-//! The program as one call: `run` reads the words of the command line, and plays the script on the source.
+//! The program as one call: `run` reads the words of the command line, and plays the script on the source by `session`.
 #![tactic(auto)]
 
-mod first_answer;
-mod first_form;
-mod first_lines;
-mod first_pieces;
-mod first_theory;
-mod first_tokens;
-mod first_verdict;
+mod answer;
+mod ended;
+mod front;
 mod program;
-mod session;
+mod script_session;
+mod speak;
 mod status;
 mod words;
 
+pub use ended::Ended;
 pub use program::run;
+pub use script_session::session;
 pub use status::Status;

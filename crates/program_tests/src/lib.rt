@@ -2,6 +2,8 @@
 #![tactic(auto)]
 
 #[cfg(test)]
+mod cases;
+#[cfg(test)]
 mod outside_tests;
 #[cfg(test)]
 mod run_tests;

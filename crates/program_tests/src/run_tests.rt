@@ -1,5 +1,6 @@
 //! Whole runs over objects in memory.
 
+use crate::cases::CASES;
 use lf_terms::Bytes;
 use mmt_outside::{Inputs64, MemSink, MemSource, NoFolder, OpenGate};
 use mmt_top::{Status, run};
@@ -60,21 +61,24 @@ fn run_on<R: Threads + Wait + Sync>(
     })
 }
 
-const NATURAL_NUMBERS: &[u8] =
-    b"put Nat\n%sig Nat = {\nnat : type.\nz : nat.\ns : nat -> nat.\n}.\n%%end\nreport Nat\n";
-
-const USAGE: &[u8] =
-    b"usage: mmt play [--workers N] | mmt check FOLDER [--workers N] | mmt gen START MODULES EDITS [--workers N]\n";
+fn play<R: Threads + Wait + Sync>(rt: &R, alloc: Global, input: &[u8]) -> Result<Ended, Fail> {
+    run_on(rt, alloc, &["play", "--workers", "0"], input, 0, 0)
+}
 
 #[test]
-fn scripts(rt: HostRuntime) -> Result<(), Fail> {
-    let cases: [(&[u8], Status, &[u8]); 18] = [
-        (b"", Status::Done, b""),
-        (
-            NATURAL_NUMBERS,
-            Status::Done,
-            b"@1 put Nat\nNat @1 accepted theory 3\n",
-        ),
+fn worked_cases(rt: HostRuntime) -> Result<(), Fail> {
+    for case in &CASES {
+        let ended = play(&rt, rt.alloc(), case.script)?;
+        assert!(rt; ended.status == case.status, "{}", case.name);
+        assert!(rt; ended.output.as_slice() == case.output, "{}", case.name);
+    }
+    Ok(())
+}
+
+/// Lines and commands, each as the rules of scripts say.
+#[test]
+fn lines(rt: HostRuntime) -> Result<(), Fail> {
+    let cases: [(&[u8], Status, &[u8]); 17] = [
         (
             b"put Nat\r\n%sig Nat = {\nnat : type.\n}.\n%%end\r\nreport Nat\r\n",
             Status::Done,
@@ -83,32 +87,17 @@ fn scripts(rt: HostRuntime) -> Result<(), Fail> {
         (
             b"put T\n%sig T = { a : {x:b} type. }.\n%%end\nreport T\nreport U\n",
             Status::Done,
-            b"@1 put T\nT @1 refused 1:1 unsupported T\nU @1 absent\n",
+            b"@1 put T\nT @1 refused 1:19 unknown-name a\nU @1 absent\n",
         ),
         (
-            b"put Nat\n%sig Nat = {\nnat : type.\nz : nat.\ns : nat -> nta.\n}.\n%%end\nreport Nat\n",
+            b"put T\n%sig T = { a : type. a : type. }.\n%%end\nreport T\n",
             Status::Done,
-            b"@1 put Nat\nNat @1 refused 4:12 unknown-name s\n",
-        ),
-        (
-            b"put T\n%sig T = {\na : type.\nc : a -> a.\nd : a -> c.\n}.\n%%end\nreport T\n",
-            Status::Done,
-            b"@1 put T\nT @1 refused 4:10 level d\n",
-        ),
-        (
-            b"put Nat\n%sig Nat = {\n",
-            Status::ScriptFault,
-            b"line 1: unended text\n",
+            b"@1 put T\nT @1 refused 1:22 duplicate-name a\n",
         ),
         (
             b"report Nat\nreprot Nat\n",
             Status::ScriptFault,
             b"Nat @0 absent\nline 2: bad command\n",
-        ),
-        (
-            b"put T\n%%end\nput T\n%%end\n",
-            Status::ScriptFault,
-            b"@1 put T\nline 3: bad command\n",
         ),
         // A carriage return at the end of an input without a line feed counts.
         (b"report A\r", Status::ScriptFault, b"line 1: bad command\n"),
@@ -139,39 +128,54 @@ fn scripts(rt: HostRuntime) -> Result<(), Fail> {
             b"@1 put Nat\n",
         ),
         (
-            b"put T\n%sig N = {\n}.\n%%end\nreport T\n",
+            b"put A\n\xff%%end\n%%end\nlog\nput A\n\xff%%end\n%%end\ndrop A\ndrop A\nlog\n",
             Status::Done,
-            b"@1 put T\nT @1 refused 1:1 unsupported T\n",
+            b"@1 put A\n@1 log\n1 put A 7\n@1 same A\n@2 drop A\n@2 absent A\n@2 log\n1 put A 7\n2 drop A\n",
         ),
         (
-            b"put T\n%sig T = { a : type. a : type. }.\n%%end\nreport T\n",
+            b"flat A\ncarry A z : t\ncarry A \xff\ncheck\nlog\n",
             Status::Done,
-            b"@1 put T\nT @1 refused 1:1 unsupported T\n",
+            b"A @0 absent\nA @0 no-view\nA @0 no-view\n@0 log\n",
         ),
+        (b"log \n", Status::ScriptFault, b"line 1: bad command\n"),
+        (b"check A\n", Status::ScriptFault, b"line 1: bad command\n"),
+        (b"carry F\n", Status::ScriptFault, b"line 1: bad command\n"),
+        (b"carry F \n", Status::ScriptFault, b"line 1: bad command\n"),
+        // Modules stand in byte order of names, whatever the order of the puts.
         (
-            b"put T\n%sig T = { a : type.b : type. }.\n%%end\nreport T\n",
+            b"put b\n%sig b = {}.\n%%end\nput a\n%sig a = {}.\n%%end\nput B\n%sig B = {}.\n%%end\ncheck\n",
             Status::Done,
-            b"@1 put T\nT @1 refused 1:1 unsupported T\n",
+            b"@1 put b\n@2 put a\n@3 put B\nB @3 accepted theory 0\na @3 accepted theory 0\nb @3 accepted theory 0\n",
         ),
     ];
     for (input, status, output) in cases {
-        let ended = run_on(&rt, rt.alloc(), &["play", "--workers", "0"], input, 0, 0)?;
+        let ended = play(&rt, rt.alloc(), input)?;
         assert_eq!(rt; ended.status, status);
         assert_eq!(rt; ended.output.as_slice(), output);
     }
     Ok(())
 }
 
+const NATURAL_NUMBERS: &[u8] =
+    b"put Nat\n%sig Nat = {\nnat : type.\nz : nat.\ns : nat -> nat.\n}.\n%%end\nreport Nat\n";
+
+const USAGE: &[u8] =
+    b"usage: mmt play [--workers N] | mmt check FOLDER [--workers N] | mmt gen START MODULES EDITS [--workers N]\n";
+
 #[test]
 fn words(rt: HostRuntime) -> Result<(), Fail> {
-    let lists: [&[&str]; 8] = [
+    let lists: [&[&str]; 12] = [
         &[],
         &["play", "--workers", "17"],
+        &["play", "--workers=17"],
+        &["play", "--workers", "01"],
         &["play", "--workers"],
         &["play", "--workers", "0", "0"],
+        &["play", "x"],
+        &["--workers", "1", "play"],
         &["Play"],
         &["--help"],
-        &["check", "lib"],
+        &["check"],
         &[""],
     ];
     for list in lists {
@@ -187,49 +191,57 @@ fn words(rt: HostRuntime) -> Result<(), Fail> {
     Ok(())
 }
 
-/// A theory whose last row has so many names, put and reported.
-fn long_row(alloc: Global, names: usize) -> Result<Vec<u8>, AllocError> {
-    let mut script = b"put D\n%sig D = {\na : type.\nc : a".to_vec(alloc)?;
-    for _ in 1..names {
-        script.extend_from_slice(b" -> a")?;
+/// These bytes, then a piece so many times, and then the last bytes.
+fn with_many(
+    alloc: Global,
+    front: &[u8],
+    piece: &[u8],
+    times: usize,
+    last: &[u8],
+) -> Result<Vec<u8>, AllocError> {
+    let mut script = front.to_vec(alloc)?;
+    for _ in 0..times {
+        script.extend_from_slice(piece)?;
     }
-    script.extend_from_slice(b".\n}.\n%%end\nreport D\n")?;
+    script.extend_from_slice(last)?;
     Ok(script)
 }
 
+/// A line of 1,024 bytes and one of 1,025; an expression 500 deep and one 501 deep; a text that is one byte too long.
 #[test]
-fn rows_of_500_and_501_names(rt: HostRuntime) -> Result<(), Fail> {
-    let script = long_row(rt.alloc(), 500)?;
-    let ended = run_on(&rt, rt.alloc(), &["play"], &script, 0, 0)?;
-    assert_eq!(rt;
-        ended.output.as_slice(),
-        b"@1 put D\nD @1 accepted theory 2\n".as_slice()
-    );
-    let script = long_row(rt.alloc(), 501)?;
-    let ended = run_on(&rt, rt.alloc(), &["play"], &script, 0, 0)?;
-    assert_eq!(rt;
-        ended.output.as_slice(),
-        b"@1 put D\nD @1 refused 1:1 unsupported D\n".as_slice()
-    );
-    Ok(())
-}
-
-#[test]
-fn lines_of_1024_and_1025_bytes(rt: HostRuntime) -> Result<(), Fail> {
-    let mut line = b"#".to_vec(rt.alloc())?;
-    for _ in 0..1023 {
-        line.push(b'a')?;
+fn limits(rt: HostRuntime) -> Result<(), Fail> {
+    let theory = b"put D\n%sig D = {\na : type.\nc : a";
+    let row = b".\n}.\n%%end\nreport D\n";
+    let cases: [(&[u8], &[u8], usize, &[u8], &[u8]); 5] = [
+        (b"#", b"a", 1_023, b"", b""),
+        (b"#", b"a", 1_024, b"\nlog\n", b"line 1: bad command\n"),
+        (
+            theory,
+            b" -> a",
+            499,
+            row,
+            b"@1 put D\nD @1 accepted theory 2\n",
+        ),
+        (
+            theory,
+            b" -> a",
+            500,
+            row,
+            b"@1 put D\nD @1 refused 3:2505 too-deep D\n",
+        ),
+        (
+            b"put Big\n",
+            b"0123456789abcdef",
+            65_536,
+            b"\n%%end\n",
+            b"@0 too-long Big\n",
+        ),
+    ];
+    for (front, piece, times, last, output) in cases {
+        let script = with_many(rt.alloc(), front, piece, times, last)?;
+        let ended = play(&rt, rt.alloc(), &script)?;
+        assert_eq!(rt; ended.output.as_slice(), output);
     }
-    let ended = run_on(&rt, rt.alloc(), &["play"], &line, 0, 0)?;
-    assert_eq!(rt; ended.status, Status::Done);
-    assert_eq!(rt; ended.output.as_slice(), b"".as_slice());
-    line.push(b'a')?;
-    let ended = run_on(&rt, rt.alloc(), &["play"], &line, 0, 0)?;
-    assert_eq!(rt; ended.status, Status::ScriptFault);
-    assert_eq!(rt;
-        ended.output.as_slice(),
-        b"line 1: bad command\n".as_slice()
-    );
     Ok(())
 }
 

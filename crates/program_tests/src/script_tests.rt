@@ -1,8 +1,9 @@
-//! Commands of scripts in memory.
+//! Commands of scripts in memory, and the edits of the generator.
 
+use edit_log::Edit;
 use lf_terms::{Bytes, Name};
 use mmt_outside::{Inputs64, MemSource};
-use script_reader::{Command, Script, ScriptFault};
+use script_reader::{Command, Gen, Script, ScriptFault};
 use std::alloc::{AllocError, Global};
 use std::test::Fail;
 
@@ -14,85 +15,162 @@ fn source_of(alloc: Global, input: &[u8], fails: &[u64]) -> Result<MemSource, Al
     Ok(MemSource::new(Bytes::from_vec(input.to_vec(alloc)?), calls))
 }
 
-fn is_named(name: &Name, text: &str) -> bool {
-    name.as_str() == text
+/// A command by its word, its name and the bytes of its text.
+fn told(line: &mut Vec<u8>, word: &[u8], name: &Name, text: &[u8]) -> Result<(), AllocError> {
+    line.extend_from_slice(word)?;
+    line.extend_from_slice(name.as_str().as_bytes())?;
+    line.extend_from_slice(text)
 }
 
-#[test]
-fn commands_in_order(rt: HostRuntime) -> Result<(), Fail> {
-    let alloc = rt.alloc();
-    let mut source = source_of(
-        alloc,
-        b"# a script\nput A\r\nfirst\r\nsecond\n%%end\r\n \nreport B",
-        &[],
-    )?;
-    let mut script = Script::new();
-    assert!(rt; matches!(script.next_command(alloc, &mut source), Ok(Command::Blank)));
-    match script.next_command(alloc, &mut source) {
-        Ok(Command::Put { name, text }) => {
-            assert!(rt; is_named(&name, "A"));
-            assert_eq!(rt; text.as_slice(), b"first\r\nsecond\n".as_slice());
+fn told_command(line: &mut Vec<u8>, command: &Command) -> Result<(), AllocError> {
+    match command {
+        Command::Put { name, text } => {
+            told(line, b"put ", name, b" ")?;
+            line.extend_from_slice(text.as_slice())
         }
-        _ => panic!(rt; "no put"),
+        Command::Drop(name) => told(line, b"drop ", name, b""),
+        Command::Report(name) => told(line, b"report ", name, b""),
+        Command::Check => line.extend_from_slice(b"check"),
+        Command::Flat(name) => told(line, b"flat ", name, b""),
+        Command::Carry { view, text } => {
+            told(line, b"carry ", view, b" ")?;
+            line.extend_from_slice(text.as_slice())
+        }
+        Command::Log => line.extend_from_slice(b"log"),
+        Command::Blank => line.extend_from_slice(b"blank"),
+        Command::End => line.extend_from_slice(b"end"),
     }
-    assert!(rt; matches!(script.next_command(alloc, &mut source), Ok(Command::Blank)));
-    match script.next_command(alloc, &mut source) {
-        Ok(Command::Report(name)) => assert!(rt; is_named(&name, "B")),
-        _ => panic!(rt; "no report"),
+}
+
+fn told_fault(alloc: Global, line: &mut Vec<u8>, fault: ScriptFault) -> Result<(), AllocError> {
+    match fault {
+        ScriptFault::Bad { line: number } => {
+            line.extend_from_slice(b"bad ")?;
+            line.extend_from_slice(number.to_string(alloc)?.as_bytes())
+        }
+        ScriptFault::Unended { line: number } => {
+            line.extend_from_slice(b"unended ")?;
+            line.extend_from_slice(number.to_string(alloc)?.as_bytes())
+        }
+        ScriptFault::Failed => line.extend_from_slice(b"failed"),
+        ScriptFault::Spent => line.extend_from_slice(b"spent"),
+        ScriptFault::Memory => line.extend_from_slice(b"memory"),
     }
-    assert!(rt; matches!(script.next_command(alloc, &mut source), Ok(Command::End)));
-    assert!(rt; matches!(script.next_command(alloc, &mut source), Ok(Command::End)));
-    Ok(())
+}
+
+/// What so many calls for the next command answer, each in brackets.
+fn read_all(
+    alloc: Global,
+    input: &[u8],
+    fails: &[u64],
+    calls: usize,
+) -> Result<Vec<u8>, AllocError> {
+    let mut source = source_of(alloc, input, fails)?;
+    let mut script = Script::new();
+    let mut answers = Vec::new(alloc);
+    for _ in 0..calls {
+        answers.push(b'[')?;
+        match script.next_command(alloc, &mut source) {
+            Ok(command) => told_command(&mut answers, &command)?,
+            Err(fault) => told_fault(alloc, &mut answers, fault)?,
+        }
+        answers.push(b']')?;
+    }
+    Ok(answers)
 }
 
 #[test]
-fn faults_and_spent_scripts(rt: HostRuntime) -> Result<(), Fail> {
-    let alloc = rt.alloc();
-    let cases: [(&[u8], ScriptFault); 5] = [
-        (b"reprot A\n", ScriptFault::Bad { line: 1 }),
-        (b"\n\nreport\n", ScriptFault::Bad { line: 3 }),
-        (b"put A\n\n", ScriptFault::Unended { line: 1 }),
-        (b"report A\nput A\nx", ScriptFault::Unended { line: 2 }),
-        (b"put _\n%%end\n", ScriptFault::Bad { line: 1 }),
+fn commands_and_faults(rt: HostRuntime) -> Result<(), Fail> {
+    let cases: [(&[u8], &[u64], usize, &[u8]); 16] = [
+        (b"", &[], 2, b"[end][end]"),
+        (
+            b"# a script\nput A\r\nfirst\r\nsecond\n%%end\r\n \nreport B",
+            &[],
+            5,
+            b"[blank][put A first\r\nsecond\n][blank][report B][end]",
+        ),
+        (
+            b"drop A\nreport A\ncheck\nflat A\ncarry F f z : t\nlog\n",
+            &[],
+            7,
+            b"[drop A][report A][check][flat A][carry F f z : t][log][end]",
+        ),
+        // All bytes behind the first space are the judgement.
+        (b"carry F  [x] x \n", &[], 2, b"[carry F  [x] x ][end]"),
+        (b"carry F \n", &[], 2, b"[bad 1][spent]"),
+        (b"carry  F z\n", &[], 2, b"[bad 1][spent]"),
+        (b"carry F\n", &[], 2, b"[bad 1][spent]"),
+        (b"\n\nreport\n", &[], 4, b"[blank][blank][bad 3][spent]"),
+        (b"report A\r", &[], 2, b"[bad 1][spent]"),
+        (b"report A B\n", &[], 2, b"[bad 1][spent]"),
+        (b"log \n", &[], 2, b"[bad 1][spent]"),
+        (b"put A\n\n", &[], 2, b"[unended 1][spent]"),
+        (
+            b"report A\nput A\nx",
+            &[],
+            3,
+            b"[report A][unended 2][spent]",
+        ),
+        // A name that is put is no reserved word, and the line of a text counts.
+        (b"put _\n%%end\n", &[], 2, b"[bad 1][spent]"),
+        (
+            b"put A\na\n%%end\ncheck \n",
+            &[],
+            3,
+            b"[put A a\n][bad 4][spent]",
+        ),
+        (b"report A\n", &[1], 2, b"[failed][spent]"),
     ];
-    for (input, fault) in cases {
-        let mut source = source_of(alloc, input, &[])?;
-        let mut script = Script::new();
-        for _ in 0..4 {
-            match script.next_command(alloc, &mut source) {
-                Ok(_) => {}
-                Err(found) => {
-                    assert_eq!(rt; found, fault);
-                    assert!(rt;
-                        matches!(
-                            script.next_command(alloc, &mut source),
-                            Err(ScriptFault::Spent)
-                        )
-                    );
-                    break;
-                }
-            }
-        }
+    for (input, fails, calls, answers) in cases {
+        let found = read_all(rt.alloc(), input, fails, calls)?;
+        assert_eq!(rt; found.as_slice(), answers);
     }
     Ok(())
 }
 
+/// The first edits of a library of five modules from the number 1: parents 0, 0, 0 and 3, and then the modules 1, 2 and 0.
 #[test]
-fn a_failing_read(rt: HostRuntime) -> Result<(), Fail> {
-    let alloc = rt.alloc();
-    let mut source = source_of(alloc, b"report A\n", &[1])?;
-    let mut script = Script::new();
-    assert!(rt;
-        matches!(
-            script.next_command(alloc, &mut source),
-            Err(ScriptFault::Failed)
-        )
-    );
-    assert!(rt;
-        matches!(
-            script.next_command(alloc, &mut source),
-            Err(ScriptFault::Spent)
-        )
-    );
+fn generated_edits(rt: HostRuntime) -> Result<(), Fail> {
+    let edits: [(&str, &[u8]); 8] = [
+        ("G0", b"%sig G0 = {\nt : type.\nc0 : t.\n}.\n"),
+        (
+            "G1",
+            b"%sig G1 = {\n%include G0.\n%struct s : G0.\nt : type.\nc0 : t.\n}.\n",
+        ),
+        (
+            "G2",
+            b"%sig G2 = {\n%include G0.\n%struct s : G0.\nt : type.\nc0 : t.\n}.\n",
+        ),
+        (
+            "G3",
+            b"%sig G3 = {\n%include G0.\n%struct s : G0.\nt : type.\nc0 : t.\n}.\n",
+        ),
+        (
+            "G4",
+            b"%sig G4 = {\n%include G3.\n%struct s : G3.\nt : type.\nc0 : t.\n}.\n",
+        ),
+        (
+            "G1",
+            b"%sig G1 = {\n%include G0.\n%struct s : G0.\nt : type.\nc1 : t.\n}.\n",
+        ),
+        (
+            "G2",
+            b"%sig G2 = {\n%include G0.\n%struct s : G0.\nt : type.\nc2 : t.\n}.\n",
+        ),
+        ("G0", b"%sig G0 = {\nt : type.\nc3 : t.\n}.\n"),
+    ];
+    let mut generator = Gen::new(1, 5);
+    for (name, text) in edits {
+        match generator.next_edit(rt.alloc())? {
+            Edit::Put {
+                name: own,
+                text: put,
+            } => {
+                assert_eq!(rt; own.as_str(), name);
+                assert_eq!(rt; put.get().as_slice(), text);
+            }
+            Edit::Drop { .. } => panic!(rt; "a drop"),
+        }
+    }
     Ok(())
 }

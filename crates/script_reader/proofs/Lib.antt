@@ -1,6 +1,12 @@
 pub mod Ranges
 pub mod Reading
 pub mod Names
+pub mod Words
+pub mod Spaces
+pub mod HeldTexts
 pub mod TextSoFar
 pub mod FirstLines
 pub mod Puts
+pub mod DrawnNumbers
+pub mod GeneratedPlaces
+pub mod GeneratedNames

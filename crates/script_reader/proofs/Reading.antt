@@ -1,13 +1,16 @@
 -- A line that is read piece by piece.
-use Rattle.std.proofs.Common.{◌≡◌, ℕ, ◌+◌, ◌<◌, Bool, true, false, List, [], ◌∷◌, ◌++◌, length, take, drop, get_or, refl, sym, ap, ◌∙◌, arith, append_assoc, append-nil}
+use Rattle.std.proofs.Common.{◌≡◌, ℕ, ◌+◌, ◌<◌, Bool, true, false, List, [], ◌∷◌, ◌++◌, length, take, drop, get_or, refl, sym, ap, ◌∙◌, subst, arith, append_assoc, append-nil}
 use Rattle.std.proofs.Math.Seq.{take-length, drop-length}
-use Rattle.std.specs.Prelude.{Some, None}
+use Rattle.std.specs.Prelude.{Some, None, IsSome}
 use Rattle.std.specs.declared.option.Option.{Option}
 use Rattle.std.proofs.lemmas.List.{take_more, take-append-drop, length-append, length-take}
 use Rattle.mmt_outside.specs.Bytes.{preceded}
-use Rattle.output_meaning.specs.Lines.{NoFeed}
-use Rattle.output_laws.proofs.LineLemmas.{NoFeed-append}
+use Rattle.output_meaning.specs.Lines.{lines_of, NoFeed}
+use Rattle.output_laws.proofs.LineLemmas.{NoFeed-append, lines_of-last}
+use Rattle.output_laws.proofs.TextLemmas.{first_line-feed}
 use Rattle.script_reader.specs.Pieces.{EndsInFeed, MovesFront, ReadsLine}
+use Rattle.script_reader.specs.Texts.{StaysTold}
+use Rattle.script_reader.specs.declared.line.LineEnd.{LineEnd}
 use Rattle.script_reader.specs.declared.line.LineEnd.TheVariants.{Feed}
 use Rattle.mmt_outside.proofs.Bytes.{preceded-nil}
 
@@ -79,3 +82,25 @@ MovesFront-longer [] after line now whole moves some = absurd (some refl)
 MovesFront-longer (b ∷ bs) after line now whole moves some =
     let longer : 0 < length moves.piece = moves.progress (omega arith) in
     omega (arith, ap length moves.grows, length-append line moves.piece)
+
+-- a line that was read from its begin is the piece
+pub piece_is : (before after : Option (List ℕ)) (empty now : List ℕ) (most : ℕ) (end : LineEnd)
+    → empty ≡ [] → (read : ReadsLine before after empty now most end) → read.piece ≡ now
+piece_is before after empty now most end none read = sym (read.grows ∙ ap (λ (bs : List ℕ). bs ++ read.piece) none)
+
+-- a line with its feed is the first of the lines
+pub ends_in_feed-first : (line : List ℕ) → EndsInFeed line → (rest : List ℕ) → lines_of (line ++ rest) ≡ line ∷ lines_of rest
+ends_in_feed-first line ends rest =
+    subst (λ (l : List ℕ). lines_of (l ++ rest) ≡ l ∷ lines_of rest) (sym ends.is) (first_line-feed ends.front rest ends.plain)
+
+-- and so is one without, where the input ends behind it
+pub last_first : (piece rest : List ℕ) → NoFeed piece → (piece ≡ [] → ⊥) → rest ≡ [] → lines_of (piece ++ rest) ≡ piece ∷ lines_of rest
+unfolding lines_of
+last_first [] rest plain some none = absurd (some refl)
+last_first (b ∷ bs) rest plain some none =
+    subst (λ (r : List ℕ). lines_of ((b ∷ bs) ++ r) ≡ (b ∷ bs) ∷ lines_of r) (sym none)
+    (ap (λ (l : List ℕ). lines_of l) (append-nil (b ∷ bs)) ∙ lines_of-last b bs plain)
+
+pub stays_told : (taken : List ℕ) (before now : Option (List ℕ)) → before ≡ preceded taken now → StaysTold before now
+stays_told taken before None e told = subst (λ (o : Option (List ℕ)). IsSome o) e told
+stays_told taken before (Some rest) e told = refl

@@ -3,9 +3,10 @@ ghost use Rattle.std.specs.Prelude.{◌≡◌, ◌≤◌, ℕ, List, [], length,
 ghost use Rattle.mmt_outside.specs.Bytes.{preceded};
 ghost use Rattle.output_meaning.specs.Lines.{lines_of};
 ghost use Rattle.name_meaning.specs.Limits.{line_limit};
-ghost use Rattle.first_path_meaning.specs.Commands.{put_of, next_of};
+ghost use Rattle.run_meaning.specs.ScriptCommands.{put_of, next_of};
 ghost use Rattle.script_reader.specs.Pieces.{IsCaused};
-ghost use Rattle.script_reader.specs.Answers.{IsFirstLine, IsAnswer, IsShort, IsGiven, HasCause};
+ghost use Rattle.script_reader.specs.Commands.{IsShort};
+ghost use Rattle.script_reader.specs.Answers.{IsFirstLine, IsAnswer, HasCause};
 ghost use Rattle.script_reader.specs.Texts.{StaysTold};
 
 use crate::buffer::Buffer;
@@ -59,7 +60,6 @@ fn put<S: Source>(
         (λ bytes. IsAnswer result (put_of name (lines_of bytes)) (lines_of bytes) (preceded buffer.new (S.left source.new)) first line.old line.new) }
     ensures told { OnOk result (StaysTold (preceded buffer.old (S.left source.old)) (preceded buffer.new (S.left source.new))) }
     ensures within { IfOk result IsShort }
-    ensures given { IfOk result IsGiven }
     ensures later { S.faults source.old ≤ S.faults source.new }
     ensures cause { IfErr result (λ fault. HasCause (S.faults source.old) (S.faults source.new) fault) }
 {
@@ -79,13 +79,11 @@ pub(crate) fn next<S: Source>(
     buffer: &mut Buffer,
     source: &mut S,
     line: &mut u64,
-    may_put: bool,
 ) -> Result<Command, ScriptFault>
     ensures answer { IfSome (preceded buffer.old (S.left source.old))
-        (λ bytes. IsAnswer result (next_of may_put (lines_of bytes)) (lines_of bytes) (preceded buffer.new (S.left source.new)) line.old line.old line.new) }
+        (λ bytes. IsAnswer result (next_of (lines_of bytes)) (lines_of bytes) (preceded buffer.new (S.left source.new)) line.old line.old line.new) }
     ensures told { OnOk result (StaysTold (preceded buffer.old (S.left source.old)) (preceded buffer.new (S.left source.new))) }
     ensures within { IfOk result IsShort }
-    ensures given { IfOk result IsGiven }
     ensures later { S.faults source.old ≤ S.faults source.new }
     ensures cause { IfErr result (λ fault. HasCause (S.faults source.old) (S.faults source.new) fault) }
 {
@@ -97,10 +95,8 @@ pub(crate) fn next<S: Source>(
     };
     *line = first.saturating_add(1);
     match said_by(alloc, &text)? {
-        Said::Nothing => Ok(Command::Blank),
-        Said::Puts(name) if may_put => put(alloc, buffer, source, line, first, name),
-        Said::Puts(_) => Err(ScriptFault::Bad { line: first }),
-        Said::Reports(name) => Ok(Command::Report(name)),
+        Said::Puts(name) => put(alloc, buffer, source, line, first, name),
+        Said::Says(command) => Ok(command),
         Said::Wrong => Err(ScriptFault::Bad { line: first }),
     }
 }

@@ -1,10 +1,11 @@
 //! The script that is read.
 ghost use Rattle.std.specs.Prelude.{◌≡◌, ◌≤◌, true, false, [], IsTrue, IfSome, IfOk, OnOk, OnErr, IsErrOf, ◌↔◌};
 ghost use Rattle.output_meaning.specs.Lines.{lines_of};
-ghost use Rattle.first_path_meaning.specs.Commands.{next_of};
+ghost use Rattle.run_meaning.specs.ScriptCommands.{next_of};
 ghost use Rattle.mmt_outside.specs.Faults.{Rose};
-ghost use Rattle.script_reader.specs.Reading.{to_come, may_put_next};
-ghost use Rattle.script_reader.specs.Answers.{IsAnswer, IsShort, IsGiven};
+ghost use Rattle.script_reader.specs.Reading.{to_come};
+ghost use Rattle.script_reader.specs.Commands.{IsShort};
+ghost use Rattle.script_reader.specs.Answers.{IsAnswer};
 ghost use Rattle.script_reader.specs.Texts.{StaysTold};
 
 use crate::buffer::Buffer;
@@ -16,12 +17,11 @@ use std::alloc::Global;
 use std::marker::Model;
 
 /// A script, as far as it was read. It is seen as the bytes that were read from the source and not used yet, the
-/// number of the next line, whether a `put` may still come, and whether an error was answered.
+/// number of the next line, and whether an error was answered.
 #[derive(Drop)]
 pub struct Script {
     buffer: Buffer,
     line: u64,
-    may_put: bool,
     is_spent: bool,
 }
 
@@ -30,24 +30,28 @@ impl Model for Script {
 
     ghost Value = { Reading };
 
-    ghost view = { λ s. record { buffered = s.buffer; line = s.line; may_put = s.may_put; is_spent = s.is_spent } };
+    ghost view = { λ s. record { buffered = s.buffer; line = s.line; is_spent = s.is_spent } };
 }
 
 impl Script {
     /// A script of which nothing was read. It takes no memory.
     pub fn new() -> Self
-        ensures { result ≡ record { buffered = []; line = 1; may_put = true; is_spent = false } }
+        ensures { result ≡ record { buffered = []; line = 1; is_spent = false } }
     {
         Script {
             buffer: Buffer::new(),
             line: 1,
-            may_put: true,
             is_spent: false,
         }
     }
 
     /// The next command of the script. The bytes to come are those in the buffer, and then those that the source has
-    /// left. So far a script gives `Put`, once, `Report`, `Blank` and `End`.
+    /// left. Of the text of a `Put` the first 1,048,577 bytes are kept, which show that it is longer than a text may be.
+    ///
+    /// `Bad` where the line is longer than 1,024 bytes, is no command, blank line or comment, or is a `put` behind which
+    /// more than 2^26 bytes stand in front of its end line or the end of the input; `Unended` where the input ends
+    /// inside the text of a `put` and no more than that stand there; `Failed` only where the source did; `Spent` exactly
+    /// where an earlier call answered an error; `Memory` for want of memory.
     pub fn next_command<S: Source>(
         &mut self,
         alloc: Global,
@@ -61,32 +65,20 @@ impl Script {
 
         // Where the source tells its bytes, a command, `Bad` and `Unended` come exactly as the lines to come say.
         ensures answer { IfSome (to_come self.old (S.left source.old)) (λ bytes. self.old.is_spent ≡ false →
-            IsAnswer result (next_of self.old.may_put (lines_of bytes)) (lines_of bytes) (to_come self.new (S.left source.new))
+            IsAnswer result (next_of (lines_of bytes)) (lines_of bytes) (to_come self.new (S.left source.new))
             self.old.line self.old.line self.new.line) }
         ensures told { OnOk result (StaysTold (to_come self.old (S.left source.old)) (to_come self.new (S.left source.new))) }
-        ensures once { IfOk result (λ command. self.new.may_put ≡ may_put_next self.old.may_put command) }
 
         // Told or not.
         ensures short { IfOk result IsShort }
-        ensures given { IfOk result IsGiven }
         ensures later { S.faults source.old ≤ S.faults source.new }
         ensures failed { IsErrOf result ScriptFault.Failed → Rose (S.faults source.old) (S.faults source.new) }
     {
         if self.is_spent {
             return Err(ScriptFault::Spent);
         }
-        let answer = next(
-            alloc,
-            &mut self.buffer,
-            source,
-            &mut self.line,
-            self.may_put,
-        );
-        match &answer {
-            Ok(Command::Put { .. }) => self.may_put = false,
-            Ok(_) => {}
-            Err(_) => self.is_spent = true,
-        }
+        let answer = next(alloc, &mut self.buffer, source, &mut self.line);
+        self.is_spent = answer.is_err();
         answer
     }
 }

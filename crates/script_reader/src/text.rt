@@ -1,65 +1,69 @@
 //! The text of a `put`, up to its end line.
-ghost use Rattle.std.specs.Prelude.{◌≡◌, ◌≤◌, length, IfOk, IfErr, IfSome};
+ghost use Rattle.std.specs.Prelude.{◌≡◌, ◌≤◌, suc, length, IfOk, IfErr, IfSome};
 ghost use Rattle.mmt_outside.specs.Bytes.{preceded};
-ghost use Rattle.name_meaning.specs.Limits.{text_limit};
 ghost use Rattle.output_meaning.specs.Lines.{lines_of};
 ghost use Rattle.script_reader.specs.Pieces.{IsCaused};
-ghost use Rattle.script_reader.specs.Texts.{ReadsTextLine, TextGives, StaysTold, IsWithinLimit};
+ghost use Rattle.script_reader.specs.Texts.{ReadsPiece, TextGives, StaysTold, IsWithinLimit};
 
 use crate::buffer::Buffer;
 use crate::fault::ScriptFault;
+use crate::kept::KeptText;
 use crate::line::{LineEnd, read_line};
 use crate::said::is_end_line;
 use mmt_outside::Source;
 use std::alloc::Global;
 
-/// The greatest number of bytes between a `put` line and its end line.
-const TEXT_LIMIT: usize = 1 << 20;
+/// The greatest number of bytes between a `put` line and its end line, or the end of the input.
+const PUT_LIMIT: u64 = 1 << 26;
 
-/// What the next line of a text is.
-pub(crate) enum TextLine {
-    /// A part of the text.
-    Text,
+/// A line with so many bytes is no end line, which has seven at most with its line end.
+const NO_END_LINE: usize = 8;
+
+/// What the next piece of a text is. No piece is longer than a buffer and a short line.
+pub(crate) enum TextPiece {
+    /// The rest of a line.
+    Line,
+    /// A part of a line that is too long to be an end line.
+    Part,
     /// The end line.
     End,
-    /// The last line of the input, and no end line.
+    /// The last of the input, and no end line.
     Last,
-    /// Longer than an end line, and with it the text is too long.
-    Long,
 }
 
 /// How a text ended.
 #[derive(Drop)]
 pub(crate) enum Ending {
+    /// What is kept of the text.
     Whole(Vec<u8>),
     TooLong,
     Unended,
 }
 
-/// Reads a line of a text to the end of the text, and takes it away again where it is the end line.
-fn read_text_line<S: Source>(
+/// Reads a piece of a text, and adds it to the text where it is not the end line. Whether the line has begun
+/// already is given.
+fn read_piece<S: Source>(
     buffer: &mut Buffer,
     source: &mut S,
-    text: &mut Vec<u8>,
-) -> Result<TextLine, ScriptFault>
-    ensures line { IfOk result (λ line. ReadsTextLine (preceded buffer.old (S.left source.old)) (preceded buffer.new (S.left source.new))
-        text.old.items text.new.items line) }
+    piece: &mut Vec<u8>,
+    is_begun: bool,
+    text: &mut KeptText,
+) -> Result<TextPiece, ScriptFault>
+    ensures piece { IfOk result (λ read. ReadsPiece (preceded buffer.old (S.left source.old)) (preceded buffer.new (S.left source.new))
+        is_begun text.old text.new read) }
     ensures later { S.faults source.old ≤ S.faults source.new }
     ensures cause { IfErr result (λ fault. IsCaused (S.faults source.old) (S.faults source.new) fault) }
 {
-    let start = text.len();
-    let end = read_line(buffer, source, text, TEXT_LIMIT + 8)?;
-    if end == LineEnd::Limit {
-        return Ok(TextLine::Long);
+    piece.clear();
+    let end = read_line(buffer, source, piece, NO_END_LINE)?;
+    if !is_begun && is_end_line(piece) {
+        return Ok(TextPiece::End);
     }
-    if is_end_line(&text[start..]) {
-        text.truncate(start);
-        return Ok(TextLine::End);
-    }
-    Ok(if end == LineEnd::Feed {
-        TextLine::Text
-    } else {
-        TextLine::Last
+    text.push(piece)?;
+    Ok(match end {
+        LineEnd::Feed => TextPiece::Line,
+        LineEnd::Limit => TextPiece::Part,
+        LineEnd::Input => TextPiece::Last,
     })
 }
 
@@ -80,16 +84,23 @@ pub(crate) fn read_text<S: Source>(
     ensures later { S.faults source.old ≤ S.faults source.new }
     ensures cause { IfErr result (λ fault. IsCaused (S.faults source.old) (S.faults source.new) fault) }
 {
-    let mut text = Vec::new(alloc);
-    while text.len() <= TEXT_LIMIT {
-        let read = read_text_line(buffer, source, &mut text)?;
-        *line = line.saturating_add(1);
+    let mut text = KeptText::new(alloc);
+    let mut piece = Vec::new(alloc);
+    let mut is_begun = false;
+    while text.total() <= PUT_LIMIT {
+        let read = read_piece(buffer, source, &mut piece, is_begun, &mut text)?;
         match read {
-            TextLine::Text => {}
-            TextLine::End => return Ok(Ending::Whole(text)),
-            TextLine::Last if text.len() > TEXT_LIMIT => return Ok(Ending::TooLong),
-            TextLine::Last => return Ok(Ending::Unended),
-            TextLine::Long => return Ok(Ending::TooLong),
+            TextPiece::Part => is_begun = true,
+            TextPiece::Line => {
+                is_begun = false;
+                *line = line.saturating_add(1);
+            }
+            TextPiece::End => {
+                *line = line.saturating_add(1);
+                return Ok(Ending::Whole(text.into_kept()));
+            }
+            TextPiece::Last if text.total() > PUT_LIMIT => return Ok(Ending::TooLong),
+            TextPiece::Last => return Ok(Ending::Unended),
         }
     }
     Ok(Ending::TooLong)

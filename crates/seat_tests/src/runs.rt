@@ -1,7 +1,9 @@
 //! Threads that share a board, and what they leave.
 ghost use Rattle.std.specs.Prelude.{◌≡◌, ◌<◌, []};
 ghost use Rattle.turn_meaning.specs.Passes.{IsIdleOf};
+ghost use Rattle.board_meaning.specs.Legal.{IsLegal};
 ghost use Rattle.board_seats.specs.Seats.{Keeps};
+ghost use Rattle.board_tests.specs.Sizes.{sizes};
 
 use board_seats::{BoardPass, SharedBoard};
 use board_tests::sizes::Sizes;
@@ -89,7 +91,20 @@ pub fn wait_for_all<R: Wait>(
 }
 
 /// The front: it puts the modules, waits for their verdicts, and closes the board.
-pub fn lead<R: Wait>(
+pub fn lead<R: Wait>(rt: &R, alloc: Global, board: &Shared, pass: &mut Seat, names: &[Name]) -> bool
+    requires idle { IsIdleOf board.now pass.old }
+    requires front { pass.old.number ≡ 0 }
+    ensures keeps { Keeps pass.old pass.new }
+    ensures legal { IsLegal sizes.dependencies pass.new.seen }
+{
+    let put = matches!(put_all(rt, alloc, board, pass, names), Ok(true));
+    let told = put && matches!(wait_for_all(rt, board, pass, names), Ok(true));
+    board.close(rt, pass);
+    told
+}
+
+/// The front with a pass of its own.
+fn lead_alone<R: Wait>(
     rt: &R,
     alloc: Global,
     board: &Shared,
@@ -100,9 +115,7 @@ pub fn lead<R: Wait>(
     requires front { pass.number ≡ 0 }
     ensures { Keeps pass result.0 }
 {
-    let put = matches!(put_all(rt, alloc, board, &mut pass, names), Ok(true));
-    let told = put && matches!(wait_for_all(rt, board, &mut pass, names), Ok(true));
-    board.close(rt, &mut pass);
+    let told = lead(rt, alloc, board, &mut pass, names);
     (pass, told)
 }
 
@@ -176,7 +189,7 @@ pub fn by_three<R: Threads + Wait + Sync>(
         || -> (Seat, bool)
             requires { IsIdleOf shared.now first × (first.number ≡ 0) }
             ensures { Keeps first result.0 }
-        { lead(rt, alloc, shared, first, names) },
+        { lead_alone(rt, alloc, shared, first, names) },
         || -> ((Seat, bool), (Seat, bool))
             requires { IsIdleOf shared.now one × IsIdleOf shared.now two }
             ensures { Keeps one result.0.0 × Keeps two result.1.0 }

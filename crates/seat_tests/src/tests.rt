@@ -1,6 +1,9 @@
 ghost use Rattle.std.specs.Prelude.{◌≡◌, IfOk, []};
 ghost use Rattle.turn_meaning.specs.Passes.{IsIdleOf};
+ghost use Rattle.board_meaning.specs.Legal.{IsLegal};
+ghost use Rattle.board_tests.specs.Sizes.{sizes};
 
+use crate::crews::by_crew;
 use crate::runs::{Seat, Shared, by_three, empty_module};
 use board_seats::SharedBoard;
 use board_tests::sizes::Sizes;
@@ -12,7 +15,7 @@ use turn_lock::NewFault;
 use verdict_board::{Board, Told};
 
 fn shared_board(alloc: Global) -> Result<(Shared, Seat), Memory>
-    ensures { IfOk result (λ made. IsIdleOf made.0 made.1 × (made.1.number ≡ 0) × (made.1.made ≡ 1) × (made.1.joined ≡ [])) }
+    ensures { IfOk result (λ made. IsIdleOf made.0 made.1 × (made.1.number ≡ 0) × (made.1.made ≡ 1) × (made.1.joined ≡ []) × IsLegal sizes.dependencies made.1.seen) }
 {
     match SharedBoard::new(alloc, Board::new(alloc, Sizes)?) {
         Ok(made) => Ok(made),
@@ -34,6 +37,25 @@ fn two_workers_judge_what_the_front_puts(rt: HostRuntime) -> Result<(), Fail> {
         (board.entries(), board.installs(), board.version()),
         (25, 8, 8)
     );
+    Ok(())
+}
+
+#[test]
+fn crews_judge_what_the_front_puts(rt: HostRuntime) -> Result<(), Fail> {
+    let alloc = rt.alloc();
+    let mut names = Vec::new(alloc);
+    for name in ["A", "B", "C", "D", "E", "F", "G", "H"] {
+        names.push(Name::new(alloc, name)?)?;
+    }
+    for workers in [1, 3, 16] {
+        let (shared, first) = shared_board(alloc)?;
+        let (board, done) = by_crew(&rt, alloc, shared, first, names.as_slice(), workers)?;
+        assert!(rt; done && board.closed());
+        assert_eq!(rt;
+            (board.entries(), board.installs(), board.version()),
+            (25, 8, 8)
+        );
+    }
     Ok(())
 }
 

@@ -1,49 +1,78 @@
-use Rattle.std.proofs.Common.{subst, arith}
+use Rattle.std.proofs.Common.{◌<◌, false, subst, sym, arith}
 use Rattle.mmt_outside.specs.Bytes.{preceded}
-use Rattle.script_reader.specs.Texts.{ReadsTextLine}
-use Rattle.script_reader.specs.declared.text.TextLine.{TextLine}
-use Rattle.script_reader.proofs.TextSoFar.{HasText-nil, HasText-more, has_whole, has_last_short, has_last_long, has_long}
+use Rattle.script_reader.specs.HeldTexts.{Held}
+use Rattle.script_reader.specs.Texts.{ReadsPiece}
+use Rattle.script_reader.specs.declared.text.TextPiece.{TextPiece}
+use Rattle.script_reader.proofs.TextSoFar.{HasText, HasText-nil, HasText-line, HasText-part, line_grows, part_grows, has_whole, has_last_short, has_last_long, has_longer}
 use Rattle.script_reader.proofs.text.read_text.Goals as goal
 
 pub loop-buffer-init : goal.loop-buffer-init
 loop-buffer-init g c = record {
-  text = HasText-nil _ _ _ c.new-text.ensures.items;
+  text = subst (λ (held : Held). HasText (preceded c.args.buffer.now (g.S.Source.left c.args.source.now)) (preceded c.args.buffer.now (g.S.Source.left c.args.source.now)) c.args.line.now c.args.line.now false held) (sym c.new-text.ensures)
+      (HasText-nil (preceded c.args.buffer.now (g.S.Source.left c.args.source.now)) c.args.line.now);
+  later = omega arith;
+}
+
+pub loop-buffer-preserved-in-Part : goal.loop-buffer-preserved-in-Part
+loop-buffer-preserved-in-Part g c = record {
+  text = HasText-part (preceded c.args.buffer.now (g.S.Source.left c.args.source.now)) (preceded c.loop-buffer.buffer (g.S.Source.left c.loop-buffer.source))
+      (preceded c.read_piece.new.buffer (g.S.Source.left c.read_piece.new.source)) c.args.line.now c.loop-buffer.line c.loop-buffer.is_begun c.loop-buffer.text c.read_piece.new.text c.loop-buffer.invariant.text
+      (subst (λ (read : TextPiece). ReadsPiece (preceded c.loop-buffer.buffer (g.S.Source.left c.loop-buffer.source))
+      (preceded c.read_piece.new.buffer (g.S.Source.left c.read_piece.new.source)) c.loop-buffer.is_begun c.loop-buffer.text c.read_piece.new.text read)
+      c.in-Part.is c.in_ok-read.ensures.piece);
   later = omega arith;
 }
 
 pub loop-buffer-preserved : goal.loop-buffer-preserved
 loop-buffer-preserved g c = record {
-  text = rw c.saturating_add.ensures (HasText-more _ (preceded c.loop-buffer.buffer (g.S.Source.left c.loop-buffer.source)) _ _ _ c.loop-buffer.text.items _ c.loop-buffer.invariant.text
-      (subst (λ (line : TextLine). ReadsTextLine (preceded c.loop-buffer.buffer (g.S.Source.left c.loop-buffer.source))
-      (preceded c.read_text_line.new.buffer (g.S.Source.left c.read_text_line.new.source)) c.loop-buffer.text.items c.read_text_line.new.text.items line)
-      c.in-Text.is c.in_ok-read.ensures.line));
+  text = rw c.saturating_add.ensures (HasText-line (preceded c.args.buffer.now (g.S.Source.left c.args.source.now)) (preceded c.loop-buffer.buffer (g.S.Source.left c.loop-buffer.source))
+      (preceded c.read_piece.new.buffer (g.S.Source.left c.read_piece.new.source)) c.args.line.now c.loop-buffer.line c.loop-buffer.is_begun c.loop-buffer.text c.read_piece.new.text c.loop-buffer.invariant.text
+      (subst (λ (read : TextPiece). ReadsPiece (preceded c.loop-buffer.buffer (g.S.Source.left c.loop-buffer.source))
+      (preceded c.read_piece.new.buffer (g.S.Source.left c.read_piece.new.source)) c.loop-buffer.is_begun c.loop-buffer.text c.read_piece.new.text read)
+      c.in-Line.is c.in_ok-read.ensures.piece));
   later = omega arith;
 }
 
+pub loop-buffer-smaller-in-Part : goal.loop-buffer-smaller-in-Part
+loop-buffer-smaller-in-Part g c =
+    let grows : c.loop-buffer.text.total < c.read_piece.new.text.total = part_grows (preceded c.loop-buffer.buffer (g.S.Source.left c.loop-buffer.source)) (preceded c.read_piece.new.buffer (g.S.Source.left c.read_piece.new.source))
+    c.loop-buffer.is_begun c.loop-buffer.text c.read_piece.new.text (subst (λ (read : TextPiece). ReadsPiece (preceded c.loop-buffer.buffer (g.S.Source.left c.loop-buffer.source))
+    (preceded c.read_piece.new.buffer (g.S.Source.left c.read_piece.new.source)) c.loop-buffer.is_begun c.loop-buffer.text c.read_piece.new.text read)
+    c.in-Part.is c.in_ok-read.ensures.piece) (omega arith) in
+    omega arith
+
+pub loop-buffer-smaller : goal.loop-buffer-smaller
+loop-buffer-smaller g c =
+    let grows : c.loop-buffer.text.total < c.read_piece.new.text.total = line_grows (preceded c.loop-buffer.buffer (g.S.Source.left c.loop-buffer.source)) (preceded c.read_piece.new.buffer (g.S.Source.left c.read_piece.new.source))
+    c.loop-buffer.is_begun c.loop-buffer.text c.read_piece.new.text (subst (λ (read : TextPiece). ReadsPiece (preceded c.loop-buffer.buffer (g.S.Source.left c.loop-buffer.source))
+    (preceded c.read_piece.new.buffer (g.S.Source.left c.read_piece.new.source)) c.loop-buffer.is_begun c.loop-buffer.text c.read_piece.new.text read)
+    c.in-Line.is c.in_ok-read.ensures.piece) (omega arith) in
+    omega arith
+
 pub returns-in-End-clause-text : goal.returns-in-End-clause-text
 returns-in-End-clause-text g c =
-    rw c.saturating_add.ensures (has_whole _ (preceded c.loop-buffer.buffer (g.S.Source.left c.loop-buffer.source)) _ _ _ c.loop-buffer.text.items _ c.loop-buffer.invariant.text
-    (subst (λ (line : TextLine). ReadsTextLine (preceded c.loop-buffer.buffer (g.S.Source.left c.loop-buffer.source))
-    (preceded c.read_text_line.new.buffer (g.S.Source.left c.read_text_line.new.source)) c.loop-buffer.text.items c.read_text_line.new.text.items line)
-    c.in-End.is c.in_ok-read.ensures.line) (omega arith))
+    rw (c.saturating_add-in-End.ensures, c.into_kept.ensures.kept) (has_whole (preceded c.args.buffer.now (g.S.Source.left c.args.source.now)) (preceded c.loop-buffer.buffer (g.S.Source.left c.loop-buffer.source))
+    (preceded c.read_piece.new.buffer (g.S.Source.left c.read_piece.new.source)) c.args.line.now c.loop-buffer.line c.loop-buffer.is_begun c.loop-buffer.text c.read_piece.new.text c.loop-buffer.invariant.text
+    (subst (λ (read : TextPiece). ReadsPiece (preceded c.loop-buffer.buffer (g.S.Source.left c.loop-buffer.source))
+    (preceded c.read_piece.new.buffer (g.S.Source.left c.read_piece.new.source)) c.loop-buffer.is_begun c.loop-buffer.text c.read_piece.new.text read)
+    c.in-End.is c.in_ok-read.ensures.piece) (omega arith))
 
 pub returns-in-Last-clause-text : goal.returns-in-Last-clause-text
 returns-in-Last-clause-text g c =
-    has_last_long _ (preceded c.loop-buffer.buffer (g.S.Source.left c.loop-buffer.source)) (preceded c.read_text_line.new.buffer (g.S.Source.left c.read_text_line.new.source)) _ _ c.loop-buffer.text.items c.read_text_line.new.text.items c.loop-buffer.invariant.text
-    (subst (λ (line : TextLine). ReadsTextLine (preceded c.loop-buffer.buffer (g.S.Source.left c.loop-buffer.source))
-    (preceded c.read_text_line.new.buffer (g.S.Source.left c.read_text_line.new.source)) c.loop-buffer.text.items c.read_text_line.new.text.items line)
-    c.in-Last.is c.in_ok-read.ensures.line) (omega arith)
+    has_last_long (preceded c.args.buffer.now (g.S.Source.left c.args.source.now)) (preceded c.loop-buffer.buffer (g.S.Source.left c.loop-buffer.source))
+    (preceded c.read_piece.new.buffer (g.S.Source.left c.read_piece.new.source)) c.args.line.now c.loop-buffer.line c.loop-buffer.is_begun c.loop-buffer.text c.read_piece.new.text c.loop-buffer.invariant.text
+    (subst (λ (read : TextPiece). ReadsPiece (preceded c.loop-buffer.buffer (g.S.Source.left c.loop-buffer.source))
+    (preceded c.read_piece.new.buffer (g.S.Source.left c.read_piece.new.source)) c.loop-buffer.is_begun c.loop-buffer.text c.read_piece.new.text read)
+    c.in-Last.is c.in_ok-read.ensures.piece) (omega arith)
 
 pub returns-in-Last-2-clause-text : goal.returns-in-Last-2-clause-text
 returns-in-Last-2-clause-text g c =
-    has_last_short _ (preceded c.loop-buffer.buffer (g.S.Source.left c.loop-buffer.source)) (preceded c.read_text_line.new.buffer (g.S.Source.left c.read_text_line.new.source)) _ _ c.loop-buffer.text.items c.read_text_line.new.text.items c.loop-buffer.invariant.text
-    (subst (λ (line : TextLine). ReadsTextLine (preceded c.loop-buffer.buffer (g.S.Source.left c.loop-buffer.source))
-    (preceded c.read_text_line.new.buffer (g.S.Source.left c.read_text_line.new.source)) c.loop-buffer.text.items c.read_text_line.new.text.items line)
-    c.in-Last-2.is c.in_ok-read.ensures.line) (omega arith)
+    has_last_short (preceded c.args.buffer.now (g.S.Source.left c.args.source.now)) (preceded c.loop-buffer.buffer (g.S.Source.left c.loop-buffer.source))
+    (preceded c.read_piece.new.buffer (g.S.Source.left c.read_piece.new.source)) c.args.line.now c.loop-buffer.line c.loop-buffer.is_begun c.loop-buffer.text c.read_piece.new.text c.loop-buffer.invariant.text
+    (subst (λ (read : TextPiece). ReadsPiece (preceded c.loop-buffer.buffer (g.S.Source.left c.loop-buffer.source))
+    (preceded c.read_piece.new.buffer (g.S.Source.left c.read_piece.new.source)) c.loop-buffer.is_begun c.loop-buffer.text c.read_piece.new.text read)
+    c.in-Last-2.is c.in_ok-read.ensures.piece) (omega arith)
 
-pub returns-in-Long-clause-text : goal.returns-in-Long-clause-text
-returns-in-Long-clause-text g c =
-    has_long _ (preceded c.loop-buffer.buffer (g.S.Source.left c.loop-buffer.source)) (preceded c.read_text_line.new.buffer (g.S.Source.left c.read_text_line.new.source)) _ _ c.loop-buffer.text.items c.read_text_line.new.text.items c.loop-buffer.invariant.text
-    (subst (λ (line : TextLine). ReadsTextLine (preceded c.loop-buffer.buffer (g.S.Source.left c.loop-buffer.source))
-    (preceded c.read_text_line.new.buffer (g.S.Source.left c.read_text_line.new.source)) c.loop-buffer.text.items c.read_text_line.new.text.items line)
-    c.in-Long.is c.in_ok-read.ensures.line) (omega arith)
+pub returns-clause-text : goal.returns-clause-text
+returns-clause-text g c =
+    has_longer (preceded c.args.buffer.now (g.S.Source.left c.args.source.now)) (preceded c.loop-buffer.buffer (g.S.Source.left c.loop-buffer.source)) c.args.line.now c.loop-buffer.line c.loop-buffer.is_begun c.loop-buffer.text c.loop-buffer.invariant.text (omega arith)

@@ -1,0 +1,4 @@
+pub mod Counts
+pub mod Found
+pub mod Numerals
+pub mod Parts

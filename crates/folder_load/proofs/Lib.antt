@@ -1,0 +1,11 @@
+pub mod Contained
+pub mod FileAnswers
+pub mod FileOrder
+pub mod FreshLogs
+pub mod LoadedFolder
+pub mod Mapped
+pub mod ModuleNames
+pub mod NextModules
+pub mod PiecesInTurn
+pub mod PlacesOfPieces
+pub mod SortedTexts

@@ -1,0 +1,89 @@
+-- Texts that are sorted, seen as their bytes.
+use Rattle.std.proofs.Common.{◌≡◌, ◌≢◌, suc, ◌+◌, ◌<◌, Bool, true, false, cond, List, [], ◌∷◌, length, map, filter, get_or, AllPairs, IsPermutation, refl, sym, ap, ◌∙◌, subst, arith}
+use Rattle.std.specs.List.{list_all, IsDistinct}
+use Rattle.std.specs.List.Sorted.{IsSorted}
+use Rattle.std.specs.Ordering.{nat_cmp, is_lt}
+use Rattle.std.specs.Cmp.Lexicographic.{slice_cmp}
+use Rattle.std.specs.String.{string_bytes, string_cmp}
+use Rattle.std.specs.declared.string.String.{String}
+use Rattle.std.proofs.lemmas.Bool.{and_from, and_parts}
+use Rattle.std.proofs.lemmas.List.{get_or-map, length-map}
+use Rattle.std.proofs.lemmas.List.Kept.{AllPairs-filter}
+use Rattle.std.proofs.lemmas.List.Sorted.{IsPermutation-map, list_any-IsPermutation}
+use Rattle.std.proofs.lemmas.Map.Keys.{IsDistinct-IsPermutation}
+use Rattle.std.proofs.lemmas.Map.Made.{IsDistinct-from_AllPairs}
+use Rattle.std.proofs.lemmas.Slice.Eq.{bytes_eq-Decides}
+use Rattle.name_meaning.specs.Names.{Name, same_name, comes_before, is_among, is_ascending}
+use Rattle.list_laws.proofs.Members.{Member, in_filter, filter_in}
+use Rattle.name_laws.proofs.Contained.{same_other_way}
+use Rattle.name_laws.proofs.Order.{among_member, member_among, same_turned, before_turned, all_before_more}
+use Rattle.folder_load.specs.Loads.{is_module_name, AreInOrder}
+use Rattle.folder_load.proofs.Contained.{member_contains, contains_member}
+
+-- ---- distinct names that are sorted stand in byte order
+
+sorted_tail : (x : Name) (xs : List Name) → IsSorted (slice_cmp nat_cmp) (x ∷ xs) → IsSorted (slice_cmp nat_cmp) xs
+sorted_tail x xs h k d low high =
+    let e : suc k + 1 ≡ suc (k + 1) = omega arith in
+    subst (λ j. is_lt (slice_cmp nat_cmp (get_or (x ∷ xs) j d) (get_or xs k d)) ≡ false) e (h (suc k) d (omega arith) (omega (arith, high)))
+
+sorted_ascending : (xs : List Name) → IsSorted (slice_cmp nat_cmp) xs → IsDistinct same_name xs → is_ascending xs ≡ true
+unfolding is_ascending IsDistinct
+sorted_ascending [] s d = refl
+sorted_ascending (x ∷ []) s d = refl
+sorted_ascending (x ∷ y ∷ xs) s d =
+    let tail = sorted_ascending (y ∷ xs) (sorted_tail x (y ∷ xs) s) d.1 in
+    let b : comes_before x y ≡ true = before_turned y x (same_turned x y d.0.0) (s 0 x (omega arith) (omega arith)) in
+    let p = and_parts (list_all (comes_before y) xs) (is_ascending xs) tail in
+    and_from (list_all (comes_before x) (y ∷ xs)) (is_ascending (y ∷ xs)) (and_from (comes_before x y) (list_all (comes_before x) xs) b (all_before_more x y xs b p.0)) tail
+
+-- ---- texts
+
+module _ {Z : Type 0} where
+  sorted_bytes : (xs : List (String Z)) → IsSorted string_cmp xs → IsSorted (slice_cmp nat_cmp) (map string_bytes xs)
+  sorted_bytes [] h k d low high = absurd (omega (arith, high))
+  sorted_bytes (x ∷ xs) h k d low high =
+      let within : k + 1 < length (x ∷ xs) = omega (arith, high, length-map (x ∷ xs) (string_bytes {Z = Z})) in
+      let first = get_or-map string_bytes (x ∷ xs) k x d (omega (arith, within)) in
+      let second = get_or-map string_bytes (x ∷ xs) (k + 1) x d within in
+      (λ i. is_lt (slice_cmp nat_cmp (second i) (first i))) ∙ h k x low within
+
+  filtered_bytes : (xs : List (String Z)) → map string_bytes (filter (λ x. is_module_name (string_bytes x)) xs) ≡ filter is_module_name (map string_bytes xs)
+  filtered_bytes [] = refl
+  filtered_bytes (x ∷ xs) = by (is_module_name (string_bytes x)) (filtered_bytes xs)
+    where
+      by : (b : Bool) → map string_bytes (filter (λ x. is_module_name (string_bytes x)) xs) ≡ filter is_module_name (map string_bytes xs)
+          → map string_bytes (cond b (x ∷ filter (λ x. is_module_name (string_bytes x)) xs) (filter (λ x. is_module_name (string_bytes x)) xs))
+          ≡ cond b (string_bytes x ∷ filter is_module_name (map string_bytes xs)) (filter is_module_name (map string_bytes xs))
+      by true h = ap (λ names. string_bytes x ∷ names) h
+      by false h = h
+
+  module _ (names kept ordered : List (String Z)) (filtered : kept ≡ filter (λ x. is_module_name (string_bytes x)) names) (moved : IsPermutation kept ordered) (sorted : IsSorted string_cmp ordered) where
+    kept_are : map string_bytes kept ≡ filter is_module_name (map string_bytes names)
+    kept_are = ap (map string_bytes) filtered ∙ filtered_bytes names
+
+    bytes_moved : IsPermutation (map string_bytes kept) (map string_bytes ordered)
+    bytes_moved = IsPermutation-map string_bytes kept ordered moved
+
+    among_both : (name : Name) → is_among (map string_bytes kept) name ≡ is_among (map string_bytes ordered) name
+    unfolding is_among
+    among_both name = list_any-IsPermutation (same_name name) (map string_bytes kept) (map string_bytes ordered) bytes_moved
+
+    pub are_in_order : AreInOrder (map string_bytes names) (map string_bytes ordered)
+    are_in_order = record {
+      ascending = λ once.
+          let apart = subst (AllPairs (λ a b. a ≢ b)) (sym kept_are) (AllPairs-filter (λ a b. a ≢ b) is_module_name (map string_bytes names) once) in
+          let distinct = IsDistinct-from_AllPairs {eq = same_name} bytes_eq-Decides (map string_bytes kept) apart in
+          sorted_ascending (map string_bytes ordered) (sorted_bytes ordered sorted)
+          (IsDistinct-IsPermutation same_name same_other_way (map string_bytes kept) (map string_bytes ordered) bytes_moved distinct);
+      each = λ name. (
+        λ at.
+            let m = among_member (map string_bytes kept) name (among_both name ∙ member_among (map string_bytes ordered) name (contains_member (map string_bytes ordered) name at)) in
+            let p = in_filter is_module_name (map string_bytes names) name (subst (Member name) kept_are m) in
+            (member_contains (map string_bytes names) name p.0, p.1),
+        λ p.
+            let m = filter_in is_module_name (map string_bytes names) name (contains_member (map string_bytes names) name p.0) p.1 in
+            member_contains (map string_bytes ordered) name
+            (among_member (map string_bytes ordered) name (sym (among_both name) ∙ member_among (map string_bytes kept) name (subst (Member name) (sym kept_are) m))),
+      );
+    }

@@ -1,0 +1,3 @@
+pub mod Ahead
+pub mod Loads
+pub mod Shown

@@ -1,0 +1,122 @@
+-- A session as its front leaves it, and what becomes of it then.
+use Rattle.std.proofs.Common.{◌≡◌, ℕ, true, List, [], length, refl, sym, ap, ◌∙◌, subst, arith}
+use Rattle.std.specs.Prelude.{Option, Some, None, IfSome, IsNone, IsSome}
+use Rattle.mmt_outside.specs.Bytes.{Taken}
+use Rattle.mmt_outside.proofs.Bytes.{TookPrefix-none}
+use Rattle.run_meaning.specs.ScriptItems.{script_of}
+use Rattle.run_meaning.specs.ScriptOutput.{has_fault}
+use Rattle.run_meaning.specs.ScriptLogs.{script_log}
+use Rattle.judged_meaning.specs.Outputs.{play_output}
+use Rattle.turn_meaning.specs.Passes.{Pass, HasJoinedAll, first_pass}
+use Rattle.log_meaning.specs.Log.{Log}
+use Rattle.text_meaning.specs.Dependencies.{dependencies}
+use Rattle.board_meaning.specs.Events.{Entry, History, log_of}
+use Rattle.board_meaning.specs.Legal.{IsLegal}
+use Rattle.board_meaning.specs.Machine.{CloseCall, after_call, may_call}
+use Rattle.board_meaning.specs.Ready.{is_closed}
+use Rattle.board_laws.proofs.Legality.{legal_empty}
+use Rattle.board_front.specs.Staying.{IsAtFront, IsFront, Stays}
+use Rattle.board_front.proofs.Closing.{closed_after}
+use Rattle.board_front.proofs.Histories.{stays_call}
+use Rattle.mmt_top.specs.declared.status.Status.{Status}
+use Rattle.mmt_top.specs.declared.status.Status.TheVariants.{Memory}
+use Rattle.mmt_top.specs.Session.{BacksWritten, EditsAre, EndsAs, IsLed}
+use Rattle.mmt_top.proofs.Sessions.{ended_backs, ended_edits, ended_output, none_played}
+
+-- Nothing was played.
+pub none_led : (left : Option (List ℕ)) (reads : ℕ) (before : Option Taken) (writes : ℕ) (last : History) → Stays [] last → is_closed last ≡ true
+    → IsLed Memory left left reads reads before before writes writes last
+unfolding log_of
+none_led left reads before writes last stays closed = record {
+  legal = stays.legal;
+  closed = closed;
+  ends = none_played before left last stays;
+  read_all = λ e. absurd (cc);
+  answers = tt;
+  flush = tt;
+  read = λ e. absurd (cc);
+  write = λ e. absurd (cc);
+  source_later = omega arith;
+  sink_later = omega arith;
+}
+
+-- A board without an entry that is closed.
+pub closed_at_once : (history after : History) → history ≡ [] → after ≡ after_call dependencies history 0 CloseCall → Stays [] after × (is_closed after ≡ true)
+unfolding after_call may_call
+closed_at_once history after none closes =
+    let c : after ≡ after_call dependencies [] 0 CloseCall = closes ∙ ap (λ h. after_call dependencies h 0 CloseCall) none in
+    (stays_call [] after CloseCall (legal_empty dependencies) refl refl c, ap is_closed c ∙ closed_after [] 0)
+
+-- The first pass of a lock.
+module _ {Lock : Type 0} (lock : Lock) (pass : Pass Lock Entry) (first : pass ≡ first_pass lock []) where
+  pub first_at_front : IsAtFront lock pass
+  first_at_front = record { idle = record { of = ap (λ (p : Pass Lock Entry). p.lock) first; idle = ap (λ (p : Pass Lock Entry). p.has_turn) first }; first = ap (λ (p : Pass Lock Entry). p.number) first }
+
+  pub first_legal : IsLegal dependencies pass.seen
+  first_legal = subst (IsLegal dependencies) (sym (ap (λ (p : Pass Lock Entry). p.seen) first)) (legal_empty dependencies)
+
+  pub first_joined : HasJoinedAll pass
+  first_joined = let made = ap (λ (p : Pass Lock Entry). p.made) first in let joined = ap (λ (p : Pass Lock Entry). length p.joined) first in omega (arith, made, joined)
+
+-- A board without an entry, and a log without an edit.
+pub empty_legal : (history : History) → history ≡ [] → IsLegal dependencies history
+empty_legal history empty = subst (IsLegal dependencies) (sym empty) (legal_empty dependencies)
+
+pub empty_front : (log : Log) (history : History) → log ≡ [] → history ≡ [] → IsFront log history
+unfolding log_of
+empty_front log history none empty = record { legal = empty_legal history empty; logged = none ∙ sym (ap log_of empty) }
+
+pub unplayed_led : (status : Status) (left : Option (List ℕ)) (reads : ℕ) (before : Option Taken) (writes : ℕ) (board : Option History) → status ≡ Memory
+    → IfSome board (λ last. Stays [] last × (is_closed last ≡ true)) → IfSome board (IsLed status left left reads reads before before writes writes)
+unplayed_led status left reads before writes None is ends = tt
+unplayed_led status left reads before writes (Some last) is ends =
+    subst (λ (s : Status). IsLed s left left reads reads before before writes writes last) (sym is) (none_led left reads before writes last ends.0 ends.1)
+
+-- Nothing is said of a board that is not there.
+pub nothing_said : (left : Option (List ℕ)) → IfSome left (λ bytes. Unit {0})
+nothing_said None = tt
+nothing_said (Some bytes) = tt
+
+pub nothing_written : (before : Option Taken) (left : Option (List ℕ)) → IfSome left (λ bytes. EndsAs Memory before before (play_output bytes) (has_fault (script_of bytes)))
+nothing_written before None = tt
+nothing_written before (Some bytes) = TookPrefix-none before (play_output bytes)
+
+-- What a session says, once its front and its workers are done.
+module _ (status : Status) (left rest : Option (List ℕ)) (reads reads_after : ℕ) (before now : Option Taken) (writes writes_after : ℕ) (board : Option History)
+    (some : IsSome board) (led : IfSome board (IsLed status left rest reads reads_after before now writes writes_after)) where
+  at_end : (last : History) × (board ≡ Some last) × IsLed status left rest reads reads_after before now writes writes_after last
+  at_end = by board some led
+    where
+      by : (o : Option History) → IsSome o → IfSome o (IsLed status left rest reads reads_after before now writes writes_after)
+          → (last : History) × (o ≡ Some last) × IsLed status left rest reads reads_after before now writes writes_after last
+      by None s l = absurd (not_there s)
+        where
+          not_there : IsSome {T = History} None → ⊥
+          not_there t = cc
+      by (Some last) s l = (last, refl, l)
+
+  pub is_led : (last : History) × (board ≡ Some last) × IsLed status left rest reads reads_after before now writes writes_after last
+  is_led = at_end
+
+  pub says_output : IfSome left (λ bytes. EndsAs status before now (play_output bytes) (has_fault (script_of bytes)))
+  says_output = ended_output status before now left at_end.0 at_end.2.ends
+
+  pub says_edits : IfSome left (λ bytes. IfSome board (λ last. EditsAre status (script_log bytes) (log_of last)))
+  says_edits =
+      subst (λ o. IfSome left (λ bytes. IfSome o (λ last. EditsAre status (script_log bytes) (log_of last)))) (sym at_end.1)
+      (ended_edits status before now left at_end.0 at_end.2.ends)
+
+  pub says_backs : IfSome left (λ bytes. IfSome board (λ last. BacksWritten before now bytes last))
+  says_backs = subst (λ o. IfSome left (λ bytes. IfSome o (λ last. BacksWritten before now bytes last))) (sym at_end.1) (ended_backs status before now left at_end.0 at_end.2.ends)
+
+  pub says_legal : IfSome board (λ last. IsLegal dependencies last)
+  says_legal = subst (λ o. IfSome o (λ last. IsLegal dependencies last)) (sym at_end.1) at_end.2.legal
+
+  pub says_closed : IfSome board (λ last. is_closed last ≡ true)
+  says_closed = subst (λ o. IfSome o (λ last. is_closed last ≡ true)) (sym at_end.1) at_end.2.closed
+
+  pub is_there : IsNone board → ⊥
+  is_there none = there (subst IsNone at_end.1 none)
+    where
+      there : IsNone (Some at_end.0) → ⊥
+      there t = cc

@@ -1,0 +1,117 @@
+//! A script that is played over a board of its own.
+ghost use Rattle.std.specs.Prelude.{◌≡◌, ◌≤◌, true, [], Some, IfSome, IsSome, IsNone};
+ghost use Rattle.mmt_outside.specs.Faults.{Rose};
+ghost use Rattle.run_meaning.specs.ScriptItems.{script_of};
+ghost use Rattle.run_meaning.specs.ScriptOutput.{has_fault};
+ghost use Rattle.run_meaning.specs.ScriptLogs.{script_log};
+ghost use Rattle.judged_meaning.specs.Outputs.{play_output};
+ghost use Rattle.board_meaning.specs.Events.{log_of};
+ghost use Rattle.board_meaning.specs.Legal.{IsLegal};
+ghost use Rattle.board_meaning.specs.Ready.{is_closed};
+ghost use Rattle.text_meaning.specs.Dependencies.{dependencies};
+ghost use Rattle.turn_meaning.specs.Passes.{first_pass};
+ghost use Rattle.board_front.specs.Staying.{Stays};
+ghost use Rattle.mmt_top.specs.Session.{BacksWritten, EditsAre, EndsAs, FlushesAt, IsLed, IsSessionStatus};
+
+use crate::ended::Ended;
+use crate::front::lead;
+use crate::status::Status;
+use board_seats::{BoardPass, SharedBoard};
+use mmt_outside::{Gate, Sink, Source};
+use module_check::Mmt;
+use std::alloc::Global;
+use std::sync::Wait;
+use std::thread::Threads;
+use turn_lock::NewFault;
+use verdict_board::Board;
+
+/// A session for which memory was wanting at its start.
+fn unplayed(board: Board<Mmt>) -> Ended
+    requires { board ≡ [] }
+    ensures status { result.status ≡ Status.Memory }
+    ensures board { IfSome result.board (λ board. Stays [] board × (is_closed board ≡ true)) }
+    ensures some { IsSome result.board }
+{
+    let mut board = board;
+    board.close(0);
+    Ended {
+        status: Status::Memory,
+        board: Some(board),
+    }
+}
+
+/// Plays the script on a shared board that has no entries.
+fn share<R: Wait, S: Source, K: Sink, G: Gate>(
+    rt: &R,
+    alloc: Global,
+    board: SharedBoard<Mmt>,
+    first: BoardPass<Mmt>,
+    source: &mut S,
+    sink: &mut K,
+    gate: &G,
+) -> Ended
+    requires first { first ≡ first_pass board [] }
+    ensures led { IfSome result.board (IsLed result.status (S.left source.old) (S.left source.new) (S.faults source.old) (S.faults source.new)
+        (K.taken sink.old) (K.taken sink.new) (K.faults sink.old) (K.faults sink.new)) }
+    ensures some { IsSome result.board }
+{
+    let mut first = first;
+    let status = lead(rt, alloc, gate, &board, &mut first, source, sink);
+    Ended {
+        status,
+        board: Some(board.end(first)),
+    }
+}
+
+/// Plays the script on the source, from its first byte to its end, and hands back the board that it was played on. At most 16
+/// workers may be asked for; so far the calling thread does all work, whatever their number.
+pub fn session<R: Threads + Wait + Sync, S: Source + Send, K: Sink + Send, G: Gate + Sync>(
+    rt: &R,
+    alloc: Global,
+    workers: u32,
+    source: &mut S,
+    sink: &mut K,
+    gate: &G,
+) -> Ended
+    requires workers { workers ≤ 16 }
+
+    // Where the source tells its bytes: at Done no line is at fault, and all of the output is written and flushed; at ScriptFault
+    // a line is, and all of the output is written and flushed, the line of the fault being its last; with any other status a first
+    // part of the output is written.
+    ensures output { IfSome (S.left source.old) (λ bytes. EndsAs result.status (K.taken sink.old) (K.taken sink.new) (play_output bytes) (has_fault (script_of bytes))) }
+    ensures status { IsSessionStatus result.status }
+
+    // There is no board only where memory was wanting for it, and then nothing was read or written. Its history is legal, and it is
+    // closed. Where the source tells its bytes, its edits are those that the script makes, and with another status than Done and
+    // ScriptFault the first of these; where the sink does too, all that is told by the lines of which a byte was written stands
+    // after some beginning of the history at their version.
+    ensures none { IsNone result.board → result.status ≡ Status.Memory }
+    ensures untouched { IsNone result.board → (source.new ≡ source.old) × (sink.new ≡ sink.old) }
+    ensures legal { IfSome result.board (λ board. IsLegal dependencies board) }
+    ensures closed { IfSome result.board (λ board. is_closed board ≡ true) }
+    ensures edits { IfSome (S.left source.old) (λ bytes. IfSome result.board (λ board. EditsAre result.status (script_log bytes) (log_of board))) }
+    ensures backs { IfSome (S.left source.old) (λ bytes. IfSome result.board (λ board. BacksWritten (K.taken sink.old) (K.taken sink.new) bytes board)) }
+
+    // At Done nothing is left of the source.
+    ensures read_all { result.status ≡ Status.Done → IfSome (S.left source.old) (λ bytes. S.left source.new ≡ Some []) }
+
+    // At Done and ScriptFault all that the sink took is flushed, whether or not the source tells its bytes.
+    ensures flush { FlushesAt result.status (K.taken sink.new) }
+
+    // Faults have their causes, and counts never fall.
+    ensures read { result.status ≡ Status.ReadFault → Rose (S.faults source.old) (S.faults source.new) }
+    ensures write { result.status ≡ Status.WriteFault → Rose (K.faults sink.old) (K.faults sink.new) }
+    ensures source_later { S.faults source.old ≤ S.faults source.new }
+    ensures sink_later { K.faults sink.old ≤ K.faults sink.new }
+{
+    let Ok(board) = Board::new(alloc, Mmt) else {
+        return Ended {
+            status: Status::Memory,
+            board: None,
+        };
+    };
+    match SharedBoard::new(alloc, board) {
+        Ok((shared, pass)) => share(rt, alloc, shared, pass, source, sink, gate),
+        Err(NewFault::Memory(board)) => unplayed(board),
+    }
+}

@@ -1,0 +1,118 @@
+//! One command of a script, or its end, and what is written then.
+ghost use Rattle.std.specs.Prelude.{◌≡◌, ◌≤◌, true, false, [], IfSome, IsNone, OnOk, OnErr};
+ghost use Rattle.mmt_outside.specs.Bytes.{appended, flushed, TookPrefix};
+ghost use Rattle.mmt_outside.specs.Faults.{Rose, HasCause};
+ghost use Rattle.board_meaning.specs.Legal.{IsLegal};
+ghost use Rattle.text_meaning.specs.Dependencies.{dependencies};
+ghost use Rattle.board_seats.specs.Seats.{Keeps};
+ghost use Rattle.board_front.specs.Staying.{IsAtFront, IsFront};
+ghost use Rattle.script_reader.specs.Commands.{IsShort, read_command};
+ghost use Rattle.mmt_top.specs.Answered.{SpokenTells};
+ghost use Rattle.mmt_top.specs.Session.{EndsAs, IsFlushed, FlushesAt, IsSessionStatus, FaultTells};
+
+use crate::answer::answer;
+use crate::status::Status;
+use board_seats::{BoardPass, SharedBoard};
+use edit_log::Log;
+use mmt_outside::{Failed, Gate, Sink, write_all};
+use module_check::Mmt;
+use report_text::fault_line;
+use script_reader::{Command, ScriptFault};
+use std::alloc::Global;
+use std::sync::Wait;
+
+/// Flushes at the end of the script.
+pub(crate) fn finish<K: Sink>(sink: &mut K) -> Status
+    ensures end { EndsAs result (K.taken sink.old) (K.taken sink.new) [] false }
+    ensures flush { FlushesAt result (K.taken sink.new) }
+    ensures status { IsSessionStatus result }
+    ensures later { K.faults sink.old ≤ K.faults sink.new }
+    ensures write { result ≡ Status.WriteFault → Rose (K.faults sink.old) (K.faults sink.new) }
+    ensures read { result ≡ Status.ReadFault → ⊥ }
+{
+    match sink.flush() {
+        Ok(()) => Status::Done,
+        Err(_) => Status::WriteFault,
+    }
+}
+
+/// Plays a command and writes its lines. A status is the end of the session.
+pub(crate) fn speak<R: Wait, K: Sink, G: Gate>(
+    rt: &R,
+    alloc: Global,
+    gate: &G,
+    board: &SharedBoard<Mmt>,
+    pass: &mut BoardPass<Mmt>,
+    log: &mut Log,
+    sink: &mut K,
+    command: Command,
+) -> Option<Status>
+    requires at_front { IsAtFront board.now pass.old }
+    requires front { IsFront log.old pass.old.seen }
+    requires short { IsShort command }
+    ensures keeps { Keeps pass.old pass.new }
+    ensures legal { IsLegal dependencies pass.new.seen }
+    ensures spoken { IfSome (read_command command) (λ spoken. SpokenTells result (K.taken sink.old) (K.taken sink.new) spoken log.old log.new pass.old.seen pass.new.seen) }
+    ensures status { IfSome result IsSessionStatus }
+    ensures flush { IfSome result (λ status. FlushesAt status (K.taken sink.new)) }
+    ensures later { K.faults sink.old ≤ K.faults sink.new }
+    ensures write { IfSome result (λ status. status ≡ Status.WriteFault → Rose (K.faults sink.old) (K.faults sink.new)) }
+    ensures read { IfSome result (λ status. status ≡ Status.ReadFault → ⊥) }
+{
+    let Ok(lines) = answer(rt, alloc, gate, board, pass, log, command) else {
+        return Some(Status::Memory);
+    };
+    match write_all(sink, lines.as_slice()) {
+        Ok(()) => None,
+        Err(_) => Some(Status::WriteFault),
+    }
+}
+
+/// Writes the last line, and flushes.
+pub(crate) fn write_last<K: Sink>(sink: &mut K, line: &[u8]) -> Result<(), Failed>
+    ensures all { OnOk result (K.taken sink.new ≡ flushed (appended (K.taken sink.old) line.now)) }
+    ensures flush { OnOk result (IsFlushed (K.taken sink.new)) }
+    ensures failed { OnErr result (TookPrefix (K.taken sink.old) (K.taken sink.new) line.now) }
+    ensures cause { HasCause (K.faults sink.old) (K.faults sink.new) result }
+{
+    write_all(sink, line)?;
+    sink.flush()
+}
+
+/// Writes the line of a fault of the script, and flushes.
+fn write_fault<K: Sink>(sink: &mut K, line: &[u8]) -> Status
+    ensures end { EndsAs result (K.taken sink.old) (K.taken sink.new) line.now true }
+    ensures flush { FlushesAt result (K.taken sink.new) }
+    ensures status { IsSessionStatus result }
+    ensures later { K.faults sink.old ≤ K.faults sink.new }
+    ensures write { result ≡ Status.WriteFault → Rose (K.faults sink.old) (K.faults sink.new) }
+    ensures read { result ≡ Status.ReadFault → ⊥ }
+{
+    match write_last(sink, line) {
+        Ok(()) => Status::ScriptFault,
+        Err(_) => Status::WriteFault,
+    }
+}
+
+/// Ends the session after an error of the script.
+pub(crate) fn end_by<K: Sink>(alloc: Global, sink: &mut K, fault: ScriptFault) -> Status
+    requires { fault ≡ ScriptFault.Spent → ⊥ }
+    ensures end { FaultTells fault result (K.taken sink.old) (K.taken sink.new) }
+    ensures flush { FlushesAt result (K.taken sink.new) }
+    ensures status { IsSessionStatus result }
+    ensures later { K.faults sink.old ≤ K.faults sink.new }
+    ensures write { result ≡ Status.WriteFault → Rose (K.faults sink.old) (K.faults sink.new) }
+    ensures read { result ≡ Status.ReadFault → fault ≡ ScriptFault.Failed }
+{
+    let line = match fault {
+        ScriptFault::Bad { line } => fault_line(alloc, line, false),
+        ScriptFault::Unended { line } => fault_line(alloc, line, true),
+        ScriptFault::Failed => return Status::ReadFault,
+        ScriptFault::Spent => unreachable!(),
+        ScriptFault::Memory => return Status::Memory,
+    };
+    match line {
+        Ok(line) => write_fault(sink, line.as_slice()),
+        Err(_) => Status::Memory,
+    }
+}

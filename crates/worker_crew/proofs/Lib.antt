@@ -1,0 +1,4 @@
+pub mod Lists
+pub mod Worked
+pub mod Hired
+pub mod Joined

@@ -1,0 +1,4 @@
+use Rattle.worker_crew.proofs.worker.Worker.work.Given as goal
+
+abbrev pub ghosts-work_on : goal.ghosts-work_on
+ghosts-work_on g a = record { name = a.blank.name; parts = a.blank.parts }

@@ -1,0 +1,4 @@
+pub mod Workers
+pub mod Hired
+pub mod Worked
+pub mod TakenIn

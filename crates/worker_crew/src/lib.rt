@@ -1,0 +1,15 @@
+//! Workers on a shared board, each with a pass and in a thread of its own: they are hired, work until the board is closed, and are
+//! dismissed.
+#![tactic(auto)]
+
+mod crew;
+mod dismissal;
+mod hiring;
+mod worker;
+mod working;
+
+pub use crew::Crew;
+pub use dismissal::dismiss;
+pub use hiring::hire;
+pub use worker::Worker;
+pub use working::work_all;

@@ -1,0 +1,43 @@
+//! A crew works.
+ghost use Rattle.std.specs.Prelude.{◌≡◌, length};
+ghost use Rattle.std.specs.List.{AllZip};
+ghost use Rattle.turn_meaning.specs.Passes.{IsIdleOf};
+ghost use Rattle.worker_crew.specs.Worked.{HasWorked};
+ghost use Rattle.worker_crew.specs.Workers.{AreWorkers};
+
+use crate::{Crew, Worker};
+use board_seats::SharedBoard;
+use mmt_outside::Gate;
+use module_graph::Subject;
+use std::alloc::Global;
+use std::sync::Wait;
+use std::thread::{Threads, for_each_mut};
+
+/// Each worker works, in a thread of its own where one can be made, until the board is closed. One that finds no memory ends, and
+/// the others go on.
+pub fn work_all<R: Threads + Wait + Sync, S: Subject, G: Gate + Sync>(
+    rt: &R,
+    alloc: Global,
+    board: &SharedBoard<S>,
+    subject: &S,
+    gate: &G,
+    crew: &mut Crew<S>,
+)
+    requires { AreWorkers S.subject.dependencies board.now crew.old }
+    ensures worked { AllZip (HasWorked S.subject) crew.old crew.new }
+    ensures as_many { length crew.new ≡ length crew.old }
+    ensures workers { AreWorkers S.subject.dependencies board.now crew.new }
+{
+    let threads = crew.workers.len().max(1);
+    for_each_mut(
+        rt,
+        crew.workers.as_mut_slice(),
+        threads,
+        &|_: usize, worker: &mut Worker<S>|
+            requires { IsIdleOf board.now worker.old.pass }
+            ensures { HasWorked S.subject worker.old worker.new }
+        {
+            worker.work(rt, alloc, board, subject, gate);
+        },
+    );
+}
