@@ -1,6 +1,6 @@
 //! Whole runs over objects in memory.
 
-use crate::cases::CASES;
+use crate::cases::{FAULTY, LINKS, THEORIES, UNREAD};
 use lf_terms::Bytes;
 use mmt_outside::{Inputs64, MemSink, MemSource, NoFolder, OpenGate};
 use mmt_top::{Status, run};
@@ -65,20 +65,42 @@ fn play<R: Threads + Wait + Sync>(rt: &R, alloc: Global, input: &[u8]) -> Result
     run_on(rt, alloc, &["play", "--workers", "0"], input, 0, 0)
 }
 
+/// Each script of a table, which gives the output behind it and this status.
+fn all_print<R: Threads + Wait + Sync>(
+    rt: &R,
+    alloc: Global,
+    table: &str,
+    status: Status,
+) -> Result<bool, Fail> {
+    for case in table.split("@@@\n") {
+        let (script, output) = case.split_once("~~~\n").ok_or("no output")?;
+        let ended = play(rt, alloc, script.as_bytes())?;
+        if ended.status != status || ended.output.as_slice() != output.as_bytes() {
+            return Ok(false);
+        }
+    }
+    Ok(true)
+}
+
 #[test]
 fn worked_cases(rt: HostRuntime) -> Result<(), Fail> {
-    for case in &CASES {
-        let ended = play(&rt, rt.alloc(), case.script)?;
-        assert!(rt; ended.status == case.status, "{}", case.name);
-        assert!(rt; ended.output.as_slice() == case.output, "{}", case.name);
-    }
+    assert!(rt; all_print(&rt, rt.alloc(), THEORIES, Status::Done)?);
+    assert!(rt; all_print(&rt, rt.alloc(), LINKS, Status::Done)?);
+    assert!(rt; all_print(&rt, rt.alloc(), UNREAD, Status::Done)?);
+    assert!(rt; all_print(&rt, rt.alloc(), FAULTY, Status::ScriptFault)?);
     Ok(())
 }
 
 /// Lines and commands, each as the rules of scripts say.
 #[test]
 fn lines(rt: HostRuntime) -> Result<(), Fail> {
-    let cases: [(&[u8], Status, &[u8]); 17] = [
+    let cases: [(&[u8], Status, &[u8]); 19] = [
+        (b"", Status::Done, b""),
+        (
+            b"put Z\n\xff\n%%end\nreport Z\n",
+            Status::Done,
+            b"@1 put Z\nZ @1 refused 1:1 syntax Z\n",
+        ),
         (
             b"put Nat\r\n%sig Nat = {\nnat : type.\n}.\n%%end\r\nreport Nat\r\n",
             Status::Done,
