@@ -25,7 +25,7 @@ ghost use Rattle.board_front.specs.Staying.{IsAtFront, IsFront, StandsIfGrounded
 
 use crate::calls::answers;
 use crate::reports::line;
-use crate::told::told;
+use crate::verdict::told;
 use board_seats::{BoardPass, SharedBoard};
 use edit_log::Log;
 use lf_terms::{Bytes, Memory, Name};

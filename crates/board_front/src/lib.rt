@@ -5,8 +5,9 @@
 mod calls;
 mod flats;
 mod reports;
-mod told;
+mod verdict;
 
 pub use calls::close;
 pub use flats::{carry_lines, flat_lines};
-pub use reports::{check_lines, edit_lines, report_lines};
+pub use reports::{check_lines, edit_lines, make_edit, report_lines};
+pub use verdict::told;

@@ -13,7 +13,7 @@ ghost use Rattle.board_front.specs.Staying.{AllStand, Edits, IsAtFront, IsFront,
 ghost use Rattle.board_front.specs.Told.{IsToldOf};
 
 use crate::calls;
-use crate::told::told;
+use crate::verdict::told;
 use board_seats::{BoardPass, SharedBoard};
 use edit_log::{Edit, EditFault, Edited, Log};
 use lf_terms::{Bytes, Memory, Name};
@@ -47,7 +47,7 @@ pub fn edit_lines<R: Wait>(
     ensures so_far { OnErr result (MayEdit (read_edit edit) pass.old.seen pass.new.seen) }
 {
     let name = name_of(&edit).copy(alloc)?;
-    let word = made(rt, alloc, board, pass, log, edit)?;
+    let word = make_edit(rt, alloc, board, pass, log, edit)?;
     edit_line(alloc, word, &name, log.version())
 }
 
@@ -71,8 +71,9 @@ fn made_word(edit: &Edit) -> &'static str
     }
 }
 
-/// Makes an edit on the board, and on the log what the board made. The answer is the word for it.
-fn made<R: Wait>(
+/// Makes an edit on the board, unless the log's rules refuse it, and on the log what the board made. The log is the front's own: it
+/// has the edits of the board. The answer is the word for the edit.
+pub fn make_edit<R: Wait>(
     rt: &R,
     alloc: Global,
     board: &SharedBoard<Mmt>,

@@ -7,7 +7,7 @@ use Rattle.mmt_interface.specs.declared.verdict.Verdict.{Verdict}
 use Rattle.verdict_board.specs.Readings.{read_told}
 use Rattle.verdict_board.specs.declared.replies.Told.{Told}
 use Rattle.board_front.proofs.Tellings.{absent_stands, absent_told, verdict_stands, verdict_told}
-use Rattle.board_front.proofs.told.told.Goals as goal
+use Rattle.board_front.proofs.verdict.told.Goals as goal
 
 pub returns-in-Verdict-clause-told : goal.returns-in-Verdict-clause-told
 returns-in-Verdict-clause-told g c =

@@ -6,7 +6,7 @@ use Rattle.edit_log.specs.Readings.{read_edit, IsAnswer}
 use Rattle.edit_log.specs.declared.answers.Edited.{Edited}
 use Rattle.edit_log.specs.declared.answers.EditFault.{EditFault}
 use Rattle.board_front.proofs.EditAnswers.{appended_is}
-use Rattle.board_front.proofs.reports.made.Goals as goal
+use Rattle.board_front.proofs.reports.make_edit.Goals as goal
 
 pub returns-in-Ok-Same-clause-log : goal.returns-in-Ok-Same-clause-log
 returns-in-Ok-Same-clause-log g c =

@@ -21,7 +21,7 @@ use worker_loop::TurnEnd;
 
 /// What is told of a name once its verdict is not to come. While it is to come, turns are taken, with a pause where nothing is
 /// ready.
-pub(crate) fn told<R: Wait, G: Gate>(
+pub fn told<R: Wait, G: Gate>(
     rt: &R,
     alloc: Global,
     gate: &G,
