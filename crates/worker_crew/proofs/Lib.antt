@@ -2,3 +2,4 @@ pub mod Lists
 pub mod Worked
 pub mod Hired
 pub mod Joined
+pub mod Beside

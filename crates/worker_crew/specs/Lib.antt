@@ -2,3 +2,4 @@ pub mod Workers
 pub mod Hired
 pub mod Worked
 pub mod TakenIn
+pub mod Leading

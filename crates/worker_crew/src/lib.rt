@@ -4,12 +4,16 @@
 
 mod crew;
 mod dismissal;
+mod front;
 mod hiring;
+mod leading;
 mod worker;
 mod working;
 
 pub use crew::Crew;
 pub use dismissal::dismiss;
+pub use front::Front;
 pub use hiring::hire;
+pub use leading::{Led, lead};
 pub use worker::Worker;
 pub use working::work_all;

@@ -1,0 +1,162 @@
+//! A board that is led by a front, with workers beside it.
+ghost use Rattle.std.specs.Prelude.{◌≡◌, ◌≤◌, ◌+◌, [], IfSome, IsNone, length};
+ghost use Rattle.turn_meaning.specs.Passes.{IsIdleOf, first_pass};
+ghost use Rattle.worker_crew.specs.Leading.{HasLed, WasLed};
+ghost use Rattle.worker_crew.specs.Workers.{AreWorkers};
+
+use crate::{Crew, Front, dismiss, hire, work_all};
+use board_seats::{BoardPass, SharedBoard};
+use mmt_outside::Gate;
+use module_graph::Subject;
+use std::alloc::Global;
+use std::sync::Wait;
+use std::thread::{Threads, join_mut};
+use turn_lock::NewFault;
+use verdict_board::Board;
+
+/// A board after its front, and how the front ended. None: memory was wanting for the lock or for the workers, and the front did
+/// not begin.
+#[derive(Drop)]
+pub struct Led<S: Subject, E: Drop> {
+    pub board: Board<S>,
+    pub end: Option<E>,
+}
+
+/// What the front and its workers share.
+#[derive(Drop)]
+struct Hall<'a, R, S: Subject, G> {
+    rt: &'a R,
+    alloc: Global,
+    board: &'a SharedBoard<S>,
+    subject: &'a S,
+    gate: &'a G,
+}
+
+/// The front leads and the crew works, each in a thread of its own where one can be made, until both are done.
+fn lead_beside<
+    R: Threads + Wait + Sync,
+    S: Subject,
+    I: Send,
+    O: Send,
+    F: Front<S, I, O> + Sync,
+    G: Gate + Sync,
+>(
+    rt: &R,
+    hall: &Hall<'_, R, S, G>,
+    first: &mut BoardPass<S>,
+    crew: &mut Crew<S>,
+    front: &F,
+    input: &mut I,
+    output: &mut O,
+) -> F::End
+    requires first { IsIdleOf hall.now.board.now first.old × (first.old.number ≡ 0) }
+    requires empty { first.old.seen ≡ [] }
+    requires workers { AreWorkers S.subject.dependencies hall.now.board.now crew.old }
+    ensures led { HasLed S.subject.dependencies first.old (F.leads front.now result input.old input.new output.old output.new) first.new }
+    ensures workers { AreWorkers S.subject.dependencies hall.now.board.now crew.new }
+    ensures as_many { length crew.new ≡ length crew.old }
+{
+    let mut leading = || -> F::End
+        requires { IsIdleOf hall.now.board.now first.now × (first.now.number ≡ 0) × (first.now.seen ≡ []) }
+        ensures { HasLed S.subject.dependencies first.entry.now (F.leads front.entry.now result input.entry.now input.exit.now output.entry.now output.exit.now) first.exit.now }
+    {
+        front.lead(
+            hall.rt, hall.alloc, hall.gate, hall.board, first, input, output,
+        )
+    };
+    let mut working = ||
+        requires { AreWorkers S.subject.dependencies hall.now.board.now crew.now }
+        ensures { AreWorkers S.subject.dependencies hall.entry.now.board.now crew.exit.now × (length crew.exit.now ≡ length crew.entry.now) }
+    {
+        work_all(
+            hall.rt,
+            hall.alloc,
+            hall.board,
+            hall.subject,
+            hall.gate,
+            crew,
+        )
+    };
+    let (end, ()) = join_mut(rt, &mut leading, &mut working);
+    end
+}
+
+/// The same on a shared board, with workers that are hired for it.
+fn lead_shared<
+    R: Threads + Wait + Sync,
+    S: Subject,
+    I: Send,
+    O: Send,
+    F: Front<S, I, O> + Sync,
+    G: Gate + Sync,
+>(
+    rt: &R,
+    alloc: Global,
+    subject: &S,
+    gate: &G,
+    board: SharedBoard<S>,
+    first: BoardPass<S>,
+    workers: u32,
+    front: &F,
+    input: &mut I,
+    output: &mut O,
+) -> Led<S, F::End>
+    requires first { first ≡ first_pass board [] }
+    requires workers { workers ≤ 16 }
+    ensures led { IfSome result.end (λ end. WasLed S.subject.dependencies (F.leads front.now end input.old input.new output.old output.new) result.board) }
+    ensures none { IsNone result.end → (result.board ≡ []) × (input.new ≡ input.old) × (output.new ≡ output.old) }
+{
+    let mut first = first;
+    let Ok(mut crew) = hire(alloc, &board, &mut first, workers) else {
+        return Led {
+            board: board.end(first),
+            end: None,
+        };
+    };
+    let hall = Hall {
+        rt,
+        alloc,
+        board: &board,
+        subject,
+        gate,
+    };
+    let end = lead_beside(rt, &hall, &mut first, &mut crew, front, input, output);
+    dismiss(&board, &mut first, crew);
+    Led {
+        board: board.end(first),
+        end: Some(end),
+    }
+}
+
+/// Shares a board that has no entries, lets the front lead it with so many workers beside it, and hands the board back once all
+/// have ended. Where no thread can be made the front does all the work. Workers that find no memory end, and the front goes on.
+pub fn lead<
+    R: Threads + Wait + Sync,
+    S: Subject,
+    I: Send,
+    O: Send,
+    F: Front<S, I, O> + Sync,
+    G: Gate + Sync,
+>(
+    rt: &R,
+    alloc: Global,
+    subject: &S,
+    gate: &G,
+    board: Board<S>,
+    workers: u32,
+    front: &F,
+    input: &mut I,
+    output: &mut O,
+) -> Led<S, F::End>
+    requires empty { board ≡ [] }
+    requires workers { workers ≤ 16 }
+    ensures led { IfSome result.end (λ end. WasLed S.subject.dependencies (F.leads front.now end input.old input.new output.old output.new) result.board) }
+    ensures none { IsNone result.end → (result.board ≡ []) × (input.new ≡ input.old) × (output.new ≡ output.old) }
+{
+    match SharedBoard::new(alloc, board) {
+        Ok((shared, first)) => lead_shared(
+            rt, alloc, subject, gate, shared, first, workers, front, input, output,
+        ),
+        Err(NewFault::Memory(board)) => Led { board, end: None },
+    }
+}
