@@ -19,7 +19,7 @@ use Rattle.run_meaning.specs.Generator.{grounded_names, reaching_count, asked_by
 use Rattle.install_laws.specs.InstallLaws.{AllStand, StandBetween}
 use Rattle.install_laws.proofs.Edits.{all_counted, edit_takes}
 
-edit_made : (e : Event) (edit : Edit) → edit_of e ≡ Some edit → e ≡ EditMade edit
+pub edit_made : (e : Event) (edit : Edit) → edit_of e ≡ Some edit → e ≡ EditMade edit
 edit_made (EditMade other) edit h = let q : other ≡ edit = cc in ap EditMade q
 edit_made (Claim n) edit h = absurd (cc)
 edit_made (Install c) edit h = absurd (cc)
@@ -27,7 +27,7 @@ edit_made (Stale c n k) edit h = absurd (cc)
 edit_made (Release c) edit h = absurd (cc)
 edit_made Close edit h = absurd (cc)
 
-installs_last : (H : History) (e : Entry) → installs (H ++ e ∷ []) ≡ installs H + length (option_to_list (installed_claim e.event))
+pub installs_last : (H : History) (e : Entry) → installs (H ++ e ∷ []) ≡ installs H + length (option_to_list (installed_claim e.event))
 installs_last H e = ap length (installed_last H e) ∙ length-append (installed_claims H) (option_to_list (installed_claim e.event))
 
 log_front : (e : Entry) (K : History) → log_of (e ∷ K) ≡ cons_option (edit_in e) (log_of K)
@@ -143,7 +143,7 @@ module _ (dependencies : Dependencies) where
       none_stand [] h e = none_pass (names_of (library_after H)) (λ n. stands_by_none dependencies H n e)
       none_stand (c ∷ claims) h e = absurd (omega (arith, h))
 
-  unedited_between : (later H : History) → log_of later ≡ [] → AllStand dependencies (H ++ later) → StandBetween dependencies H later
+  pub unedited_between : (later H : History) → log_of later ≡ [] → AllStand dependencies (H ++ later) → StandBetween dependencies H later
   unfolding StandBetween log_of
   unedited_between [] H g all = subst (AllStand dependencies) (append-nil H) all
   unedited_between (e ∷ K) H g all =

@@ -1,3 +1,4 @@
+pub mod Apart
 pub mod Edits
 pub mod Installs
 pub mod Tellings

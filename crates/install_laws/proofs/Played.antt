@@ -23,7 +23,7 @@ use Rattle.install_laws.proofs.Tellings.{stay_backed}
 
 -- ---- lists of tellings
 
-backed_append : (dependencies : Dependencies) (H : History) (xs ys : List Telling) → AreBacked dependencies H xs → AreBacked dependencies H ys → AreBacked dependencies H (xs ++ ys)
+pub backed_append : (dependencies : Dependencies) (H : History) (xs ys : List Telling) → AreBacked dependencies H xs → AreBacked dependencies H ys → AreBacked dependencies H (xs ++ ys)
 backed_append dependencies H xs ys f g place t s =
     ⊎_elim (λ m. let p = member_place xs t m in f p.0 t p.1) (λ m. let p = member_place ys t m in g p.0 t p.1) (in_append xs ys t (place_member (xs ++ ys) place t s))
 

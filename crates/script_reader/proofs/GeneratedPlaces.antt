@@ -20,7 +20,7 @@ one_more items at n e h k lt = by (nat_lt k n) refl
         let last : k ≡ length items = omega (arith, lt, e, ltb-false k n t) in
         ap (λ (i : ℕ). slice_get (items ++ at n ∷ []) i) last ∙ get_last items (at n) ∙ ap (λ (i : ℕ). Some (at i)) (sym e ∙ sym last)
 
-first_length : (start n : ℕ) → length (first_puts start n) ≡ n
+pub first_length : (start n : ℕ) → length (first_puts start n) ≡ n
 unfolding first_puts
 first_length start zero = refl
 first_length start (suc n) =
@@ -33,10 +33,10 @@ first_at start zero k h = absurd (omega (arith, h))
 first_at start (suc n) k h =
     one_more (first_puts start n) (λ (index : ℕ). generated_put start index 0) n (first_length start n) (λ i lt. first_at start n i lt) k h
 
-abbrev later_put : ℕ → ℕ → ℕ → Edit
+abbrev pub later_put : ℕ → ℕ → ℕ → Edit
 later_put start modules before = generated_put start (edited_module start modules (suc before)) (suc before)
 
-later_length : (start modules n : ℕ) → length (later_puts start modules n) ≡ n
+pub later_length : (start modules n : ℕ) → length (later_puts start modules n) ≡ n
 unfolding later_puts
 later_length start modules zero = refl
 later_length start modules (suc n) =

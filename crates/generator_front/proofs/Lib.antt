@@ -1,0 +1,8 @@
+mod Asking
+mod BetweenEdits
+mod DoneEdits
+mod FirstLibraries
+mod GeneratedTexts
+mod GivenEdits
+pub mod LaterHistories
+mod Tallies
