@@ -27,7 +27,7 @@ use Rattle.text_meaning.specs.Dependencies.{dependencies}
 use Rattle.verdict_meaning.specs.Modules.{declare_all}
 use Rattle.verdict_meaning.specs.Verdicts.{judge}
 use Rattle.verdict_meaning.specs.Rounds.{verdict_under, others_reached, rounds, verdicts, verdict_of}
-use Rattle.verdict_examples.specs.RuleExamples.{ViewIsNoTheory, NameUsedTwice, ObjectIsNoFamily, AtomIsNoFunction, OtherDomain, TargetIsUnknown, TargetIsAssignedTwice, EndsDoNotMeet, ProductIsNoValue, FamilyOfAnotherKind, FamilyUnderLambda, FamilyApplied, SharedStructureDisagrees}
+use Rattle.verdict_examples.specs.RuleExamples.{ViewIsNoTheory, NameUsedTwice, ObjectIsNoFamily, AtomIsNoFunction, OtherDomain, TargetIsUnknown, TargetIsAssignedTwice, EndsDoNotMeet, ProductIsNoValue, FamilyOfAnotherKind, FamilyUnderLambda, FamilyApplied, SharedStructureDisagrees, SharedStructureAgrees, SharedStructureAgrees}
 use Rattle.verdict_examples.specs.Examples.{NaturalNumbers, MisspelledName, EtaShortArgument, EtaLongArgument, MonoidOverLogic, MonoidIsChecked, MixedCopies, TwoCopies, AssignedStructure, Ring, BareStructure, AssignedConstantsAreDefined, RingHasOneSet, SharedInclusion, AmbiguousName, QualifiedName, ViewOfDefinition, ClashWithDefinition, MissingAssignment, IllTypedAssignment, FirstCovering, DisagreeingInclusions, NineAreAccepted, EmptyText, PercentWord, OpenComment, WrongName, CycleOfA, CycleOfB, CycleOfC, AWithoutB, BWithoutB, CWithoutB}
 
 -- What all worked cases compute with.
@@ -218,3 +218,7 @@ family_applied = refl
 pub shared_structure_disagrees : SharedStructureDisagrees
 unfolding judging
 shared_structure_disagrees = refl
+
+pub shared_structure_agrees : SharedStructureAgrees
+unfolding judging
+shared_structure_agrees = refl

@@ -196,3 +196,6 @@ text_VM = codes "%view VM : Mm -> T = {\n%include VR2.\nop := f.\n}.\n"
 
 abbrev pub text_W_shared : Text
 text_W_shared = codes "%view W : H -> T = {\n%include VR1.\n%struct m := VM.\n}.\n"
+
+abbrev pub text_W_agreeing : Text
+text_W_agreeing = codes "%view W : H -> T = {\n%include VR2.\n%struct m := VM.\n}.\n"

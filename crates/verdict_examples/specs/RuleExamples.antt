@@ -1,8 +1,8 @@
 -- Worked cases of single rules: what is told of a text that is put behind others.
 use Rattle.std.specs.Prelude.{◌≡◌, [], ◌∷◌, codes}
 use Rattle.expansion_meaning.specs.Rules.{Rule}
-use Rattle.verdict_examples.specs.Telling.{TheoryOf, RefusedAt, under, told_of}
-use Rattle.verdict_examples.specs.ExampleTexts.{text_A, text_Applied_atom, text_Family_applied, text_Family_of_another_kind, text_Family_under_lambda, text_H, text_I_view, text_Mm, text_No_target, text_O, text_Object_as_family, text_Other_codomain, text_Other_domain, text_P, text_Product_value, text_R, text_T_four, text_T_map, text_Twice, text_Two_targets, text_VM, text_VO, text_VR1, text_VR2, text_V_identity, text_W_shared}
+use Rattle.verdict_examples.specs.Telling.{TheoryOf, ViewOf, RefusedAt, under, told_of}
+use Rattle.verdict_examples.specs.ExampleTexts.{text_A, text_Applied_atom, text_Family_applied, text_Family_of_another_kind, text_Family_under_lambda, text_H, text_I_view, text_Mm, text_No_target, text_O, text_Object_as_family, text_Other_codomain, text_Other_domain, text_P, text_Product_value, text_R, text_T_four, text_T_map, text_Twice, text_Two_targets, text_VM, text_VO, text_VR1, text_VR2, text_V_identity, text_W_agreeing, text_W_shared}
 
 -- A view is included.
 abbrev pub ViewIsNoTheory : Type 0
@@ -55,3 +55,7 @@ FamilyApplied = told_of [] (codes "K") text_Family_applied ≡ TheoryOf 5
 -- A shared structure whose domain includes R by another map.
 abbrev pub SharedStructureDisagrees : Type 0
 SharedStructureDisagrees = told_of (under (codes "R") text_R ∷ under (codes "Mm") text_Mm ∷ under (codes "H") text_H ∷ under (codes "T") text_T_map ∷ under (codes "VR1") text_VR1 ∷ under (codes "VR2") text_VR2 ∷ under (codes "VM") text_VM ∷ []) (codes "W") text_W_shared ≡ RefusedAt 3 14 Rule.MorphismsDisagree (codes "m" ∷ [])
+
+-- A shared structure whose domain includes R by the same map: the inclusion is compared as it is translated.
+abbrev pub SharedStructureAgrees : Type 0
+SharedStructureAgrees = told_of (under (codes "R") text_R ∷ under (codes "Mm") text_Mm ∷ under (codes "H") text_H ∷ under (codes "T") text_T_map ∷ under (codes "VR2") text_VR2 ∷ under (codes "VM") text_VM ∷ []) (codes "W") text_W_agreeing ≡ ViewOf 2

@@ -1,7 +1,7 @@
 //! Worked cases: each function does nothing, and its contract is proved by computing.
 
 ghost use Rattle.verdict_examples.specs.BoardExamples.{NatCallsMayBeMade, NatEditsAreMade, NatIsClaimed, MisspelledNatIsStale, NatPutBackIsStale, NatIsPending, NatIsClaimedAgain, NatIsInstalled, NothingButNat, NatIsTold, HistoryOfNat};
-ghost use Rattle.verdict_examples.specs.RuleExamples.{ViewIsNoTheory, NameUsedTwice, ObjectIsNoFamily, AtomIsNoFunction, OtherDomain, TargetIsUnknown, TargetIsAssignedTwice, EndsDoNotMeet, ProductIsNoValue, FamilyOfAnotherKind, FamilyUnderLambda, FamilyApplied, SharedStructureDisagrees};
+ghost use Rattle.verdict_examples.specs.RuleExamples.{ViewIsNoTheory, NameUsedTwice, ObjectIsNoFamily, AtomIsNoFunction, OtherDomain, TargetIsUnknown, TargetIsAssignedTwice, EndsDoNotMeet, ProductIsNoValue, FamilyOfAnotherKind, FamilyUnderLambda, FamilyApplied, SharedStructureDisagrees, SharedStructureAgrees};
 ghost use Rattle.verdict_examples.specs.Examples.{NaturalNumbers, MisspelledName, EtaShortArgument, EtaLongArgument, MonoidOverLogic, MonoidIsChecked, MixedCopies, TwoCopies, AssignedStructure, Ring, BareStructure, AssignedConstantsAreDefined, RingHasOneSet, SharedInclusion, AmbiguousName, QualifiedName, ViewOfDefinition, ClashWithDefinition, MissingAssignment, IllTypedAssignment, FirstCovering, DisagreeingInclusions, NineAreAccepted, EmptyText, PercentWord, OpenComment, WrongName, CycleOfA, CycleOfB, CycleOfC, AWithoutB, BWithoutB, CWithoutB};
 
 /// Small theories.
@@ -80,6 +80,7 @@ pub fn rules()
     ensures family_under_lambda { FamilyUnderLambda }
     ensures family_applied { FamilyApplied }
     ensures shared_structure_disagrees { SharedStructureDisagrees }
+    ensures shared_structure_agrees { SharedStructureAgrees }
 {}
 
 /// A board over modules: a text is put again, and put back, between a claim and its install.

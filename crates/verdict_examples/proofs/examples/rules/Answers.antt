@@ -1,4 +1,4 @@
-use Rattle.verdict_examples.proofs.Computed.{view_is_no_theory, name_used_twice, object_is_no_family, atom_is_no_function, other_domain, target_is_unknown, target_is_assigned_twice, ends_do_not_meet, product_is_no_value, family_of_another_kind, family_under_lambda, family_applied, shared_structure_disagrees}
+use Rattle.verdict_examples.proofs.Computed.{view_is_no_theory, name_used_twice, object_is_no_family, atom_is_no_function, other_domain, target_is_unknown, target_is_assigned_twice, ends_do_not_meet, product_is_no_value, family_of_another_kind, family_under_lambda, family_applied, shared_structure_disagrees, shared_structure_agrees}
 use Rattle.verdict_examples.proofs.examples.rules.Goals as goal
 
 pub returns-clause-view_is_no_theory : goal.returns-clause-view_is_no_theory
@@ -39,3 +39,6 @@ returns-clause-family_applied c = family_applied
 
 pub returns-clause-shared_structure_disagrees : goal.returns-clause-shared_structure_disagrees
 returns-clause-shared_structure_disagrees c = shared_structure_disagrees
+
+pub returns-clause-shared_structure_agrees : goal.returns-clause-shared_structure_agrees
+returns-clause-shared_structure_agrees c = shared_structure_agrees

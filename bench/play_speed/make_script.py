@@ -1,0 +1,78 @@
+"""Writes a script for `mmt play --workers 0`: `make_script.py SHAPE NUMBER FILE`.
+
+chain    NUMBER theories, each of which includes the last and has a structure of it
+plain    NUMBER theories, each of which includes the last and has a constant
+empty    NUMBER theories, each of which includes the last, and one more with a constant
+single   NUMBER theories of ten constants
+copies   a theory with NUMBER structures of a small algebra
+many     a theory of NUMBER declarations with a value of eleven nodes
+late     the same behind as many further constants
+even     a declaration with a value of NUMBER nodes whose halves are even
+"""
+import sys
+
+ALGEBRA = "a : type. op : a -> a -> a. e : a. i : a -> a. d : a = op e (i e)."
+TEN = (
+    "a : type. f : a -> a. g : a -> a -> a. z : a. b : a = f z. c : a = g z b. p : a -> type. "
+    "h : {x:a} p x -> p (f x). k : p z. l : p (f z) = h z k."
+)
+HEAD = "a : type.\nf : a -> a.\ng : a -> a -> a.\nz : a.\n"
+ELEVEN = "g (f (f z)) (g (f z) (f (g z z)))"
+
+
+def theory(name, body):
+    return name, f"%sig {name} = {{ {body} }}."
+
+
+def linked(count, body):
+    yield theory("T0", "a : type.")
+    for i in range(1, count):
+        yield theory(f"T{i}", body.format(last=f"T{i - 1}"))
+
+
+def even(nodes):
+    if nodes <= 1:
+        return "z"
+    if nodes % 2 == 0:
+        return f"(f {even(nodes - 1)})"
+    half = (nodes - 1) // 2
+    return f"(g {even(half)} {even(half)})"
+
+
+def values(count):
+    return "".join(f"c{i} : a = {ELEVEN}.\n" for i in range(count))
+
+
+def modules(shape, count):
+    match shape:
+        case "chain":
+            yield from linked(count, "%include {last}. %struct s : {last}. c : a.")
+        case "plain":
+            yield from linked(count, "%include {last}. c : a.")
+        case "empty":
+            yield from linked(count, "%include {last}.")
+            yield theory("Top", f"%include T{count - 1}. c : a.")
+        case "single":
+            yield from (theory(f"T{i}", TEN) for i in range(count))
+        case "copies":
+            yield theory("Algebra", ALGEBRA)
+            yield theory("Many", "\n".join(f"%struct m{i} : Algebra." for i in range(count)))
+        case "many":
+            yield theory("M", HEAD + values(count))
+        case "late":
+            front = "".join(f"b{i} : type.\n" for i in range(count))
+            yield theory("M", front + HEAD + values(count))
+        case "even":
+            yield theory("M", HEAD + f"d : a = {even(count)}.")
+
+
+def main():
+    shape, count, file = sys.argv[1], int(sys.argv[2]), sys.argv[3]
+    name = ""
+    with open(file, "w") as script:
+        for name, text in modules(shape, count):
+            script.write(f"put {name}\n{text}\n%%end\n")
+        script.write(f"report {name}\n")
+
+
+main()
