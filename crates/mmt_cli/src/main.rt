@@ -1,7 +1,7 @@
-//! The program `mmt`: it hands its words, its standard streams and no folder to `run`, and exits with the status.
+//! The program `mmt`: it hands its words, its standard streams and the folders of the system to `run`, and exits with the status.
 #![tactic(auto)]
 
-use mmt_outside::{NoFolder, OpenGate, StdSink, StdSource};
+use mmt_outside::{DiskFolder, OpenGate, StdSink, StdSource};
 use mmt_top::{Status, run};
 use std::process::ExitCode;
 use std::{env, io};
@@ -29,7 +29,7 @@ fn main(rt: HostRuntime) -> ExitCode {
         Ok(words) => {
             let mut source = StdSource::new(rt);
             let mut sink = StdSink::new(rt);
-            let mut folder = NoFolder::new();
+            let mut folder = DiskFolder::new(rt);
             let status = run(
                 &rt,
                 rt.alloc(),

@@ -4,3 +4,6 @@ pub mod Played
 pub mod Turns
 pub mod Sessions
 pub mod Led
+pub mod CheckedFolders
+pub mod GeneratedLines
+pub mod ToldTyping

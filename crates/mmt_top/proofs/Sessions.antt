@@ -17,8 +17,8 @@ use Rattle.judged_meaning.specs.JudgingByRules.{rules}
 use Rattle.judged_meaning.specs.Outputs.{play_output}
 use Rattle.board_front.specs.Staying.{GoesOn, Stays}
 use Rattle.script_reader.specs.Reading.{Reading, to_come}
-use Rattle.mmt_top.specs.declared.status.Status.{Status}
-use Rattle.mmt_top.specs.declared.status.Status.TheVariants.{Done, Memory}
+use Rattle.run_status.specs.declared.status.Status.{Status}
+use Rattle.run_status.specs.declared.status.Status.TheVariants.{Done, Memory}
 use Rattle.mmt_top.specs.Session.{BacksWritten, Begins, EditsAre, EndsAs, Leaves, SessionEnds, SessionGoesOn, TurnGoesOn, TurnTells, items_to_come}
 use Rattle.mmt_top.proofs.Commands.{spoken_append, spoken_one}
 use Rattle.mmt_top.proofs.Played.{begins_through, ends_behind, leaves_later, memory_fails, plays_more, plays_none}

@@ -30,8 +30,8 @@ use Rattle.script_reader.specs.declared.command.Command.{Command}
 use Rattle.script_reader.specs.declared.command.Command.TheVariants as spoken
 use Rattle.script_reader.specs.declared.fault.ScriptFault.{ScriptFault as Fault}
 use Rattle.script_reader.specs.declared.fault.ScriptFault.TheVariants as faults
-use Rattle.mmt_top.specs.declared.status.Status.{Status}
-use Rattle.mmt_top.specs.declared.status.Status.TheVariants.{Done, Refused, Usage, ReadFault, WriteFault, Memory, ScriptFault}
+use Rattle.run_status.specs.declared.status.Status.{Status}
+use Rattle.run_status.specs.declared.status.Status.TheVariants.{Done, Refused, Usage, ReadFault, WriteFault, Memory, ScriptFault}
 use Rattle.mmt_top.specs.Plays.{Plays}
 use Rattle.mmt_top.specs.Answered.{Spoke, Stops, SpokenTells}
 use Rattle.mmt_top.specs.Session.{items_to_come, EndsAs, FaultTells, SessionEnds, StoodWithin, TurnGoesOn, TurnTells, bytes_of}

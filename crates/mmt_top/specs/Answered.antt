@@ -7,8 +7,8 @@ use Rattle.run_meaning.specs.ScriptCommands.{Command}
 use Rattle.run_meaning.specs.ScriptOutput.{command_text, log_after}
 use Rattle.judged_meaning.specs.JudgingByRules.{rules}
 use Rattle.mmt_top.specs.Plays.{Plays, MayPlay}
-use Rattle.mmt_top.specs.declared.status.Status.{Status}
-use Rattle.mmt_top.specs.declared.status.Status.TheVariants.{Done, Refused, Usage, ReadFault, WriteFault, Memory, ScriptFault}
+use Rattle.run_status.specs.declared.status.Status.{Status}
+use Rattle.run_status.specs.declared.status.Status.TheVariants.{Done, Refused, Usage, ReadFault, WriteFault, Memory, ScriptFault}
 
 -- The command was played, this is the log that it leaves, and these are its lines.
 pub record IsAnswered (command : Command) (log next : Log) (before after : History) (lines : List ℕ) : Type 0 where

@@ -21,9 +21,10 @@ use Rattle.board_front.specs.Staying.{GoesOn}
 use Rattle.script_reader.specs.Reading.{Reading}
 use Rattle.script_reader.specs.declared.fault.ScriptFault.{ScriptFault as Fault}
 use Rattle.script_reader.specs.declared.fault.ScriptFault.TheVariants.{Bad, Unended, Failed, Spent, Memory as OutOfMemory}
+use Rattle.run_status.specs.Flushed.{FlushesAt}
 use Rattle.mmt_top.specs.Plays.{Plays, PlaysAll}
-use Rattle.mmt_top.specs.declared.status.Status.{Status}
-use Rattle.mmt_top.specs.declared.status.Status.TheVariants.{Done, Refused, Usage, ReadFault, WriteFault, Memory, ScriptFault}
+use Rattle.run_status.specs.declared.status.Status.{Status}
+use Rattle.run_status.specs.declared.status.Status.TheVariants.{Done, Refused, Usage, ReadFault, WriteFault, Memory, ScriptFault}
 
 -- The items of the bytes to come.
 abbrev pub items_to_come : Reading → List ℕ → List Item
@@ -40,20 +41,6 @@ EndsAs ReadFault before now output fault = TookPrefix before now output
 EndsAs WriteFault before now output fault = TookPrefix before now output
 EndsAs Memory before now output fault = TookPrefix before now output
 EndsAs ScriptFault before now output fault = (fault ≡ true) × (now ≡ flushed (appended before output))
-
--- Where the sink tells it, all that it took is flushed.
-abbrev pub IsFlushed : Option Taken → Type 0
-IsFlushed now = IfSome now (λ taken. taken.flushed ≡ length taken.bytes)
-
--- With these statuses all is flushed.
-abbrev pub FlushesAt : Status → Option Taken → Type 0
-FlushesAt Done now = IsFlushed now
-FlushesAt Refused now = IsFlushed now
-FlushesAt Usage now = IsFlushed now
-FlushesAt ReadFault now = Unit {0}
-FlushesAt WriteFault now = Unit {0}
-FlushesAt Memory now = Unit {0}
-FlushesAt ScriptFault now = IsFlushed now
 
 -- A session answers these statuses alone.
 abbrev pub IsSessionStatus : Status → Type 0

@@ -7,15 +7,16 @@ ghost use Rattle.text_meaning.specs.Dependencies.{dependencies};
 ghost use Rattle.board_seats.specs.Seats.{Keeps};
 ghost use Rattle.board_front.specs.Staying.{IsAtFront, IsFront};
 ghost use Rattle.script_reader.specs.Reading.{to_come};
-ghost use Rattle.mmt_top.specs.Session.{FlushesAt, IsLed, IsSessionStatus, SessionEnds, TurnTells};
+ghost use Rattle.run_status.specs.Flushed.{FlushesAt};
+ghost use Rattle.mmt_top.specs.Session.{IsLed, IsSessionStatus, SessionEnds, TurnTells};
 
 use crate::speak::{end_by, finish, speak};
-use crate::status::Status;
 use board_front::close;
 use board_seats::{BoardPass, SharedBoard};
 use edit_log::Log;
 use mmt_outside::{Gate, Sink, Source};
 use module_check::Mmt;
+use run_status::Status;
 use script_reader::{Command, Script};
 use std::alloc::Global;
 use std::sync::Wait;

@@ -1,20 +1,19 @@
 //! The whole program as one call.
-ghost use Rattle.std.specs.Prelude.{◌≡◌, ◌≤◌, true, false, [], Some, map, IfSome};
+ghost use Rattle.std.specs.Prelude.{◌≡◌, ◌≤◌, true, false, [], Some, None, map, IfSome, IsSome};
 ghost use Rattle.std.specs.String.{string_bytes};
 ghost use Rattle.mmt_outside.specs.Faults.{Rose};
-ghost use Rattle.run_meaning.specs.ScriptItems.{script_of};
-ghost use Rattle.run_meaning.specs.ScriptOutput.{has_fault};
-ghost use Rattle.judged_meaning.specs.Outputs.{play_output};
-ghost use Rattle.mmt_top.specs.PlayedWords.{are_played};
-ghost use Rattle.mmt_top.specs.Session.{EndsAs, FlushesAt, IsSessionStatus};
-ghost use Rattle.mmt_top.specs.Runs.{IsUsage};
+ghost use Rattle.word_list_meaning.specs.WordLists as meant;
+ghost use Rattle.run_status.specs.Flushed.{FlushesAt};
+ghost use Rattle.command_words.specs.ReadRuns.{IsWithin, read_run, read_task};
+ghost use Rattle.mmt_top.specs.Runs.{Does, IsStatusOf, IsUsage, Prints, ReadHasCause, checks, is_check, is_play, plays};
+ghost use Rattle.mmt_top.specs.Typing.{TellsTyped};
 
+use crate::folder_session::check_folder;
+use crate::generator_session::generate;
 use crate::script_session::session;
-use crate::speak::write_last;
-use crate::status::Status;
-use crate::words::are_played;
-use command_words::usage_line;
+use command_words::{Run, Task, run_of, usage_line};
 use mmt_outside::{Folder, Gate, Sink, Source};
+use run_status::{Status, write_last};
 use std::alloc::Global;
 use std::sync::Wait;
 use std::thread::Threads;
@@ -32,10 +31,44 @@ fn usage<K: Sink>(sink: &mut K) -> Status
     }
 }
 
-/// Runs the program: reads the words, which are those after the program's name, and does what they ask.
-///
-/// So far `play` and `play --workers 0` are accepted: they play the script on the source, as `session` does, on one thread, and do
-/// not call the folder.
+/// Does what the words asked for.
+fn perform<
+    R: Threads + Wait + Sync,
+    S: Source + Send,
+    K: Sink + Send,
+    F: Folder + Send,
+    G: Gate + Sync,
+>(
+    rt: &R,
+    alloc: Global,
+    asked: Run<'_>,
+    source: &mut S,
+    sink: &mut K,
+    folder: &mut F,
+    gate: &G,
+) -> Status
+    requires { IsWithin asked }
+    ensures does { Does (read_run asked.entry) result (S.left source.old) (S.left source.new) (S.faults source.old) (S.faults source.new)
+        (F.files folder.old) (F.files folder.new) (F.faults folder.old) (F.faults folder.new) (K.taken sink.old) (K.taken sink.new) (K.faults sink.old) (K.faults sink.new) }
+    ensures unread { plays (read_task asked.entry.task) ≡ false → source.new ≡ source.old }
+    ensures uncalled { checks (read_task asked.entry.task) ≡ false → folder.new ≡ folder.old }
+{
+    let workers = asked.workers;
+    match asked.task {
+        Task::Play => session(rt, alloc, workers, source, sink, gate).status,
+        Task::CheckFolder(path) => check_folder(
+            rt, alloc, workers, path, sink, folder, gate,
+        ).status,
+        Task::Generate {
+            start,
+            modules,
+            edits,
+        } => generate(rt, alloc, workers, start, modules, edits, sink, gate).status,
+    }
+}
+
+/// Runs the program: reads the words, which are those after the program's name, and does what they ask. A script is played as by
+/// `session`, a folder is checked as by `check_folder`, and a library is generated as by `generate`.
 pub fn run<
     R: Threads + Wait + Sync,
     S: Source + Send,
@@ -52,35 +85,40 @@ pub fn run<
     gate: &G,
 ) -> Status
     // Where the words are in no accepted list, the usage line is written and flushed, and the answer is Usage; or the sink
-    // fails, and a first part of the line is written. Nothing is read.
-    ensures usage { are_played (map string_bytes words.now) ≡ false → IsUsage result (K.taken sink.old) (K.taken sink.new) }
-    ensures unread { are_played (map string_bytes words.now) ≡ false → source.new ≡ source.old }
+    // fails, and a first part of the line is written.
+    ensures usage { meant.run_of (map string_bytes words.now) ≡ None → IsUsage result (K.taken sink.old) (K.taken sink.new) }
 
-    // Over accepted words the answer is neither Usage nor Refused. Where the source tells its bytes: at Done no line is at
-    // fault, and all of the output is written and flushed; at ScriptFault a line is, and all of the output is written and
-    // flushed, the line of the fault being its last; with any other status a first part of the output is written.
-    ensures played { are_played (map string_bytes words.now) ≡ true → IsSessionStatus result }
-    ensures output { are_played (map string_bytes words.now) ≡ true → IfSome (S.left source.old)
-        (λ bytes. EndsAs result (K.taken sink.old) (K.taken sink.new) (play_output bytes) (has_fault (script_of bytes))) }
+    // Over accepted words, whatever their number of workers, what is written is the output of the script, of the folder or of the
+    // generator: all of it, flushed, or with the status of a fault or of want of memory a first part of it.
+    ensures status { IfSome (meant.run_of (map string_bytes words.now)) (λ run. IsStatusOf run.task result) }
+    ensures output { IfSome (meant.run_of (map string_bytes words.now)) (λ run. Prints run.task run.workers result (S.left source.old) (F.files folder.old) (K.taken sink.old) (K.taken sink.new)) }
 
-    // At Done nothing is left of the source.
-    ensures read_all { result ≡ Status.Done → IfSome (S.left source.old) (λ bytes. S.left source.new ≡ Some []) }
+    // What is told of modules keeps typing, in the library of the version at which it is told: an accepted theory flattens to a
+    // well-typed signature, and each of its structures carries typing judgements to it; an accepted view carries each typing
+    // judgement of its domain to one of its codomain.
+    ensures typed { IfSome (meant.run_of (map string_bytes words.now)) (λ run. TellsTyped run.task (S.left source.old) (F.files folder.old)) }
 
-    // At Done, ScriptFault and Usage all that the sink took is flushed, whether or not the source tells its bytes.
+    // A script that is played to its end is read to its end. Where no script is played nothing is read, and where no folder is checked
+    // the folder is not called.
+    ensures read_all { is_play (meant.run_of (map string_bytes words.now)) ≡ true → result ≡ Status.Done → IfSome (S.left source.old) (λ bytes. S.left source.new ≡ Some []) }
+    ensures unread { is_play (meant.run_of (map string_bytes words.now)) ≡ false → source.new ≡ source.old }
+    ensures uncalled { is_check (meant.run_of (map string_bytes words.now)) ≡ false → folder.new ≡ folder.old }
+    ensures same { F.files folder.new ≡ F.files folder.old }
+
+    // At Done, Refused, ScriptFault and Usage all that the sink took is flushed, whether or not the source and the folder tell what
+    // they hold.
     ensures flush { FlushesAt result (K.taken sink.new) }
 
     // Faults have their causes, and counts never fall.
-    ensures read { result ≡ Status.ReadFault → Rose (S.faults source.old) (S.faults source.new) }
+    ensures read { result ≡ Status.ReadFault → ReadHasCause (meant.run_of (map string_bytes words.now)) (S.faults source.old) (S.faults source.new) (F.faults folder.old) (F.faults folder.new) }
     ensures write { result ≡ Status.WriteFault → Rose (K.faults sink.old) (K.faults sink.new) }
-    ensures memory { result ≡ Status.Memory → are_played (map string_bytes words.now) ≡ true }
+    ensures memory { result ≡ Status.Memory → IsSome (meant.run_of (map string_bytes words.now)) }
     ensures source_later { S.faults source.old ≤ S.faults source.new }
+    ensures folder_later { F.faults folder.old ≤ F.faults folder.new }
     ensures sink_later { K.faults sink.old ≤ K.faults sink.new }
-
-    // The folder is not called so far.
-    ensures folder { folder.new ≡ folder.old }
 {
-    if !are_played(words) {
-        return usage(sink);
+    match run_of(words) {
+        Some(asked) => perform(rt, alloc, asked, source, sink, folder, gate),
+        None => usage(sink),
     }
-    session(rt, alloc, 0, source, sink, gate).status
 }

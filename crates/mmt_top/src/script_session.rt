@@ -3,68 +3,67 @@ ghost use Rattle.std.specs.Prelude.{◌≡◌, ◌≤◌, true, [], Some, IfSome
 ghost use Rattle.mmt_outside.specs.Faults.{Rose};
 ghost use Rattle.run_meaning.specs.ScriptItems.{script_of};
 ghost use Rattle.run_meaning.specs.ScriptOutput.{has_fault};
-ghost use Rattle.run_meaning.specs.ScriptLogs.{script_log};
+ghost use Rattle.run_meaning.specs.ScriptLogs.{script_log, script_told};
+ghost use Rattle.judged_meaning.specs.JudgingByRules.{rules};
+ghost use Rattle.told_typing.specs.ToldTyping.{AreTyped};
 ghost use Rattle.judged_meaning.specs.Outputs.{play_output};
 ghost use Rattle.board_meaning.specs.Events.{log_of};
 ghost use Rattle.board_meaning.specs.Legal.{IsLegal};
 ghost use Rattle.board_meaning.specs.Ready.{is_closed};
 ghost use Rattle.text_meaning.specs.Dependencies.{dependencies};
-ghost use Rattle.turn_meaning.specs.Passes.{first_pass};
 ghost use Rattle.board_front.specs.Staying.{Stays};
-ghost use Rattle.mmt_top.specs.Session.{BacksWritten, EditsAre, EndsAs, FlushesAt, IsLed, IsSessionStatus};
+ghost use Rattle.run_status.specs.Flushed.{FlushesAt};
+ghost use Rattle.mmt_top.specs.Session.{BacksWritten, EditsAre, EndsAs, IsLed, IsSessionStatus};
 
-use crate::ended::Ended;
-use crate::front::lead;
-use crate::status::Status;
-use board_seats::{BoardPass, SharedBoard};
+use crate::ended::{Ended, unbegun};
+use crate::script_front::ScriptFront;
 use mmt_outside::{Gate, Sink, Source};
 use module_check::Mmt;
+use run_status::Status;
 use std::alloc::Global;
 use std::sync::Wait;
 use std::thread::Threads;
-use turn_lock::NewFault;
 use verdict_board::Board;
+use worker_crew::lead;
 
-/// A session for which memory was wanting at its start.
-fn unplayed(board: Board<Mmt>) -> Ended
-    requires { board ≡ [] }
-    ensures status { result.status ≡ Status.Memory }
-    ensures board { IfSome result.board (λ board. Stays [] board × (is_closed board ≡ true)) }
-    ensures some { IsSome result.board }
-{
-    let mut board = board;
-    board.close(0);
-    Ended {
-        status: Status::Memory,
-        board: Some(board),
-    }
-}
-
-/// Plays the script on a shared board that has no entries.
-fn share<R: Wait, S: Source, K: Sink, G: Gate>(
+/// Plays the script on a board that has no entries.
+fn play_on<R: Threads + Wait + Sync, S: Source + Send, K: Sink + Send, G: Gate + Sync>(
     rt: &R,
     alloc: Global,
-    board: SharedBoard<Mmt>,
-    first: BoardPass<Mmt>,
+    board: Board<Mmt>,
+    workers: u32,
     source: &mut S,
     sink: &mut K,
     gate: &G,
 ) -> Ended
-    requires first { first ≡ first_pass board [] }
+    requires empty { board ≡ [] }
+    requires workers { workers ≤ 16 }
     ensures led { IfSome result.board (IsLed result.status (S.left source.old) (S.left source.new) (S.faults source.old) (S.faults source.new)
         (K.taken sink.old) (K.taken sink.new) (K.faults sink.old) (K.faults sink.new)) }
     ensures some { IsSome result.board }
 {
-    let mut first = first;
-    let status = lead(rt, alloc, gate, &board, &mut first, source, sink);
-    Ended {
-        status,
-        board: Some(board.end(first)),
+    let led = lead(
+        rt,
+        alloc,
+        &Mmt,
+        gate,
+        board,
+        workers,
+        &ScriptFront,
+        source,
+        sink,
+    );
+    match led.end {
+        Some(status) => Ended {
+            status,
+            board: Some(led.board),
+        },
+        None => unbegun(led.board),
     }
 }
 
-/// Plays the script on the source, from its first byte to its end, and hands back the board that it was played on. At most 16
-/// workers may be asked for; so far the calling thread does all work, whatever their number.
+/// Plays the script on the source, from its first byte to its end, and hands back the board that it was played on. So many workers,
+/// at most 16, judge modules beside it, each in a thread of its own where one can be made; they have ended when it answers.
 pub fn session<R: Threads + Wait + Sync, S: Source + Send, K: Sink + Send, G: Gate + Sync>(
     rt: &R,
     alloc: Global,
@@ -92,6 +91,9 @@ pub fn session<R: Threads + Wait + Sync, S: Source + Send, K: Sink + Send, G: Ga
     ensures edits { IfSome (S.left source.old) (λ bytes. IfSome result.board (λ board. EditsAre result.status (script_log bytes) (log_of board))) }
     ensures backs { IfSome (S.left source.old) (λ bytes. IfSome result.board (λ board. BacksWritten (K.taken sink.old) (K.taken sink.new) bytes board)) }
 
+    // What is told of modules keeps typing, in the library of the version at which it is told.
+    ensures typed { IfSome (S.left source.old) (λ bytes. AreTyped (script_log bytes) (script_told rules bytes)) }
+
     // At Done nothing is left of the source.
     ensures read_all { result.status ≡ Status.Done → IfSome (S.left source.old) (λ bytes. S.left source.new ≡ Some []) }
 
@@ -110,8 +112,5 @@ pub fn session<R: Threads + Wait + Sync, S: Source + Send, K: Sink + Send, G: Ga
             board: None,
         };
     };
-    match SharedBoard::new(alloc, board) {
-        Ok((shared, pass)) => share(rt, alloc, shared, pass, source, sink, gate),
-        Err(NewFault::Memory(board)) => unplayed(board),
-    }
+    play_on(rt, alloc, board, workers, source, sink, gate)
 }

@@ -1,22 +1,22 @@
 //! One command of a script, or its end, and what is written then.
-ghost use Rattle.std.specs.Prelude.{◌≡◌, ◌≤◌, true, false, [], IfSome, IsNone, OnOk, OnErr};
-ghost use Rattle.mmt_outside.specs.Bytes.{appended, flushed, TookPrefix};
-ghost use Rattle.mmt_outside.specs.Faults.{Rose, HasCause};
+ghost use Rattle.std.specs.Prelude.{◌≡◌, ◌≤◌, true, false, [], IfSome};
+ghost use Rattle.mmt_outside.specs.Faults.{Rose};
 ghost use Rattle.board_meaning.specs.Legal.{IsLegal};
 ghost use Rattle.text_meaning.specs.Dependencies.{dependencies};
 ghost use Rattle.board_seats.specs.Seats.{Keeps};
 ghost use Rattle.board_front.specs.Staying.{IsAtFront, IsFront};
 ghost use Rattle.script_reader.specs.Commands.{IsShort, read_command};
 ghost use Rattle.mmt_top.specs.Answered.{SpokenTells};
-ghost use Rattle.mmt_top.specs.Session.{EndsAs, IsFlushed, FlushesAt, IsSessionStatus, FaultTells};
+ghost use Rattle.run_status.specs.Flushed.{FlushesAt};
+ghost use Rattle.mmt_top.specs.Session.{EndsAs, IsSessionStatus, FaultTells};
 
 use crate::answer::answer;
-use crate::status::Status;
 use board_seats::{BoardPass, SharedBoard};
 use edit_log::Log;
-use mmt_outside::{Failed, Gate, Sink, write_all};
+use mmt_outside::{Gate, Sink, write_all};
 use module_check::Mmt;
 use report_text::fault_line;
+use run_status::{Status, write_last};
 use script_reader::{Command, ScriptFault};
 use std::alloc::Global;
 use std::sync::Wait;
@@ -66,17 +66,6 @@ pub(crate) fn speak<R: Wait, K: Sink, G: Gate>(
         Ok(()) => None,
         Err(_) => Some(Status::WriteFault),
     }
-}
-
-/// Writes the last line, and flushes.
-pub(crate) fn write_last<K: Sink>(sink: &mut K, line: &[u8]) -> Result<(), Failed>
-    ensures all { OnOk result (K.taken sink.new ≡ flushed (appended (K.taken sink.old) line.now)) }
-    ensures flush { OnOk result (IsFlushed (K.taken sink.new)) }
-    ensures failed { OnErr result (TookPrefix (K.taken sink.old) (K.taken sink.new) line.now) }
-    ensures cause { HasCause (K.faults sink.old) (K.faults sink.new) result }
-{
-    write_all(sink, line)?;
-    sink.flush()
 }
 
 /// Writes the line of a fault of the script, and flushes.

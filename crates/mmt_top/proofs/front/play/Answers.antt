@@ -2,7 +2,7 @@ use Rattle.std.proofs.Common.{◌≡◌, ℕ, List, [], refl, ap, subst, arith}
 use Rattle.std.specs.Prelude.{Option, Some, IfSome}
 use Rattle.script_reader.specs.Reading.{Reading, to_come}
 use Rattle.board_front.proofs.Histories.{keeps_on}
-use Rattle.mmt_top.specs.declared.status.Status.{Status}
+use Rattle.run_status.specs.declared.status.Status.{Status}
 use Rattle.mmt_top.specs.Session.{TurnTells}
 use Rattle.mmt_outside.proofs.Bytes.{preceded-nil}
 use Rattle.mmt_top.proofs.Sessions.{ended_whole, start, played_more, played_end, played_done, played_start}

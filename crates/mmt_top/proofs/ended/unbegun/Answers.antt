@@ -2,7 +2,7 @@ use denote.Exit.{yes}
 use denote.Param.Send.{arg_send, arg_sync, param_send, param_sync}
 use Rattle.module_check.proofs.Crossing.{verdict_row_send, verdict_row_sync}
 use Rattle.mmt_top.proofs.Led.{closed_at_once}
-use Rattle.mmt_top.proofs.script_session.unplayed.Goals as goal
+use Rattle.mmt_top.proofs.ended.unbegun.Goals as goal
 
 pub close-requires-send-S-Answer : goal.close-requires-send-S-Answer
 close-requires-send-S-Answer c κs = param_send _ _ (arg_send _ yes _ verdict_row_send)

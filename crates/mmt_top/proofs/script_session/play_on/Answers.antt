@@ -1,0 +1,41 @@
+use Rattle.std.proofs.Common.{◌≡◌, refl, sym, subst}
+use Rattle.std.specs.Prelude.{IfSome, IsNone}
+use denote.Exit.{yes}
+use denote.Param.Send.{arg_send, arg_sync, param_send, param_sync}
+use Rattle.module_check.proofs.Crossing.{verdict_row_send, verdict_row_sync}
+use Rattle.text_meaning.specs.Dependencies.{dependencies}
+use Rattle.worker_crew.specs.Leading.{WasLed}
+use Rattle.mmt_top.specs.Session.{IsLed}
+use Rattle.mmt_top.proofs.Led.{unbegun_led, was_led}
+use Rattle.mmt_top.proofs.script_session.play_on.Goals as goal
+
+pub lead-led-requires-send-S-Answer : goal.lead-led-requires-send-S-Answer
+lead-led-requires-send-S-Answer g c κs within = param_send _ _ (arg_send _ yes _ verdict_row_send)
+
+pub lead-led-requires-sync-S-Answer : goal.lead-led-requires-sync-S-Answer
+lead-led-requires-sync-S-Answer g c κs within = param_sync _ _ (arg_sync _ yes _ verdict_row_sync)
+
+pub returns-in-Some-clause-led : goal.returns-in-Some-clause-led
+returns-in-Some-clause-led g c =
+    was_led c.in-Some.status (g.S.Source.left c.args.source.now) (g.S.Source.left c.lead-led.new.input) (g.S.Source.faults c.args.source.now) (g.S.Source.faults c.lead-led.new.input)
+    (g.K.Sink.taken c.args.sink.now) (g.K.Sink.taken c.lead-led.new.output) (g.K.Sink.faults c.args.sink.now) (g.K.Sink.faults c.lead-led.new.output) c.lead-led.result.board
+    (subst
+    (λ end. IfSome end (λ status. WasLed dependencies
+    (IsLed status (g.S.Source.left c.args.source.now) (g.S.Source.left c.lead-led.new.input) (g.S.Source.faults c.args.source.now) (g.S.Source.faults c.lead-led.new.input)
+    (g.K.Sink.taken c.args.sink.now) (g.K.Sink.taken c.lead-led.new.output) (g.K.Sink.faults c.args.sink.now) (g.K.Sink.faults c.lead-led.new.output)) c.lead-led.result.board))
+    c.in-Some.is c.lead-led.ensures.led)
+
+pub returns-in-None-clause-led : goal.returns-in-None-clause-led
+returns-in-None-clause-led g c =
+    let none = c.lead-led.ensures.none (subst IsNone (sym c.in-None.is) refl) in
+    let status = c.unbegun.result.status in
+    let board = c.unbegun.result.board in
+    subst
+    (λ source. IfSome board (IsLed status (g.S.Source.left c.args.source.now) (g.S.Source.left source) (g.S.Source.faults c.args.source.now) (g.S.Source.faults source)
+    (g.K.Sink.taken c.args.sink.now) (g.K.Sink.taken c.lead-led.new.output) (g.K.Sink.faults c.args.sink.now) (g.K.Sink.faults c.lead-led.new.output)))
+    (sym none.1)
+    (subst
+    (λ sink. IfSome board (IsLed status (g.S.Source.left c.args.source.now) (g.S.Source.left c.args.source.now) (g.S.Source.faults c.args.source.now) (g.S.Source.faults c.args.source.now)
+    (g.K.Sink.taken c.args.sink.now) (g.K.Sink.taken sink) (g.K.Sink.faults c.args.sink.now) (g.K.Sink.faults sink)))
+    (sym none.2)
+    (unbegun_led status (g.S.Source.left c.args.source.now) (g.S.Source.faults c.args.source.now) (g.K.Sink.taken c.args.sink.now) (g.K.Sink.faults c.args.sink.now) board c.unbegun.ensures.status c.unbegun.ensures.board))
