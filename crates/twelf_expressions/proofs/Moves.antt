@@ -153,10 +153,6 @@ ends_operand r n row xs k h e =
 pub one_more_waits : (k : Waiting) (fs gs : List Frame) (f : Frame) → gs ≡ fs ++ (f ∷ []) → waiting k gs ≡ waits (waiting k fs) f
 one_more_waits k fs gs f e = ap (waiting k) e ∙ fold-append waits k fs (f ∷ [])
 
--- the state at an operand, of its parts
-pub same_operand : (n m : ℕ) (r q : Row) (xs ys : Atoms) (k : Waiting) → n ≡ m → r ≡ q → xs ≡ ys → AtOperand n r xs k ≡ AtOperand m q ys k
-same_operand n m r q xs ys k a b c = cc
-
 pub goes_from : {X : Type 0} (r : Result X ReadFault) (a b : Answer) (next : X → Answer) → a ≡ b → Goes b r next → Goes a r next
 goes_from r a b next e h = subst (λ x. Goes x r next) (sym e) h
 

@@ -1,9 +1,9 @@
 -- Which tokens a state refuses, where some signs have been ruled out.
 use Rattle.std.proofs.Common.{◌≡◌, ℕ, true, false, List, [], ◌∷◌, refl, sym, ap, eqb-true, true≢false}
-use Rattle.text_meaning.specs.Tokens.{Span, Sign, Kind, Mark, Ident, LeftParen, LeftBracket, LeftBrace, DotSign, TypeWord, ArrowSign, BackSign}
+use Rattle.text_meaning.specs.Tokens.{Span, Sign, Kind, Mark, Ident, LeftParen, LeftBracket, LeftBrace, DotSign, TypeWord}
 use Rattle.name_meaning.specs.Names.{Path}
 use Rattle.text_meaning.specs.Trees.{first_name, Written}
-use Rattle.text_meaning.specs.Parsing.{Atoms, NoAtoms, Row, Waiting, State, code, expect, more_words, operand_ends, at_operand, is_refused, begins_operand}
+use Rattle.text_meaning.specs.Parsing.{Atoms, NoAtoms, Row, Waiting, State, code, expect, more_words, at_operand, is_refused, begins_operand}
 use Rattle.text_laws.proofs.Sound.{code_injective}
 use Rattle.twelf_expressions.specs.Signs.{is_sign, is_path, is_name}
 
@@ -15,17 +15,6 @@ is_sign_is m (Ident p) h = absurd (true≢false (sym h))
 pub expect_other : (m : Sign) (next : State) (k : Kind) → is_sign m k ≡ false → is_refused (expect m k next) ≡ true
 expect_other m next (Mark k) h = rw h refl
 expect_other m next (Ident p) h = refl
-
--- what ends an operand
-pub operand_other : (n : ℕ) (row : Row) (xs : Atoms) (w : Waiting) (s : Span) (k : Kind) → is_path k ≡ false → is_sign TypeWord k ≡ false → is_sign LeftParen k ≡ false → is_sign LeftBrace k ≡ false → is_sign LeftBracket k ≡ false → is_sign ArrowSign k ≡ false → is_sign BackSign k ≡ false → at_operand n row xs w s k ≡ operand_ends row xs w (record { span = s; kind = k })
-operand_other n row xs w s (Ident p) h0 h1 h2 h3 h4 h5 h6 = absurd (true≢false h0)
-operand_other n row xs w s (Mark TypeWord) h0 h1 h2 h3 h4 h5 h6 = absurd (true≢false h1)
-operand_other n row xs w s (Mark LeftParen) h0 h1 h2 h3 h4 h5 h6 = absurd (true≢false h2)
-operand_other n row xs w s (Mark LeftBrace) h0 h1 h2 h3 h4 h5 h6 = absurd (true≢false h3)
-operand_other n row xs w s (Mark LeftBracket) h0 h1 h2 h3 h4 h5 h6 = absurd (true≢false h4)
-operand_other n row xs w s (Mark ArrowSign) h0 h1 h2 h3 h4 h5 h6 = absurd (true≢false h5)
-operand_other n row xs w s (Mark BackSign) h0 h1 h2 h3 h4 h5 h6 = absurd (true≢false h6)
-operand_other n row xs w s _ h0 h1 h2 h3 h4 h5 h6 = refl
 
 -- what is no further word
 pub words_other : (ws : List Written) (done : List Written → State) (s : Span) (k : Kind) → is_path k ≡ false → more_words ws done s k ≡ expect DotSign k (done ws)

@@ -30,6 +30,10 @@ behind text to _ = left_from text to
 abbrev pub left : Reader → List Token
 left r = lexeme_token r.text.now r.next ∷ behind r.text.now r.next.span.to r.next.sign
 
+-- the sign of what stands next
+abbrev pub sign_ahead : Reader → Sign
+sign_ahead r = r.next.sign
+
 -- the first of them
 abbrev pub next_token : List Token → Token
 next_token [] = sign (record { from = 0; to = 0 }) EndSign

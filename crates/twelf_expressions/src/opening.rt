@@ -68,13 +68,17 @@ impl<'a> Reader<'a> {
         ensures less { OnOk result (length (left self.new) ≤ length (left self.old)) }
     {
         let name = self.variable()?;
-        if self.sees(Sign::Colon) {
-            self.take(Sign::Colon);
-            return self.open(stack, Opening::Domain(brace, opening, name));
-        }
-        match brace {
-            Brace::Curly => Err(self.refuse(Spot::Variable)),
-            Brace::Square => self.lambda(stack, opening, name),
+        match (self.next.sign, brace) {
+            (Sign::Colon, _) => {
+                self.take(Sign::Colon);
+                self.open(stack, Opening::Domain(brace, opening, name))
+            }
+            (Sign::RBracket, Brace::Square) => {
+                self.take(Sign::RBracket);
+                self.open(stack, Opening::Body(opening, Binding::Lam(name)))
+            }
+            (_, Brace::Curly) => Err(self.refuse(Spot::Variable)),
+            (_, Brace::Square) => Err(self.refuse(Spot::Elsewhere)),
         }
     }
 
@@ -84,28 +88,17 @@ impl<'a> Reader<'a> {
             (answer_on (AtVariable b l n row xs k) (left self.old)) result (λ x. answer_on (AfterVariable b l (read_binder x) n row xs k) (left self.new)) }
         ensures less { OnOk result (length (left self.new) ≤ length (left self.old)) }
     {
-        if self.sees(Sign::Blank) {
-            self.take(Sign::Blank);
-            return Ok(Binder::Blank);
+        match self.next.sign {
+            Sign::Blank => {
+                self.take(Sign::Blank);
+                Ok(Binder::Blank)
+            }
+            Sign::Name => {
+                let name = self.take_name()?;
+                Ok(Binder::Named(name))
+            }
+            _ => Err(self.refuse(Spot::Elsewhere)),
         }
-        if !self.sees_name() {
-            return Err(self.refuse(Spot::Elsewhere));
-        }
-        let name = self.take_name()?;
-        Ok(Binder::Named(name))
-    }
-
-    /// Behind the variable of a λ that has no domain.
-    fn lambda(&mut self, stack: &mut Stack, opening: Span, name: Binder) -> Result<(), ReadFault>
-        requires { is_sign ColonSign (next_kind (left self.old)) ≡ false }
-        ensures goes { (k : Waiting) → Goes (answer_on (of_stack (AfterVariable parsing.Square (read_span opening) (read_binder name)) stack.old k) (left self.old)) result (λ _. answer_on (stands stack.new k) (left self.new)) }
-        ensures less { OnOk result (length (left self.new) ≤ length (left self.old)) }
-    {
-        if !self.sees(Sign::RBracket) {
-            return Err(self.refuse(Spot::Elsewhere));
-        }
-        self.take(Sign::RBracket);
-        self.open(stack, Opening::Body(opening, Binding::Lam(name)))
     }
 
     /// At an arrow: the operand is whole, and what follows the arrow begins.

@@ -1,14 +1,15 @@
 //! Tokens that are refused.
 ghost use Rattle.std.specs.Prelude.{◌≡◌, ◌+◌, ◌∷◌, true, false, IfErr, IfOk};
-ghost use Rattle.text_meaning.specs.Tokens.{Token};
+ghost use Rattle.text_meaning.specs.Tokens.{Mark, Token};
 ghost use Rattle.text_meaning.specs.Parsing.{State, Waiting, Row, AtOperand, NoAtoms, answer_on, begins_operand, is_bare_binder, is_refused, step, takes_include};
+ghost use Rattle.twelf_lexer.specs.Lexemes.{word_mark};
 ghost use Rattle.twelf_expressions.specs.Left.{left, next_kind, next_token};
 ghost use Rattle.twelf_expressions.specs.Going.{Fails, answer_with, bare_at, left_out_at, takes_at};
 
 use crate::ReadFault;
 use crate::level::Level;
 use crate::reader::Reader;
-use twelf_lexer::Sign;
+use twelf_lexer::{PercentWord, Sign};
 
 /// Where a token is refused, as far as it decides whether this profile leaves it out.
 #[derive(Clone, Copy, Debug)]
@@ -31,6 +32,19 @@ impl Spot {
         ensures { result ≡ bare_at self }
     {
         matches!(self, Spot::Variable)
+    }
+
+    /// Whether this profile leaves out a percent word that is refused here.
+    fn leaves_out(self, word: PercentWord) -> bool
+        ensures { result ≡ left_out_at self (Mark (word_mark word)) }
+    {
+        match word {
+            PercentWord::Sig => self.takes_include(),
+            PercentWord::View => self.takes_include(),
+            PercentWord::Include => false,
+            PercentWord::Struct => false,
+            PercentWord::Other => true,
+        }
     }
 }
 
@@ -62,11 +76,9 @@ impl<'a> Reader<'a> {
         ensures { result ≡ left_out_at spot (next_kind (left self.now)) }
     {
         match self.next.sign {
-            Sign::OtherWord => true,
+            Sign::Percent(word) => spot.leaves_out(word),
             Sign::Blank => true,
             Sign::RBrace => spot.is_behind_variable(),
-            Sign::SigWord => spot.takes_include(),
-            Sign::ViewWord => spot.takes_include(),
             _ => false,
         }
     }

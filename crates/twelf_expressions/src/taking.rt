@@ -9,7 +9,7 @@ ghost use Rattle.text_meaning.specs.Trees.{first_name};
 ghost use Rattle.mmt_syntax.specs.Readings.{read_span, read_written};
 ghost use Rattle.twelf_expressions.specs.Signs.{is_name, is_path, is_plain, is_sign};
 ghost use Rattle.twelf_expressions.specs.Going.{simple_of};
-ghost use Rattle.twelf_expressions.specs.Left.{last_token, left, left_from, next_kind, next_token};
+ghost use Rattle.twelf_expressions.specs.Left.{last_token, left, left_from, next_kind, next_token, sign_ahead};
 
 use crate::reader::Reader;
 use lf_terms::{Memory, Name, Span};
@@ -30,6 +30,13 @@ impl<'a> Reader<'a> {
             next: lexeme_at(text, 0),
             frames: Vec::new(alloc),
         }
+    }
+
+    /// The sign of what stands next.
+    pub fn ahead(&self) -> Sign
+        ensures { result ≡ sign_ahead self.now }
+    {
+        self.next.sign
     }
 
     /// Whether the next token is this sign.

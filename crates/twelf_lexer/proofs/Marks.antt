@@ -2,12 +2,13 @@
 use Rattle.std.proofs.Common.{◌≡◌, ℕ, ◌+◌, true, false, List, [], ◌∷◌, length, nat_lt, refl, sym, ap, subst, ◌∙◌, IsCharBoundary}
 use Rattle.std.specs.List.{slice_range, list_any}
 use Rattle.name_meaning.specs.Identifiers.{is_run, is_reserved}
-use Rattle.text_meaning.specs.Tokens.{Mark, Ident, Sign, token, percent_sign, run_kind, row_kind, Stray, SigWord, ViewWord, IncludeWord, StructWord, OtherWord}
+use Rattle.text_meaning.specs.Tokens.{Mark, Ident, Sign, token, percent_sign, run_kind, row_kind, Stray}
 use Rattle.text_meaning.specs.Cut.{is_row}
 use Rattle.twelf_lexer.specs.Advances.{Advances}
 use Rattle.twelf_lexer.specs.Rows.{IsLongestRow, IsRow}
-use Rattle.twelf_lexer.specs.Lexemes.{IsMark, IsPercentWord, IsReserved, IsToken, runs}
+use Rattle.twelf_lexer.specs.Lexemes.{IsMark, IsReserved, IsToken, runs, word_mark}
 use Rattle.twelf_lexer.specs.declared.row.RowEnd.{RowEnd}
+use Rattle.twelf_lexer.specs.declared.sign.PercentWord.{PercentWord}
 use Rattle.twelf_lexer.specs.declared.sign.Sign as lexer
 use Rattle.twelf_lexer.specs.declared.sign.Sign.TheVariants as signs
 use Rattle.twelf_lexer.proofs.RowSteps.{row_advances, row_runs, stray_row, free_row, free_run, single_row}
@@ -24,28 +25,8 @@ is_token text at to sign m k a =
 
 -- ---- percent words
 
-pub is_word : (text : List ℕ) (at to : ℕ) (sign : lexer.Sign) (run : List ℕ) → slice_range text (at + 1) to ≡ run → IsPercentWord run sign → Advances text at to (token at to (Mark (percent_sign run)) ∷ []) → IsToken text at to sign
-is_word text at to sign run e w a =
-    record {
-      advances = subst (λ kind. Advances text at to (token at to kind ∷ [])) (sym (w.kind text at to)) a;
-      parts = w.parts text at to e;
-      more = w.more;
-    }
-
-pub sig_word : (run : List ℕ) → percent_sign run ≡ SigWord → IsPercentWord run signs.SigWord
-sig_word run h = record { kind = λ text from to. ap Mark (sym h); parts = λ text from to e. ap percent_sign e ∙ h; more = refl }
-
-pub view_word : (run : List ℕ) → percent_sign run ≡ ViewWord → IsPercentWord run signs.ViewWord
-view_word run h = record { kind = λ text from to. ap Mark (sym h); parts = λ text from to e. ap percent_sign e ∙ h; more = refl }
-
-pub include_word : (run : List ℕ) → percent_sign run ≡ IncludeWord → IsPercentWord run signs.IncludeWord
-include_word run h = record { kind = λ text from to. ap Mark (sym h); parts = λ text from to e. ap percent_sign e ∙ h; more = refl }
-
-pub struct_word : (run : List ℕ) → percent_sign run ≡ StructWord → IsPercentWord run signs.StructWord
-struct_word run h = record { kind = λ text from to. ap Mark (sym h); parts = λ text from to e. ap percent_sign e ∙ h; more = refl }
-
-pub other_word : (run : List ℕ) → percent_sign run ≡ OtherWord → IsPercentWord run signs.OtherWord
-other_word run h = record { kind = λ text from to. ap Mark (sym h); parts = λ text from to e. ap percent_sign e ∙ h; more = refl }
+pub is_word : (text : List ℕ) (at to : ℕ) (w : PercentWord) → word_mark w ≡ percent_sign (slice_range text (at + 1) to) → Advances text at to (token at to (Mark (percent_sign (slice_range text (at + 1) to))) ∷ []) → IsToken text at to (signs.Percent w)
+is_word text at to w h a = record { advances = subst (λ m. Advances text at to (token at to (Mark m) ∷ [])) (sym h) a; parts = sym h; more = refl }
 
 -- ---- rows
 

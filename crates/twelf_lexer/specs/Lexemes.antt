@@ -7,19 +7,25 @@ use Rattle.text_meaning.specs.Tokens.{Kind, Mark, Ident, token, percent_sign, ru
 use Rattle.text_meaning.specs.Tokens as tokens
 use Rattle.text_meaning.specs.Cut.{Finished, Unclosed, bracket_sign, ends_row}
 use Rattle.text_meaning.specs.Cutting.{Between, Cutting, ahead, cut_on}
+use Rattle.twelf_lexer.specs.declared.sign.PercentWord.{PercentWord}
+use Rattle.twelf_lexer.specs.declared.sign.PercentWord.TheVariants as words
 use Rattle.twelf_lexer.specs.declared.sign.Sign.{Sign}
 use Rattle.twelf_lexer.specs.declared.sign.Sign.TheVariants as signs
 use Rattle.twelf_lexer.specs.declared.sign.Lexeme.{Lexeme}
 use Rattle.twelf_lexer.specs.Rows.{IsRow}
 use Rattle.twelf_lexer.specs.Advances.{Advances}
 
+-- the sign that a percent word is
+abbrev pub word_mark : PercentWord → tokens.Sign
+word_mark words.Sig = SigWord
+word_mark words.View = ViewWord
+word_mark words.Include = IncludeWord
+word_mark words.Struct = StructWord
+word_mark words.Other = OtherWord
+
 -- The sign that a token is which is no identifier. Where a comment has no end, a reader meets a byte that no token begins with.
 abbrev pub mark_of : Sign → tokens.Sign
-mark_of signs.SigWord = SigWord
-mark_of signs.ViewWord = ViewWord
-mark_of signs.IncludeWord = IncludeWord
-mark_of signs.StructWord = StructWord
-mark_of signs.OtherWord = OtherWord
+mark_of (signs.Percent w) = word_mark w
 mark_of signs.Stray = Stray
 mark_of signs.Assign = AssignSign
 mark_of signs.Colon = ColonSign
@@ -86,11 +92,7 @@ pub record IsOne (text : List ℕ) (from to : ℕ) : Type 0 where
 abbrev pub Parts : List ℕ → ℕ → ℕ → Sign → Type 0
 Parts text from to signs.Name = IsOne text from to
 Parts text from to signs.Path = IsSeveral text from to
-Parts text from to signs.SigWord = percent_sign (slice_range text (from + 1) to) ≡ SigWord
-Parts text from to signs.ViewWord = percent_sign (slice_range text (from + 1) to) ≡ ViewWord
-Parts text from to signs.IncludeWord = percent_sign (slice_range text (from + 1) to) ≡ IncludeWord
-Parts text from to signs.StructWord = percent_sign (slice_range text (from + 1) to) ≡ StructWord
-Parts text from to signs.OtherWord = percent_sign (slice_range text (from + 1) to) ≡ OtherWord
+Parts text from to (signs.Percent w) = percent_sign (slice_range text (from + 1) to) ≡ word_mark w
 Parts text from to _ = Unit {0}
 
 -- Over a token of this sign the cut comes from one place to another.
@@ -121,12 +123,6 @@ IsBracket byte sign = (m : tokens.Sign) × (bracket_sign byte ≡ Some m) × IsM
 -- The sign is that of a reserved word.
 abbrev pub IsReserved : List ℕ → Sign → Type 0
 IsReserved run sign = ((text : List ℕ) (from to : ℕ) → sign_kind text from to sign ≡ run_kind run) × ((text : List ℕ) (from to : ℕ) → Parts text from to sign) × (is_last sign ≡ false)
-
--- The sign is that of `%` and this run.
-pub record IsPercentWord (run : List ℕ) (sign : Sign) : Type 0 where
-  pub kind : (text : List ℕ) (from to : ℕ) → sign_kind text from to sign ≡ Mark (percent_sign run)
-  pub parts : (text : List ℕ) (from to : ℕ) → slice_range text (from + 1) to ≡ run → Parts text from to sign
-  pub more : is_last sign ≡ false
 
 -- the cut of a text from a place on, by what stands next
 abbrev pub cut_behind : List ℕ → ℕ → ℕ → Sign → Cutting

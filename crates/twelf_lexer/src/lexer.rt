@@ -77,11 +77,7 @@ fn token(alloc: Global, names: &mut NameTable, text: &str, lexeme: Lexeme) -> Re
     ensures { IfOk result (λ token. token_of text.now token ≡ lexeme_token text.now lexeme) }
 {
     let kind = match lexeme.sign {
-        Sign::SigWord => TokenKind::Percent,
-        Sign::ViewWord => TokenKind::Percent,
-        Sign::IncludeWord => TokenKind::Percent,
-        Sign::StructWord => TokenKind::Percent,
-        Sign::OtherWord => TokenKind::Percent,
+        Sign::Percent(_) => TokenKind::Percent,
         Sign::Stray => TokenKind::Stray,
         Sign::Assign => TokenKind::Assign,
         Sign::Colon => TokenKind::Colon,

@@ -20,5 +20,5 @@ pub use lexer::{Cut, lex, tokens};
 pub use list::TokenList;
 pub use names::NameTable;
 pub use path::path_of;
-pub use sign::{Lexeme, Sign};
+pub use sign::{Lexeme, PercentWord, Sign};
 pub use token::{Token, TokenKind};

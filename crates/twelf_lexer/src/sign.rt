@@ -2,15 +2,22 @@
 
 use lf_terms::Span;
 
+/// The run behind `%`, as far as a text of modules has it.
+#[derive(Clone, Copy, Debug, PartialEq, Eq)]
+pub enum PercentWord {
+    Sig,
+    View,
+    Include,
+    Struct,
+    /// Any other.
+    Other,
+}
+
 /// What a token is, but for the names of an identifier; or where the tokens end.
 #[derive(Clone, Copy, Debug, PartialEq, Eq)]
 pub enum Sign {
-    SigWord,
-    ViewWord,
-    IncludeWord,
-    StructWord,
-    /// Any other percent word.
-    OtherWord,
+    /// `%` and a run.
+    Percent(PercentWord),
     Stray,
     Assign,
     Colon,

@@ -3,14 +3,15 @@ ghost use Rattle.std.specs.Prelude.{◌≡◌, ◌+◌, ◌<◌, ◌==◌, drop,
 ghost use Rattle.name_meaning.specs.Characters as characters;
 ghost use Rattle.text_meaning.specs.Bytes.{begins, left_brace};
 ghost use Rattle.text_meaning.specs.Cut as cut;
-ghost use Rattle.twelf_lexer.specs.Lexemes.{IsBracket, IsPercentWord};
+ghost use Rattle.text_meaning.specs.Tokens.{percent_sign};
+ghost use Rattle.twelf_lexer.specs.Lexemes.{IsBracket, word_mark};
 ghost use Rattle.twelf_lexer.specs.Pieces.{IsStep};
 ghost use Rattle.twelf_lexer.specs.declared.step.Piece.TheVariants as pieces;
 
-use crate::Sign;
 use crate::comment::comment_end;
 use crate::row::row_sign;
 use crate::scan::{line_end, run_end, starts_run, starts_with};
+use crate::{PercentWord, Sign};
 use identifiers::{is_identifier_byte, is_white_space};
 
 /// What stands at a place between tokens.
@@ -152,28 +153,28 @@ fn percent_step(text: &[u8], at: usize) -> Step
     }
     if starts_run(text, next) {
         let to = run_end(text, next);
-        return token(percent_word(&text[next..to]), to);
+        return token(Sign::Percent(percent_word(&text[next..to])), to);
     }
     token(Sign::Stray, next)
 }
 
 /// Which percent word `%` and a run are.
-fn percent_word(run: &[u8]) -> Sign
-    ensures { IsPercentWord run.now result }
+fn percent_word(run: &[u8]) -> PercentWord
+    ensures { word_mark result ≡ percent_sign run.now }
 {
     if run == b"sig".as_slice() {
-        return Sign::SigWord;
+        return PercentWord::Sig;
     }
     if run == b"view".as_slice() {
-        return Sign::ViewWord;
+        return PercentWord::View;
     }
     if run == b"include".as_slice() {
-        return Sign::IncludeWord;
+        return PercentWord::Include;
     }
     if run == b"struct".as_slice() {
-        return Sign::StructWord;
+        return PercentWord::Struct;
     }
-    Sign::OtherWord
+    PercentWord::Other
 }
 
 /// Whether a comment up to the end of the line goes on behind its percent sign.

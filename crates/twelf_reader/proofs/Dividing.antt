@@ -1,19 +1,24 @@
 -- How a file divides, token by token.
-use Rattle.std.specs.Prelude.{Result, Ok, Err, IsErrAnd}
-use Rattle.std.proofs.Common.{◌≡◌, ℕ, suc, ◌+◌, arith, true, false, List, [], ◌∷◌, ◌++◌, refl, sym, ap, subst, ◌∙◌, append_assoc, true≢false}
-use Rattle.text_meaning.specs.Tokens.{Span, Sign, Kind, Mark, Ident, Token, sign, ident, SigWord, ViewWord, IncludeWord, StructWord, OtherWord, LeftBrace, RightBrace, DotSign, EndSign}
+use Rattle.std.specs.Prelude.{Option, Some, None, SomeIff, Result, Ok, Err, IsErrAnd}
+use Rattle.std.proofs.Common.{◌≡◌, ℕ, suc, ◌+◌, ◌-◌, ◌≤◌, arith, true, false, List, [], ◌∷◌, ◌++◌, refl, sym, ap, subst, ◌∙◌, append_assoc, true≢false}
+use Rattle.text_meaning.specs.Tokens.{Span, Sign, Kind, Mark, Ident, Token, token, sign, ident, SigWord, ViewWord, LeftBrace, RightBrace, DotSign, EndSign}
 use Rattle.text_meaning.specs.Trees.{Written}
 use Rattle.text_meaning.specs.Cut.{Ending, Finished, Unclosed}
 use Rattle.text_meaning.specs.Grammar.{simple}
 use Rattle.text_meaning.specs.Splitting as splitting
 use Rattle.text_meaning.specs.Splitting.{Division, Pieces, SyntaxFault, UnsupportedFault, before_division, is_left_brace, is_right_brace}
-use Rattle.text_meaning.specs.Dividing.{AtTop, AtName, BeforeBody, InBody, AtDot, at_top, at_name, at_dot, before_next, body_next, divide_on}
+use Rattle.text_meaning.specs.Dividing.{AtTop, AtName, BeforeBody, InBody, AtDot, at_name, at_dot, before_next, body_next, divide_on}
+use Rattle.twelf_lexer.specs.Lexemes.{sign_kind}
+use Rattle.twelf_lexer.specs.declared.sign.PercentWord.{PercentWord}
+use Rattle.twelf_lexer.specs.declared.sign.PercentWord.TheVariants as words
+use Rattle.twelf_lexer.specs.declared.sign.Sign as signs
+use Rattle.twelf_lexer.specs.declared.sign.Sign.TheVariants.{End, Percent}
 use Rattle.twelf_expressions.specs.Signs.{is_name, is_sign}
 use Rattle.twelf_expressions.specs.Left.{last_token}
 use Rattle.twelf_expressions.specs.declared.fault.ReadFault.{ReadFault}
 use Rattle.twelf_expressions.specs.declared.fault.ReadFault.TheVariants as faults
 use Rattle.twelf_expressions.proofs.SignCases.{is_sign_is}
-use Rattle.twelf_reader.specs.Division.{DividesSo, FailsSo, behind_dot, pieces_before}
+use Rattle.twelf_reader.specs.Division.{DividesSo, FailsSo, behind_dot, in_body, pieces_before}
 
 -- a token of a sign
 token_is : (m : Sign) (t : Token) → is_sign m t.kind ≡ true → t ≡ sign t.span m
@@ -33,30 +38,19 @@ pub view_word : (s : Span) (ts : List Token) → divide_on AtTop (sign s ViewWor
 unfolding divide_on
 view_word s ts = refl
 
-pub include_word : (t : Token) (ts : List Token) → is_sign IncludeWord t.kind ≡ true → divide_on AtTop (t ∷ ts) ≡ UnsupportedFault t.span.from
+-- a percent word that begins no module
+pub other_word : (text : List ℕ) (from to : ℕ) (g : signs.Sign) (w : PercentWord) (ts : List Token) → g ≡ Percent w → ¬ (w ≡ words.Sig) → ¬ (w ≡ words.View) → divide_on AtTop (token from to (sign_kind text from to g) ∷ ts) ≡ UnsupportedFault from
 unfolding divide_on
-include_word t ts h = ap (λ u. divide_on AtTop (u ∷ ts)) (token_is IncludeWord t h)
+other_word text from to g words.Sig ts e a b = absurd (a refl)
+other_word text from to g words.View ts e a b = absurd (b refl)
+other_word text from to g _ ts e a b = ap (λ x. divide_on AtTop (token from to (sign_kind text from to x) ∷ ts)) e
 
-pub struct_word : (t : Token) (ts : List Token) → is_sign StructWord t.kind ≡ true → divide_on AtTop (t ∷ ts) ≡ UnsupportedFault t.span.from
+-- what is no percent word, and not the end
+pub no_module : (text : List ℕ) (from to : ℕ) (g : signs.Sign) (ts : List Token) → ((w : PercentWord) → ¬ (g ≡ Percent w)) → is_sign EndSign (sign_kind text from to g) ≡ false → divide_on AtTop (token from to (sign_kind text from to g) ∷ ts) ≡ SyntaxFault from
 unfolding divide_on
-struct_word t ts h = ap (λ u. divide_on AtTop (u ∷ ts)) (token_is StructWord t h)
-
-pub other_word : (t : Token) (ts : List Token) → is_sign OtherWord t.kind ≡ true → divide_on AtTop (t ∷ ts) ≡ UnsupportedFault t.span.from
-unfolding divide_on
-other_word t ts h = ap (λ u. divide_on AtTop (u ∷ ts)) (token_is OtherWord t h)
-
-top_stops : (s : Span) (k : Kind) (go : Division) → is_sign EndSign k ≡ false → is_sign SigWord k ≡ false → is_sign ViewWord k ≡ false → is_sign IncludeWord k ≡ false → is_sign StructWord k ≡ false → is_sign OtherWord k ≡ false → at_top s k go ≡ SyntaxFault s.from
-top_stops s (Mark EndSign) go a b c d e f = absurd (true≢false a)
-top_stops s (Mark SigWord) go a b c d e f = absurd (true≢false b)
-top_stops s (Mark ViewWord) go a b c d e f = absurd (true≢false c)
-top_stops s (Mark IncludeWord) go a b c d e f = absurd (true≢false d)
-top_stops s (Mark StructWord) go a b c d e f = absurd (true≢false e)
-top_stops s (Mark OtherWord) go a b c d e f = absurd (true≢false f)
-top_stops s _ go a b c d e f = refl
-
-pub no_module : (t : Token) (ts : List Token) → is_sign EndSign t.kind ≡ false → is_sign SigWord t.kind ≡ false → is_sign ViewWord t.kind ≡ false → is_sign IncludeWord t.kind ≡ false → is_sign StructWord t.kind ≡ false → is_sign OtherWord t.kind ≡ false → divide_on AtTop (t ∷ ts) ≡ SyntaxFault t.span.from
-unfolding divide_on
-no_module t ts a b c d e f = top_stops t.span t.kind (divide_on (AtName t.span) ts) a b c d e f
+no_module text from to (Percent w) ts a b = absurd (a w refl)
+no_module text from to End ts a b = absurd (true≢false b)
+no_module text from to _ ts a b = refl
 
 -- ---- names
 
@@ -138,12 +132,7 @@ one_closes w x n last t ts h k =
     let next : body_next w x (suc n) t ≡ InBody w x n t.span.from = rw (e, f) refl in
     ap (λ p. divide_on p ts) next
 
-pub inside_closes : (w : Span) (x : Written) (n m last : ℕ) (t : Token) (ts : List Token) → n ≡ m + 1 → is_sign LeftBrace t.kind ≡ false → is_sign RightBrace t.kind ≡ true → divide_on (InBody w x n last) (t ∷ ts) ≡ divide_on (InBody w x m t.span.from) ts
-inside_closes w x n m last t ts e h k =
-    let f : n ≡ suc m = omega arith in
-    ap (λ i. divide_on (InBody w x i last) (t ∷ ts)) f ∙ one_closes w x m last t ts h k
-
-pub body_closes : (w : Span) (x : Written) (last : ℕ) (t : Token) (ts : List Token) → is_sign LeftBrace t.kind ≡ false → is_sign RightBrace t.kind ≡ true → divide_on (InBody w x 0 last) (t ∷ ts) ≡ divide_on (AtDot w x) ts
+body_closes : (w : Span) (x : Written) (last : ℕ) (t : Token) (ts : List Token) → is_sign LeftBrace t.kind ≡ false → is_sign RightBrace t.kind ≡ true → divide_on (InBody w x 0 last) (t ∷ ts) ≡ divide_on (AtDot w x) ts
 unfolding divide_on
 body_closes w x last t ts h k =
     let e = left_brace_is t.kind ∙ h in
@@ -159,6 +148,13 @@ any_last w x n last other t ts = refl
 pub any_last_before : (w : Span) (x : Written) (last other : ℕ) (t : Token) (ts : List Token) → divide_on (BeforeBody w x last) (t ∷ ts) ≡ divide_on (BeforeBody w x other) (t ∷ ts)
 unfolding divide_on
 any_last_before w x last other t ts = refl
+
+-- a brace that closes, with so many further ones open
+pub inside_closes : (w : Span) (x : Written) (n last : ℕ) (r : Option ℕ) (t u : Token) (ts : List Token) → SomeIff r (1 ≤ n) (n - 1) → is_sign LeftBrace t.kind ≡ false → is_sign RightBrace t.kind ≡ true → divide_on (InBody w x n last) (t ∷ u ∷ ts) ≡ divide_on (in_body w x r) (u ∷ ts)
+inside_closes w x n last None t u ts e h k = let none : n ≡ 0 = omega arith in ap (λ i. divide_on (InBody w x i last) (t ∷ u ∷ ts)) none ∙ body_closes w x last t (u ∷ ts) h k
+inside_closes w x n last (Some m) t u ts e h k =
+    let one : n ≡ suc m = omega (arith, e.0, e.1) in
+    ap (λ i. divide_on (InBody w x i last) (t ∷ u ∷ ts)) one ∙ one_closes w x m last t (u ∷ ts) h k ∙ any_last w x m t.span.from 0 u ts
 
 -- ---- dots
 

@@ -12,7 +12,7 @@ ghost use Rattle.twelf_reader.specs.Items.{next_assign};
 use crate::words::morph;
 use mmt_syntax::{Assign, Assigns};
 use twelf_expressions::{ReadFault, Reader, Spot};
-use twelf_lexer::Sign;
+use twelf_lexer::{PercentWord, Sign};
 
 /// Assignments, and the brace that ends them.
 pub(crate) fn assigns(reader: &mut Reader) -> Result<Assigns, ReadFault>
@@ -31,25 +31,27 @@ fn assign(reader: &mut Reader) -> Result<Option<Assign>, ReadFault>
     ensures goes { (o : Owner) (xs : List trees.Assign) → Goes (answer_on (AtAssign o xs) (left reader.old)) result (λ x. answer_on (next_assign o xs x) (left reader.new)) }
     ensures less { OnOk result (length (left reader.new) < length (left reader.old)) }
 {
-    if reader.sees(Sign::IncludeWord) {
-        reader.take(Sign::IncludeWord);
-        let morph = morph(reader)?;
-        return Ok(Some(Assign::Include(morph)));
+    match reader.ahead() {
+        Sign::Percent(PercentWord::Include) => {
+            reader.take(Sign::Percent(PercentWord::Include));
+            let morph = morph(reader)?;
+            Ok(Some(Assign::Include(morph)))
+        }
+        Sign::Percent(PercentWord::Struct) => {
+            reader.take(Sign::Percent(PercentWord::Struct));
+            let assign = struct_assign(reader)?;
+            Ok(Some(assign))
+        }
+        Sign::RBrace => {
+            reader.take(Sign::RBrace);
+            Ok(None)
+        }
+        Sign::Name | Sign::Path => {
+            let assign = const_assign(reader)?;
+            Ok(Some(assign))
+        }
+        _ => Err(reader.refuse(Spot::Item)),
     }
-    if reader.sees(Sign::StructWord) {
-        reader.take(Sign::StructWord);
-        let assign = struct_assign(reader)?;
-        return Ok(Some(assign));
-    }
-    if reader.sees(Sign::RBrace) {
-        reader.take(Sign::RBrace);
-        return Ok(None);
-    }
-    if !reader.sees_path() {
-        return Err(reader.refuse(Spot::Item));
-    }
-    let assign = const_assign(reader)?;
-    Ok(Some(assign))
 }
 
 /// Behind `%struct`.

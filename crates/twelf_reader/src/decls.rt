@@ -13,7 +13,7 @@ use crate::assigns::assigns;
 use crate::heads::name_behind;
 use mmt_syntax::{Assigns, Decl, Decls, Expr, StructDecl};
 use twelf_expressions::{ReadFault, Reader, Spot};
-use twelf_lexer::Sign;
+use twelf_lexer::{PercentWord, Sign};
 
 /// Declarations, and the brace that ends them.
 pub(crate) fn decls(reader: &mut Reader) -> Result<Decls, ReadFault>
@@ -32,26 +32,28 @@ fn decl(reader: &mut Reader) -> Result<Option<Decl>, ReadFault>
     ensures goes { (sig : Simple) (ds : List trees.Decl) → Goes (answer_on (AtDecl sig ds) (left reader.old)) result (λ d. answer_on (next_decl sig ds d) (left reader.new)) }
     ensures less { OnOk result (length (left reader.new) < length (left reader.old)) }
 {
-    if reader.sees(Sign::IncludeWord) {
-        reader.take(Sign::IncludeWord);
-        let theory = reader.name()?;
-        reader.expect(Sign::Dot)?;
-        return Ok(Some(Decl::Include(theory)));
+    match reader.ahead() {
+        Sign::Percent(PercentWord::Include) => {
+            reader.take(Sign::Percent(PercentWord::Include));
+            let theory = reader.name()?;
+            reader.expect(Sign::Dot)?;
+            Ok(Some(Decl::Include(theory)))
+        }
+        Sign::Percent(PercentWord::Struct) => {
+            reader.take(Sign::Percent(PercentWord::Struct));
+            let decl = structure(reader)?;
+            Ok(Some(decl))
+        }
+        Sign::RBrace => {
+            reader.take(Sign::RBrace);
+            Ok(None)
+        }
+        Sign::Name => {
+            let decl = constant(reader)?;
+            Ok(Some(decl))
+        }
+        _ => Err(reader.refuse(Spot::Item)),
     }
-    if reader.sees(Sign::StructWord) {
-        reader.take(Sign::StructWord);
-        let decl = structure(reader)?;
-        return Ok(Some(decl));
-    }
-    if reader.sees(Sign::RBrace) {
-        reader.take(Sign::RBrace);
-        return Ok(None);
-    }
-    if !reader.sees_name() {
-        return Err(reader.refuse(Spot::Item));
-    }
-    let decl = constant(reader)?;
-    Ok(Some(decl))
 }
 
 /// Behind `%struct`.
@@ -77,18 +79,20 @@ fn struct_body(reader: &mut Reader) -> Result<Assigns, ReadFault>
         result (λ xs. answer_on (AtDecl sig (ds ++ trees.StructDecl (as_written y) (as_written z) (read_assigns xs) ∷ [])) (left reader.new)) }
     ensures less { OnOk result (length (left reader.new) ≤ length (left reader.old)) }
 {
-    if reader.sees(Sign::Dot) {
-        reader.take(Sign::Dot);
-        return Ok(Assigns::new(reader.alloc));
+    match reader.ahead() {
+        Sign::Dot => {
+            reader.take(Sign::Dot);
+            Ok(Assigns::new(reader.alloc))
+        }
+        Sign::Equal => {
+            reader.take(Sign::Equal);
+            reader.expect(Sign::LBrace)?;
+            let assigns = assigns(reader)?;
+            reader.expect(Sign::Dot)?;
+            Ok(assigns)
+        }
+        _ => Err(reader.refuse(Spot::Elsewhere)),
     }
-    if !reader.sees(Sign::Equal) {
-        return Err(reader.refuse(Spot::Elsewhere));
-    }
-    reader.take(Sign::Equal);
-    reader.expect(Sign::LBrace)?;
-    let assigns = assigns(reader)?;
-    reader.expect(Sign::Dot)?;
-    Ok(assigns)
 }
 
 /// At the name of a constant.
@@ -110,15 +114,17 @@ fn value(reader: &mut Reader) -> Result<Option<Expr>, ReadFault>
         result (λ v. answer_on (AtDecl sig (ds ++ trees.ConstDecl (as_written c) e (option_map read_expr v) ∷ [])) (left reader.new)) }
     ensures less { OnOk result (length (left reader.new) ≤ length (left reader.old)) }
 {
-    if reader.sees(Sign::Dot) {
-        reader.take(Sign::Dot);
-        return Ok(None);
+    match reader.ahead() {
+        Sign::Dot => {
+            reader.take(Sign::Dot);
+            Ok(None)
+        }
+        Sign::Equal => {
+            reader.take(Sign::Equal);
+            let value = reader.expr()?;
+            reader.expect(Sign::Dot)?;
+            Ok(Some(value))
+        }
+        _ => Err(reader.refuse_behind()),
     }
-    if !reader.sees(Sign::Equal) {
-        return Err(reader.refuse_behind());
-    }
-    reader.take(Sign::Equal);
-    let value = reader.expr()?;
-    reader.expect(Sign::Dot)?;
-    Ok(Some(value))
 }

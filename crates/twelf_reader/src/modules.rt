@@ -11,21 +11,23 @@ use crate::decls::decls;
 use crate::heads::{end_text, name_behind, open_body};
 use mmt_syntax::{Judgement, Module, ViewDecl};
 use twelf_expressions::{ReadFault, Reader, Spot};
-use twelf_lexer::Sign;
+use twelf_lexer::{PercentWord, Sign};
 
 /// A module and nothing else.
 pub(crate) fn whole_module(reader: &mut Reader) -> Result<Module, ReadFault>
     ensures { Goes (answer_on AtModule (left reader.old)) result (λ m. Read (ModuleTree (read_module m))) }
 {
-    if reader.sees(Sign::SigWord) {
-        reader.take(Sign::SigWord);
-        return theory(reader);
+    match reader.ahead() {
+        Sign::Percent(PercentWord::Sig) => {
+            reader.take(Sign::Percent(PercentWord::Sig));
+            theory(reader)
+        }
+        Sign::Percent(PercentWord::View) => {
+            reader.take(Sign::Percent(PercentWord::View));
+            view(reader)
+        }
+        _ => Err(reader.refuse(Spot::Elsewhere)),
     }
-    if reader.sees(Sign::ViewWord) {
-        reader.take(Sign::ViewWord);
-        return view(reader);
-    }
-    Err(reader.refuse(Spot::Elsewhere))
 }
 
 /// Behind `%sig`.

@@ -1,20 +1,20 @@
 //! The modules of a file, one after the other.
 ghost use Rattle.std.specs.Prelude.{◌≡◌, ◌<◌, ◌≤◌, ◌^◌, ℕ, None, Some, false, length, IfOk, OnOk};
 ghost use Rattle.text_meaning.specs.Tokens as tokens;
-ghost use Rattle.text_meaning.specs.Tokens.{EndSign, SigWord, ViewWord};
+ghost use Rattle.text_meaning.specs.Tokens.{EndSign};
 ghost use Rattle.text_meaning.specs.Trees as trees;
 ghost use Rattle.text_meaning.specs.Dividing.{AtDot, AtName, AtTop, BeforeBody, InBody, divide_on};
 ghost use Rattle.text_meaning.specs.Splitting.{Pieces as Modules};
 ghost use Rattle.mmt_syntax.specs.Readings.{read_span, read_written};
 ghost use Rattle.twelf_expressions.specs.Signs.{is_sign};
 ghost use Rattle.twelf_expressions.specs.Left.{left, next_kind, next_token};
-ghost use Rattle.twelf_reader.specs.Division.{DividesSo, FailsSo, behind_dot, in_body, next_piece, read_pieces};
+ghost use Rattle.twelf_reader.specs.Division.{DividesSo, behind_dot, in_body, next_piece, read_pieces};
 
 use crate::file::{Piece, Pieces};
 use lf_terms::Span;
 use mmt_syntax::Written;
 use twelf_expressions::{ReadFault, Reader};
-use twelf_lexer::Sign;
+use twelf_lexer::{PercentWord, Sign};
 
 /// The modules that are left, up to the end of the input.
 pub(crate) fn pieces(reader: &mut Reader) -> Result<Pieces, ReadFault>
@@ -53,33 +53,12 @@ fn module_word(reader: &mut Reader) -> Result<Span, ReadFault>
     ensures goes { DividesSo (divide_on AtTop (left reader.old)) result (λ word. divide_on (AtName (read_span word)) (left reader.new)) }
     ensures less { OnOk result (length (left reader.new) < length (left reader.old)) }
 {
-    if reader.sees(Sign::SigWord) {
-        return Ok(reader.take(Sign::SigWord));
+    match reader.ahead() {
+        Sign::Percent(PercentWord::Sig) => Ok(reader.take(Sign::Percent(PercentWord::Sig))),
+        Sign::Percent(PercentWord::View) => Ok(reader.take(Sign::Percent(PercentWord::View))),
+        Sign::Percent(_) => Err(ReadFault::Unsupported { at: reader.place() }),
+        _ => Err(ReadFault::Syntax { at: reader.place() }),
     }
-    if reader.sees(Sign::ViewWord) {
-        return Ok(reader.take(Sign::ViewWord));
-    }
-    Err(between_modules(reader))
-}
-
-/// The fault of the next token, which begins no module.
-fn between_modules(reader: &Reader) -> ReadFault
-    requires more { is_sign EndSign (next_kind (left reader.now)) ≡ false }
-    requires no_theory { is_sign SigWord (next_kind (left reader.now)) ≡ false }
-    requires no_view { is_sign ViewWord (next_kind (left reader.now)) ≡ false }
-    ensures { FailsSo result (divide_on AtTop (left reader.now)) }
-{
-    let at = reader.place();
-    if reader.sees(Sign::IncludeWord) {
-        return ReadFault::Unsupported { at };
-    }
-    if reader.sees(Sign::StructWord) {
-        return ReadFault::Unsupported { at };
-    }
-    if reader.sees(Sign::OtherWord) {
-        return ReadFault::Unsupported { at };
-    }
-    ReadFault::Syntax { at }
 }
 
 /// Takes the name of a module, which must come.
@@ -134,21 +113,15 @@ fn brace(reader: &mut Reader, inner: u32) -> Result<Option<u32>, ReadFault>
     ensures less { OnOk result (length (left reader.new) < length (left reader.old)) }
 {
     let at = reader.place();
-    let opens = reader.sees(Sign::LBrace);
-    let closes = reader.sees(Sign::RBrace);
+    let sign = reader.ahead();
     if !reader.pass() {
         return Err(ReadFault::Syntax { at });
     }
-    if opens {
-        return Ok(Some(inner + 1));
+    match sign {
+        Sign::LBrace => Ok(Some(inner + 1)),
+        Sign::RBrace => Ok(inner.checked_sub(1)),
+        _ => Ok(Some(inner)),
     }
-    if !closes {
-        return Ok(Some(inner));
-    }
-    if inner == 0 {
-        return Ok(None);
-    }
-    Ok(Some(inner - 1))
 }
 
 /// Takes the dot behind a module, which must come.

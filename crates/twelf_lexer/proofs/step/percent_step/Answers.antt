@@ -1,5 +1,4 @@
 use Rattle.std.proofs.Common.{◌+◌, refl, sym, ◌∙◌, subst}
-use Rattle.std.specs.List.{slice_range}
 use Rattle.text_meaning.specs.Tokens.{Stray}
 use Rattle.twelf_lexer.specs.declared.sign.Sign.TheVariants as signs
 use Rattle.twelf_lexer.specs.Pieces.{IsStep}
@@ -20,7 +19,7 @@ returns-then-starts_run c =
     let at = c.args.at in
     let to = c.run_end-to.result in
     subst (IsStep text at) (sym c.token.ensures)
-    (is_word text at to c.percent_word.result (slice_range text (at + 1) to) refl c.percent_word.ensures
+    (is_word text at to c.percent_word.result c.percent_word.ensures
     (steps.word_step text at to c.requires.at c.requires.percent (sym c.starts_run.ensures ∙ c.if-starts_run.true) c.run_end-to.ensures))
 
 pub returns : goal.returns

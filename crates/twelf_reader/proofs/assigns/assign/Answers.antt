@@ -9,28 +9,28 @@ owner_goes : (o : Owner) (xs : List Assign) → is_refused (close_owner o xs) �
 owner_goes (InStruct x ds y z) xs = refl
 owner_goes (InView x y z) xs = refl
 
-pub returns-in_err-morph-clause-goes : goal.returns-in_err-morph-clause-goes
-returns-in_err-morph-clause-goes c = λ o xs.
+pub returns-in_err-morph-in-Percent-Include-clause-goes : goal.returns-in_err-morph-in-Percent-Include-clause-goes
+returns-in_err-morph-in-Percent-Include-clause-goes c = λ o xs.
     let done = λ (ws : List Written). AtAssign o (xs ++ (IncludeAssign ws ∷ [])) in
     let taken = took (AtAssign o xs) (at_morph done) c.take.ensures.takes refl refl refl in
-    stopped c.from_residual.result _ _ c.from_residual.ensures.1 taken (c.in_err-morph.ensures.goes done (λ ws. refl))
+    stopped c.from_residual.result _ _ c.from_residual.ensures.1 taken (c.in_err-morph-in-Percent-Include.ensures.goes done (λ ws. refl))
 
-pub returns-then-sees-clause-goes : goal.returns-then-sees-clause-goes
-returns-then-sees-clause-goes c = λ o xs.
+pub returns-in_ok-morph-in-Percent-Include-clause-goes : goal.returns-in_ok-morph-in-Percent-Include-clause-goes
+returns-in_ok-morph-in-Percent-Include-clause-goes c = λ o xs.
     let done = λ (ws : List Written). AtAssign o (xs ++ (IncludeAssign ws ∷ [])) in
-    took (AtAssign o xs) (at_morph done) c.take.ensures.takes refl refl refl ∙ c.in_ok-morph.ensures.goes done (λ ws. refl)
+    took (AtAssign o xs) (at_morph done) c.take.ensures.takes refl refl refl ∙ c.in_ok-morph-in-Percent-Include.ensures.goes done (λ ws. refl)
 
-pub returns-in_err-assign-clause-goes : goal.returns-in_err-assign-clause-goes
-returns-in_err-assign-clause-goes c = λ o xs.
+pub returns-in_err-assign-in-Percent-Struct-clause-goes : goal.returns-in_err-assign-in-Percent-Struct-clause-goes
+returns-in_err-assign-in-Percent-Struct-clause-goes c = λ o xs.
     let u = ExpectPath (λ t. Expect AssignSign (at_morph (λ ws. AtAssign o (xs ++ (StructAssign t ws ∷ []))))) in
-    let taken = took (AtAssign o xs) u c.take-then-sees-2.ensures.takes refl refl refl in
-    stopped c.from_residual-in_err-assign.result _ _ c.from_residual-in_err-assign.ensures.1 taken (c.in_err-assign.ensures.goes o xs)
+    let taken = took (AtAssign o xs) u c.take-in-Percent-Struct.ensures.takes refl refl refl in
+    stopped c.from_residual-in_err-assign-in-Percent-Struct.result _ _ c.from_residual-in_err-assign-in-Percent-Struct.ensures.1 taken (c.in_err-assign-in-Percent-Struct.ensures.goes o xs)
 
-pub returns-then-sees-2-clause-goes : goal.returns-then-sees-2-clause-goes
-returns-then-sees-2-clause-goes c = λ o xs.
+pub returns-in_ok-assign-in-Percent-Struct-clause-goes : goal.returns-in_ok-assign-in-Percent-Struct-clause-goes
+returns-in_ok-assign-in-Percent-Struct-clause-goes c = λ o xs.
     let u = ExpectPath (λ t. Expect AssignSign (at_morph (λ ws. AtAssign o (xs ++ (StructAssign t ws ∷ []))))) in
-    took (AtAssign o xs) u c.take-then-sees-2.ensures.takes refl refl refl ∙ c.in_ok-assign.ensures.goes o xs
+    took (AtAssign o xs) u c.take-in-Percent-Struct.ensures.takes refl refl refl ∙ c.in_ok-assign-in-Percent-Struct.ensures.goes o xs
 
-pub returns-then-sees-3-clause-goes : goal.returns-then-sees-3-clause-goes
-returns-then-sees-3-clause-goes c = λ o xs.
-    took (AtAssign o xs) (close_owner o xs) c.take-then-sees-3.ensures.takes refl (owner_goes o xs) refl
+pub returns-in-RBrace-clause-goes : goal.returns-in-RBrace-clause-goes
+returns-in-RBrace-clause-goes c = λ o xs.
+    took (AtAssign o xs) (close_owner o xs) c.take-in-RBrace.ensures.takes refl (owner_goes o xs) refl

@@ -6,10 +6,10 @@ use Rattle.twelf_expressions.proofs.Moves.{goes_from, took}
 use Rattle.twelf_reader.specs.Items.{theory_named, view_named}
 use Rattle.twelf_reader.proofs.modules.whole_module.Goals as goal
 
-pub returns-then-sees : goal.returns-then-sees
-returns-then-sees c =
+pub returns-in-Percent-Sig : goal.returns-in-Percent-Sig
+returns-in-Percent-Sig c =
     goes_from c.theory.result _ _ (λ m. Read (ModuleTree (read_module m))) (took AtModule (ExpectName theory_named) c.take.ensures.takes refl refl refl) c.theory.ensures
 
-pub returns-then-sees-2 : goal.returns-then-sees-2
-returns-then-sees-2 c =
-    goes_from c.view.result _ _ (λ m. Read (ModuleTree (read_module m))) (took AtModule (ExpectName view_named) c.take-then-sees-2.ensures.takes refl refl refl) c.view.ensures
+pub returns-in-Percent-View : goal.returns-in-Percent-View
+returns-in-Percent-View c =
+    goes_from c.view.result _ _ (λ m. Read (ModuleTree (read_module m))) (took AtModule (ExpectName view_named) c.take-in-Percent-View.ensures.takes refl refl refl) c.view.ensures

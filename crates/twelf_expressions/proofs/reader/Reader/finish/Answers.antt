@@ -1,11 +1,9 @@
-use Rattle.std.proofs.Common.{◌≡◌, ℕ, true, List, [], ◌∷◌, refl, sym, ap, ◌∙◌, true≢false}
+use Rattle.std.proofs.Common.{◌≡◌, [], ◌∷◌, refl, ap, ◌∙◌, rules}
 use Rattle.text_meaning.specs.Tokens.{Span, sign, token, EndSign}
 use Rattle.text_meaning.specs.Reading.{Tree, Read}
 use Rattle.text_meaning.specs.Parsing.{Whole, Expect, answer_on}
 use Rattle.twelf_lexer.specs.Lexemes.{sign_kind}
-use Rattle.twelf_lexer.specs.declared.sign.Sign.{Sign}
-use Rattle.twelf_lexer.specs.declared.sign.Sign.TheVariants as signs
-use Rattle.twelf_expressions.specs.Signs.{is_sign}
+use Rattle.twelf_lexer.specs.declared.sign.Sign.TheVariants.{End}
 use Rattle.twelf_expressions.specs.Left.{behind}
 use Rattle.twelf_expressions.proofs.reader.Reader.finish.Goals as goal
 
@@ -13,13 +11,9 @@ ended : (z : Span) (tree : Tree) → answer_on (Expect EndSign (Whole tree)) (si
 unfolding answer_on
 ended z tree = refl
 
-at_end : (text : List ℕ) (from to : ℕ) (g : Sign) → is_sign EndSign (sign_kind text from to g) ≡ true → g ≡ signs.End
-at_end text from to signs.End h = refl
-at_end text from to _ h = absurd (true≢false (sym h))
-
 pub returns : goal.returns
 returns c = λ tree.
     let text = c.args.self.now.text.now in
     let l = c.args.self.now.next in
-    let end = at_end text l.span.from l.span.to l.sign (sym c.if-not-sees.ensures) in
+    let end : l.sign ≡ End = search rules in
     ap (λ g. answer_on (Expect EndSign (Whole tree)) (token l.span.from l.span.to (sign_kind text l.span.from l.span.to g) ∷ behind text l.span.to g)) end ∙ ended (record { from = l.span.from; to = l.span.to }) tree

@@ -1,15 +1,9 @@
-use Rattle.std.proofs.Common.{◌≡◌, false, refl, ap}
+use Rattle.std.proofs.Common.{refl, ap}
 use Rattle.text_meaning.specs.Cut.{Finished, Unclosed}
 use Rattle.twelf_lexer.specs.Lexemes.{is_last, lexeme_token}
-use Rattle.twelf_lexer.specs.declared.sign.Sign.{Sign}
-use Rattle.twelf_lexer.specs.declared.sign.Sign.TheVariants as signs
+use Rattle.twelf_lexer.proofs.Lexemes.{more_of}
 use Rattle.twelf_expressions.proofs.Lexemes.{end_alone, open_alone, takes_next}
 use Rattle.twelf_expressions.proofs.reader.Reader.pass.Goals as goal
-
-goes_on : (g : Sign) → ¬ (g ≡ signs.End) → ¬ (g ≡ signs.OpenComment) → is_last g ≡ false
-goes_on signs.End a b = absurd (a refl)
-goes_on signs.OpenComment a b = absurd (b refl)
-goes_on _ a b = refl
 
 pub returns-in-End-clause-last : goal.returns-in-End-clause-last
 returns-in-End-clause-last c = λ _.
@@ -25,4 +19,4 @@ pub returns-in_default-clause-passes : goal.returns-in_default-clause-passes
 returns-in_default-clause-passes c = λ _.
     let text = c.args.self.now.text.now in
     let l = c.args.self.now.next in
-    takes_next text l c.lexeme_at-self.result (lexeme_token text l) refl (goes_on l.sign c.in_default.not-End c.in_default.not-OpenComment) c.lexeme_at-self.ensures.stands c.lexeme_at-self.ensures.cut
+    takes_next text l c.lexeme_at-self.result (lexeme_token text l) refl (more_of l.sign c.in_default.not-End c.in_default.not-OpenComment) c.lexeme_at-self.ensures.stands c.lexeme_at-self.ensures.cut

@@ -1,9 +1,9 @@
-use Rattle.std.proofs.Common.{ap, arith, length}
+use Rattle.std.proofs.Common.{ap, arith, length, rules}
 use Rattle.text_meaning.specs.Tokens.{sign}
 use Rattle.mmt_syntax.specs.Readings.{read_span}
 use Rattle.twelf_lexer.specs.Lexemes.{mark_of, sign_kind}
 use Rattle.twelf_expressions.proofs.SignCases.{is_sign_is}
-use Rattle.twelf_expressions.proofs.Lexemes.{sign_goes_on, takes_next}
+use Rattle.twelf_expressions.proofs.Lexemes.{takes_next}
 use Rattle.twelf_expressions.proofs.reader.Reader.take.Goals as goal
 
 pub returns-clause-takes : goal.returns-clause-takes
@@ -13,7 +13,7 @@ returns-clause-takes c =
     let m = c.args.mark in
     let kind = is_sign_is (mark_of m) (sign_kind text l.span.from l.span.to l.sign) c.requires.sees in
     takes_next text l c.lexeme_at-self.result (sign (read_span l.span) (mark_of m)) (ap (λ k. record { span = read_span l.span; kind = k }) kind)
-    (sign_goes_on text l.span.from l.span.to m l.sign c.requires.plain c.requires.not_end c.requires.sees) c.lexeme_at-self.ensures.stands c.lexeme_at-self.ensures.cut
+    (search rules) c.lexeme_at-self.ensures.stands c.lexeme_at-self.ensures.cut
 
 pub returns-clause-less : goal.returns-clause-less
 returns-clause-less c = let e = ap length (returns-clause-takes c) in omega (arith, e)
