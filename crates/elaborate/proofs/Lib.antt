@@ -1,4 +1,5 @@
 pub mod TakenArguments
+pub mod ClosedTerms
 pub mod HeadsStand
 pub mod NamesStand
 pub mod ExpansionSteps

@@ -2,16 +2,20 @@
 ghost use Rattle.std.specs.Prelude.{◌≡◌, ℕ, IfOk};
 ghost use Rattle.std.specs.Option.{option_map};
 ghost use Rattle.lf_meaning.specs.Terms as terms;
+ghost use Rattle.lf_meaning.specs.Erasure as erasure;
+ghost use Rattle.lf_meaning.specs.Substitution.{substitute_family, substitute_kind};
 ghost use Rattle.translation_meaning.specs.Heads as meant;
 ghost use Rattle.translation_meaning.specs.Heads.{head_takes_all};
 ghost use Rattle.expansion_meaning.specs.NameHeads.{declared_head};
 ghost use Rattle.expansion_meaning.specs.Expansion.{domain_of};
 ghost use Rattle.expansion_meaning.specs.Expansion as expansion;
-ghost use Rattle.term_trees.specs.Readings.{read_arguments, read_declaration, read_family, read_object};
+ghost use Rattle.term_trees.specs.Readings.{read_arguments, read_declaration, read_family, read_kind, read_object};
 ghost use Rattle.mmt_syntax.specs.Readings.{read_span};
+ghost use Rattle.elaborate.specs.LentValues.{value_of};
 ghost use Rattle.elaborate.specs.HeadStates.{BodyAt, KindAt, Classifies, Stands};
 ghost use Rattle.elaborate.specs.Answers.{Expands};
 
+use crate::closed::{is_closed_family, is_closed_kind};
 use crate::fault::{ElabFault, broken};
 use crate::lent::Lent;
 use hereditary_subst::{subst_fam, subst_kind};
@@ -78,7 +82,7 @@ impl<'a> Classifier<'a> {
     }
 }
 
-/// The body of a Π with the argument in place of its variable.
+/// The body of a Π with the argument in place of its variable. A body without free variables is not copied.
 fn body_at<'a>(
     alloc: Global,
     family: Lent<'a, Fam>,
@@ -86,17 +90,40 @@ fn body_at<'a>(
 ) -> Result<Lent<'a, Fam>, Memory>
     ensures { IfOk result (λ after. BodyAt family.entry (read_object argument.now) after) }
 {
-    let body = match family.get() {
-        Fam::At { .. } => return Ok(family),
-        Fam::Pi(domain, body) => {
-            let simple = Box::new(alloc, erase(alloc, domain)?)?;
-            subst_fam(alloc, argument, &simple, 0, body)?
-        }
-    };
+    match family {
+        Lent::Borrowed(borrowed) => match borrowed {
+            Fam::Pi(_, body) if is_closed_family(body, 0) => Ok(Lent::Borrowed(body)),
+            Fam::Pi(domain, body) => substituted_body(alloc, domain, body, argument),
+            Fam::At { .. } => Ok(Lent::Borrowed(borrowed)),
+        },
+        Lent::Made(made) => match Box::into_inner(made) {
+            Fam::Pi(domain, body) => {
+                if is_closed_family(&body, 0) {
+                    Ok(Lent::Made(body))
+                } else {
+                    substituted_body(alloc, &domain, &body, argument)
+                }
+            }
+            Fam::At { head, spine } => Ok(Lent::Made(Box::new(alloc, Fam::At { head, spine })?)),
+        },
+    }
+}
+
+fn substituted_body<'a>(
+    alloc: Global,
+    domain: &Fam,
+    body: &Fam,
+    argument: &Obj,
+) -> Result<Lent<'a, Fam>, Memory>
+    ensures { IfOk result (λ after. read_family (value_of after) ≡ substitute_family (read_object argument.now) (erasure.erase (read_family domain.now)) 0 (read_family body.now)) }
+{
+    let simple = Box::new(alloc, erase(alloc, domain)?)?;
+    let body = subst_fam(alloc, argument, &simple, 0, body)?;
     Ok(Lent::Made(Box::new(alloc, body)?))
 }
 
-/// The kind behind the domain of a Π kind, with the argument in place of the variable.
+/// The kind behind the domain of a Π kind, with the argument in place of the variable. One without free variables is not
+/// copied.
 fn kind_at<'a>(
     alloc: Global,
     kind: Lent<'a, Kind>,
@@ -104,13 +131,35 @@ fn kind_at<'a>(
 ) -> Result<Lent<'a, Kind>, Memory>
     ensures { IfOk result (λ after. KindAt kind.entry (read_object argument.now) after) }
 {
-    let rest = match kind.get() {
-        Kind::Ty => return Ok(kind),
-        Kind::Pi(domain, rest) => {
-            let simple = Box::new(alloc, erase(alloc, domain)?)?;
-            subst_kind(alloc, argument, &simple, 0, rest)?
-        }
-    };
+    match kind {
+        Lent::Borrowed(borrowed) => match borrowed {
+            Kind::Pi(_, rest) if is_closed_kind(rest, 0) => Ok(Lent::Borrowed(rest)),
+            Kind::Pi(domain, rest) => substituted_rest(alloc, domain, rest, argument),
+            Kind::Ty => Ok(Lent::Borrowed(borrowed)),
+        },
+        Lent::Made(made) => match Box::into_inner(made) {
+            Kind::Pi(domain, rest) => {
+                if is_closed_kind(&rest, 0) {
+                    Ok(Lent::Made(rest))
+                } else {
+                    substituted_rest(alloc, &domain, &rest, argument)
+                }
+            }
+            Kind::Ty => Ok(Lent::Made(Box::new(alloc, Kind::Ty)?)),
+        },
+    }
+}
+
+fn substituted_rest<'a>(
+    alloc: Global,
+    domain: &Fam,
+    rest: &Kind,
+    argument: &Obj,
+) -> Result<Lent<'a, Kind>, Memory>
+    ensures { IfOk result (λ after. read_kind (value_of after) ≡ substitute_kind (read_object argument.now) (erasure.erase (read_family domain.now)) 0 (read_kind rest.now)) }
+{
+    let simple = Box::new(alloc, erase(alloc, domain)?)?;
+    let rest = subst_kind(alloc, argument, &simple, 0, rest)?;
     Ok(Lent::Made(Box::new(alloc, rest)?))
 }
 
