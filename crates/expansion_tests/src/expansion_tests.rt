@@ -1,48 +1,9 @@
 //! Expressions with the terms that they stand for, or the first rule that they break and where.
 
+use crate::answers::{breaks, has_class, has_value};
 use crate::theory::{Theory, class_of, value_of};
-use elaborate::ElabFault;
-use lf_terms::{Class, FlatDecl, Value, same_class, same_value};
 use mmt_interface::Rule;
-use std::alloc::Global;
 use std::test::Fail;
-use test_texts::{class, constant, value};
-
-fn is_class(found: &Result<Class, ElabFault>, wanted: &Class) -> bool {
-    match found {
-        Ok(class) => same_class(class, wanted),
-        Err(_) => false,
-    }
-}
-
-fn is_value(found: &Result<Value, ElabFault>, wanted: &Value) -> bool {
-    match found {
-        Ok(value) => same_value(value, wanted),
-        Err(_) => false,
-    }
-}
-
-/// The rule that is broken, with its place.
-fn breaks<T>(found: &Result<T, ElabFault>, rule: Rule, from: u32, to: u32) -> bool {
-    match found {
-        Err(ElabFault::Broken { span, rule: broken }) => {
-            *broken == rule && span.from == from && span.to == to
-        }
-        _ => false,
-    }
-}
-
-fn has_class(alloc: Global, theory: &Theory, text: &str, wanted: &str) -> Result<bool, Fail> {
-    let found = class_of(alloc, theory, text)?;
-    let wanted = class(alloc, wanted)?;
-    Ok(is_class(&found, &wanted))
-}
-
-fn has_value(alloc: Global, theory: &Theory, text: &str, wanted: &str) -> Result<bool, Fail> {
-    let found = value_of(alloc, theory, text)?;
-    let wanted = value(alloc, wanted)?;
-    Ok(is_value(&found, &wanted))
-}
 
 #[test]
 fn classes_stand_for_terms(rt: HostRuntime) -> Result<(), Fail> {
@@ -58,6 +19,10 @@ fn classes_stand_for_terms(rt: HostRuntime) -> Result<(), Fail> {
         ("z : v d", "r (f z) z"),
         ("z : w z -> type", "p z -> type"),
         ("z : (r z) z", "r z z"),
+        ("z : type <- p d <- b", "b -> p (f z) -> type"),
+        ("z : o z d", "r (f z) z"),
+        ("z : j d z", "r (f z) z"),
+        ("z : b -> L.b", "b -> L.b"),
     ] {
         assert!(rt; has_class(alloc, &theory, text, wanted)?, "{text}");
     }
@@ -88,6 +53,14 @@ fn values_stand_for_terms(rt: HostRuntime) -> Result<(), Fail> {
         ("[x] r x d : a -> type", "family x. r x (f z)"),
         ("[x:a] [y] r y x : a -> a -> type", "family x y. r y x"),
         ("v z : type", "family . r z z"),
+        ("a : type", "same a"),
+        ("[x] (o x) d : a -> type", "family x. r (f z) x"),
+        ("s z d : a", "g z (f z)"),
+        ("u z : a", "[y] g y z"),
+        ("f (u d) : a", "f ([y] g y (f z))"),
+        ("[x:v z] x : r z z -> r z z", "[x] x"),
+        ("L.d : L.b", "same L.i"),
+        ("[i] i : a -> a", "[x] x"),
     ] {
         assert!(rt; has_value(alloc, &theory, text, wanted)?, "{text}");
     }
@@ -111,6 +84,14 @@ fn the_first_rule_that_a_class_breaks(rt: HostRuntime) -> Result<(), Fail> {
         ("z : p z z", Rule::NotAFunction, 8, 9),
         ("z : p (r z z)", Rule::Level, 7, 8),
         ("z : ([x:a] a) z", Rule::NotCanonical, 5, 12),
+        ("z : {x:n} m", Rule::UnknownName, 7, 8),
+        ("z : n <- m <- l", Rule::UnknownName, 14, 15),
+        ("z : {x:a} n <- m x", Rule::UnknownName, 15, 16),
+        ("z : type -> type", Rule::Level, 4, 8),
+        ("z : {x:a} type -> type", Rule::Level, 10, 14),
+        ("z : o z", Rule::NotCanonical, 4, 7),
+        ("z : o z z z", Rule::NotAFunction, 10, 11),
+        ("z : v", Rule::NotCanonical, 4, 5),
     ] {
         let found = class_of(alloc, &theory, text)?;
         assert!(rt; breaks(&found, rule, from, to), "{text}");
@@ -144,57 +125,21 @@ fn the_first_rule_that_a_value_breaks(rt: HostRuntime) -> Result<(), Fail> {
         ("a -> a : type", Rule::FamilyNotAtomic, 0, 6),
         ("[x] a : type", Rule::Mismatch, 0, 5),
         ("type : type", Rule::Level, 0, 4),
+        ("type : a -> type", Rule::Level, 0, 4),
+        ("h z : a -> a", Rule::NotCanonical, 0, 3),
+        ("c (h z) : a", Rule::NotCanonical, 3, 6),
+        ("f (h z) : a", Rule::Mismatch, 3, 6),
+        ("h z z z : a", Rule::NotAFunction, 6, 7),
+        ("r : a -> type", Rule::Mismatch, 0, 1),
+        ("z : a -> type", Rule::Level, 0, 1),
+        ("[x] z : a -> type", Rule::Level, 4, 5),
+        ("[x] n : a -> a -> type", Rule::UnknownName, 4, 5),
+        ("[x] p : a -> a -> type", Rule::NotCanonical, 4, 5),
+        ("[x] o x : a -> a -> type", Rule::NotCanonical, 4, 7),
+        ("[x:type] n : a -> a", Rule::Level, 3, 7),
     ] {
         let found = value_of(alloc, &theory, text)?;
         assert!(rt; breaks(&found, rule, from, to), "{text}");
     }
-    Ok(())
-}
-
-/// Declares a constant `m` of the theory, of this class.
-fn declare(alloc: Global, theory: &mut Theory, written: &str) -> Result<(), Fail> {
-    let class = class(alloc, written)?;
-    let decl = FlatDecl {
-        name: constant(alloc, "m")?,
-        class: Box::into_inner(class),
-        value: None,
-    };
-    match theory.own.push(decl) {
-        Ok(()) => Ok(()),
-        Err(fault) => {
-            drop(fault);
-            Err("declared".into())
-        }
-    }
-}
-
-#[test]
-fn a_wide_and_a_deep_term(rt: HostRuntime) -> Result<(), Fail> {
-    let alloc = rt.alloc();
-    let mut theory = Theory::new(alloc)?;
-    let mut class = String::new(alloc);
-    let mut wide = String::new(alloc);
-    let mut wanted = String::new(alloc);
-    class.push_str("a")?;
-    wide.push_str("m")?;
-    wanted.push_str("m")?;
-    for _ in 0..1_000 {
-        class.push_str(" -> a")?;
-        wide.push_str(" d")?;
-        wanted.push_str(" (f z)")?;
-    }
-    wide.push_str(" : a")?;
-    declare(alloc, &mut theory, class.as_str())?;
-    assert!(rt; has_value(alloc, &theory, wide.as_str(), wanted.as_str())?);
-    let mut deep = String::new(alloc);
-    for _ in 0..499 {
-        deep.push_str("f (")?;
-    }
-    deep.push_str("f z")?;
-    for _ in 0..499 {
-        deep.push_str(")")?;
-    }
-    let written = format!(in alloc; "{deep} : a")?;
-    assert!(rt; has_value(alloc, &theory, written.as_str(), deep.as_str())?);
     Ok(())
 }

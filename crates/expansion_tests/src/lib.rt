@@ -2,6 +2,18 @@
 #![tactic(auto)]
 
 #[cfg(test)]
+mod answers;
+#[cfg(test)]
 mod expansion_tests;
 #[cfg(test)]
+mod given_tests;
+#[cfg(test)]
+mod included;
+#[cfg(test)]
+mod long_tests;
+#[cfg(test)]
+mod place_tests;
+#[cfg(test)]
 mod theory;
+#[cfg(test)]
+mod variables;

@@ -1,5 +1,6 @@
 //! A theory `t`, and judgements that are read and expanded in it.
 
+use crate::included::{faces, included};
 use elaborate::{ElabFault, elab_class, elab_value};
 use lf_terms::{Class, FlatSig, Names, Value};
 use mmt_interface::Faces;
@@ -10,7 +11,8 @@ use std::test::Fail;
 use test_texts::signature;
 use twelf_reader::read_judgement;
 
-/// Constants that are undefined, and some that have a value of each form.
+/// Constants that are undefined, and some that have a value of each form. The values of `s`, `u` and `j` have another
+/// number of binders than their classes have domains: what they come to with arguments is told all the same.
 const OWN: &str = "\
 a : type
 b : type
@@ -26,9 +28,13 @@ e : a -> a -> a = same g
 k : a -> a = [x] g x x
 h : a -> a -> a = [x] [y] g y x
 v : a -> type = family x. r x z
-w : a -> type = same p";
+w : a -> type = same p
+o : a -> a -> type = family x y. r y x
+s : a -> a -> a = [x] g x
+u : a -> a = [x] [y] g y x
+j : a -> a -> type = family x. r x";
 
-/// What is looked up: the theory's constants, with no inclusions.
+/// What is looked up: the theory's constants, and those of two theories that it includes.
 #[derive(Drop)]
 pub struct Theory {
     pub own: Box<FlatSig>,
@@ -39,12 +45,14 @@ pub struct Theory {
 impl Theory {
     pub fn new(alloc: Global) -> Result<Box<Theory>, Fail> {
         let own = signature(alloc, OWN)?;
+        let includes = included(alloc)?;
+        let faces = faces(alloc)?;
         Ok(Box::new(
             alloc,
             Theory {
                 own,
-                includes: Names::new(alloc),
-                faces: Faces::new(alloc),
+                includes,
+                faces,
             },
         )?)
     }
@@ -61,7 +69,7 @@ impl Theory {
 /// The longest text that is read.
 const LONGEST: usize = 67_108_864;
 
-fn judgement(alloc: Global, text: &str) -> Result<Box<Judgement>, Fail> {
+pub fn judgement(alloc: Global, text: &str) -> Result<Box<Judgement>, Fail> {
     let bytes = text.as_bytes();
     if bytes.len() > LONGEST {
         return Err("too long".into());

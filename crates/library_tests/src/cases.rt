@@ -47,6 +47,17 @@ pub fn accept(
     own: &str,
 ) -> Result<(), Fail> {
     let includes = closure(alloc, faces, inclusions)?;
+    accept_over(alloc, faces, name, includes, own)
+}
+
+/// Accepts a theory with this closure.
+fn accept_over(
+    alloc: Global,
+    faces: &mut Faces,
+    name: &str,
+    includes: Names,
+    own: &str,
+) -> Result<(), Fail> {
     let own = signature(alloc, own)?;
     let face_name = Name::new(alloc, name)?;
     let name = Name::new(alloc, name)?;
@@ -82,8 +93,63 @@ pub fn diamond(alloc: Global) -> Result<Faces, Fail> {
     let mut faces = Faces::new(alloc);
     accept(alloc, &mut faces, "A", "", "A.a : type")?;
     accept(alloc, &mut faces, "B", "A", "B.k : type\nB.b : type")?;
-    accept(alloc, &mut faces, "C", "A", "C.k : type\nC.A.a : type")?;
-    accept(alloc, &mut faces, "D", "B C", "D.d : type\nD.B.b : type")?;
+    accept(
+        alloc,
+        &mut faces,
+        "C",
+        "A",
+        "C.k : type\nC.A.a : type\nC.B.q : type",
+    )?;
+    let own = "D.d : type\nD.B.b : type\nD.A.z : type\nD.B.q : type";
+    accept(alloc, &mut faces, "D", "B C", own)?;
+    Ok(faces)
+}
+
+/// The diamond of the worked case: D is being built over B and C. In B and in C there is a constant `k` too, or none.
+pub fn worked_diamond(alloc: Global, second: bool) -> Result<Faces, Fail> {
+    let mut faces = Faces::new(alloc);
+    let (b, c, d) = if second {
+        (
+            "B.b : A.a\nB.k : type",
+            "C.c : A.a\nC.k : type",
+            "D.d : B.k",
+        )
+    } else {
+        ("B.b : A.a", "C.c : A.a", "D.d : A.a")
+    };
+    accept(alloc, &mut faces, "A", "", "A.a : type")?;
+    accept(alloc, &mut faces, "B", "A", b)?;
+    accept(alloc, &mut faces, "C", "A", c)?;
+    accept(alloc, &mut faces, "D", "B C", d)?;
+    Ok(faces)
+}
+
+/// A chain of 1,000 theories, each of which includes the last.
+pub fn long_chain(alloc: Global) -> Result<Faces, Fail> {
+    let mut faces = Faces::new(alloc);
+    accept(alloc, &mut faces, "T0", "", "")?;
+    for before in 0..999 {
+        let next = before + 1;
+        let name = format!(in alloc; "T{next}")?;
+        let included = format!(in alloc; "T{before}")?;
+        accept(alloc, &mut faces, name.as_str(), included.as_str(), "")?;
+    }
+    Ok(faces)
+}
+
+/// Theories from T0 on, as many as are wanted, with a constant `c` each, and one, U, that includes all of them.
+pub fn star(alloc: Global, count: usize) -> Result<Faces, Fail> {
+    let mut faces = Faces::new(alloc);
+    let mut all = String::new(alloc);
+    for i in 0..count {
+        let name = format!(in alloc; "T{i}")?;
+        let own = format!(in alloc; "T{i}.c : type")?;
+        accept(alloc, &mut faces, name.as_str(), "", own.as_str())?;
+        all.push_str(name.as_str())?;
+        all.push_str(" ")?;
+    }
+    let includes = names(alloc, all.as_str())?;
+    accept_over(alloc, &mut faces, "U", includes, "U.c : type")?;
     Ok(faces)
 }
 

@@ -1,11 +1,12 @@
 //! Inclusion closures and flat signatures.
 
-use crate::cases::{accept, are, closure, diamond};
+use crate::cases::{accept, are, closure, diamond, long_chain, star};
 use include_closure::{flat_of, sees};
-use lf_terms::{FlatSig, Name};
+use lf_terms::{FlatSig, Name, Value, same_value};
 use mmt_interface::Faces;
 use std::alloc::Global;
 use std::test::Fail;
+use test_texts::value;
 
 /// Inclusions of the diamond, with their closures.
 const CLOSURES: &str = "\
@@ -32,7 +33,7 @@ fn closures_of_the_diamond(rt: HostRuntime) -> Result<(), Fail> {
 }
 
 /// The names of a flat signature, with spaces between them.
-fn declared(alloc: Global, signature: &FlatSig) -> Result<String, Fail> {
+pub fn declared(alloc: Global, signature: &FlatSig) -> Result<String, Fail> {
     let mut text = String::new(alloc);
     for i in 0..signature.len() {
         if let Some(decl) = signature.at(i) {
@@ -51,7 +52,7 @@ fn declared(alloc: Global, signature: &FlatSig) -> Result<String, Fail> {
 const FLAT: &str = "\
 A = A.a 
 B = A.a B.k B.b 
-D = A.a B.k B.b C.k C.A.a D.d D.B.b ";
+D = A.a B.k B.b C.k C.A.a C.B.q D.d D.B.b D.A.z D.B.q ";
 
 #[test]
 fn flat_signatures_of_the_diamond(rt: HostRuntime) -> Result<(), Fail> {
@@ -67,7 +68,7 @@ fn flat_signatures_of_the_diamond(rt: HostRuntime) -> Result<(), Fail> {
 }
 
 /// The flat signature of a theory.
-fn flat(alloc: Global, faces: &Faces, name: &str) -> Result<FlatSig, Fail> {
+pub fn flat(alloc: Global, faces: &Faces, name: &str) -> Result<FlatSig, Fail> {
     let name = Name::new(alloc, name)?;
     Ok(flat_of(alloc, faces, &name)?)
 }
@@ -75,15 +76,66 @@ fn flat(alloc: Global, faces: &Faces, name: &str) -> Result<FlatSig, Fail> {
 #[test]
 fn closure_of_a_long_chain(rt: HostRuntime) -> Result<(), Fail> {
     let alloc = rt.alloc();
-    let mut faces = Faces::new(alloc);
-    accept(alloc, &mut faces, "T0", "", "")?;
-    for before in 0..999 {
-        let next = before + 1;
-        let name = format!(in alloc; "T{next}")?;
-        let included = format!(in alloc; "T{before}")?;
-        accept(alloc, &mut faces, name.as_str(), included.as_str(), "")?;
-    }
+    let faces = long_chain(alloc)?;
     let includes = closure(alloc, &faces, "T999 T500")?;
     assert!(rt; includes.len() == 1_000);
+    Ok(())
+}
+
+/// The theory of the declaration at an index.
+fn theory_at(signature: &FlatSig, index: usize) -> &str {
+    match signature.at(index) {
+        Some(decl) => decl.name.theory.as_str(),
+        None => "",
+    }
+}
+
+#[test]
+fn flat_signature_of_a_wide_theory(rt: HostRuntime) -> Result<(), Fail> {
+    let alloc = rt.alloc();
+    let faces = star(alloc, 1_000)?;
+    let includes = closure(alloc, &faces, "T500 U")?;
+    assert!(rt; includes.len() == 1_001);
+    let signature = flat(alloc, &faces, "U")?;
+    assert!(rt; signature.len() == 1_001);
+    assert!(rt; theory_at(&signature, 0) == "T0" && theory_at(&signature, 500) == "T500");
+    assert!(rt; theory_at(&signature, 1_000) == "U");
+    Ok(())
+}
+
+/// Whether the declaration at an index has this value.
+fn has_value(signature: &FlatSig, index: usize, wanted: &Value) -> bool {
+    match signature.at(index) {
+        Some(decl) => decl
+            .value
+            .as_ref()
+            .is_some_and(|value| same_value(value, wanted)),
+        None => false,
+    }
+}
+
+/// A theory with a term of this depth, and the term.
+fn deep_theory(alloc: Global, faces: &mut Faces, depth: usize) -> Result<String, Fail> {
+    let mut term = String::new(alloc);
+    for _ in 0..depth {
+        term.push_str("A.f (")?;
+    }
+    term.push_str("A.z")?;
+    for _ in 0..depth {
+        term.push_str(")")?;
+    }
+    let own = format!(in alloc; "A.a : type\nA.z : A.a\nA.f : A.a -> A.a\nA.d : A.a = {term}")?;
+    accept(alloc, faces, "A", "", own.as_str())?;
+    Ok(term)
+}
+
+#[test]
+fn flat_signature_with_a_deep_term(rt: HostRuntime) -> Result<(), Fail> {
+    let alloc = rt.alloc();
+    let mut faces = Faces::new(alloc);
+    let term = deep_theory(alloc, &mut faces, 500)?;
+    let wanted = value(alloc, term.as_str())?;
+    let signature = flat(alloc, &faces, "A")?;
+    assert!(rt; signature.len() == 4 && has_value(&signature, 3, &wanted));
     Ok(())
 }

@@ -72,3 +72,23 @@ fn refusals_are_shared(rt: HostRuntime) -> Result<(), Fail> {
     }
     Ok(())
 }
+
+#[test]
+fn interfaces_are_shared(rt: HostRuntime) -> Result<(), Fail> {
+    let alloc = rt.alloc();
+    let verdict = viewed(alloc)?;
+    let shared = verdict.share()?;
+    assert!(rt; is_view_from(&verdict, "A") && is_view_from(&shared, "A"));
+    Ok(())
+}
+
+/// Whether the verdict accepts a view with this domain.
+fn is_view_from(verdict: &Verdict, domain: &str) -> bool {
+    match verdict {
+        Verdict::Accepted(interface) => match interface.get() {
+            Interface::View(view) => view.domain.as_str() == domain,
+            Interface::Theory { .. } => false,
+        },
+        Verdict::Refused(_) => false,
+    }
+}

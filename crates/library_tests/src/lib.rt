@@ -8,6 +8,8 @@ mod cases;
 #[cfg(test)]
 mod closure_tests;
 #[cfg(test)]
+mod diamond_tests;
+#[cfg(test)]
 mod face_tests;
 #[cfg(test)]
 mod name_tests;

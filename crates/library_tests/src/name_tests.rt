@@ -1,7 +1,7 @@
 //! Names in a scope.
 
 use crate::cases::{accept, closure, diamond, path};
-use lf_terms::{Fam, FlatDecl, Name};
+use lf_terms::{Fam, FlatDecl, Name, Names};
 use mmt_interface::Faces;
 use mmt_syntax::Binder;
 use names::{Found, ResolveFault, Scope, Vars, resolve};
@@ -33,7 +33,7 @@ fn type_of(alloc: Global) -> Result<Fam, Fail> {
 }
 
 /// What is found, as a text.
-fn told(alloc: Global, found: Result<Found<'_>, ResolveFault>) -> Result<String, Fail> {
+pub fn told(alloc: Global, found: Result<Found<'_>, ResolveFault>) -> Result<String, Fail> {
     match found {
         Ok(Found::Var(index)) => Ok(format!(in alloc; "#{index}")?),
         Ok(Found::Decl(decl)) => constant_name(alloc, decl),
@@ -64,6 +64,9 @@ x y x : x = #0
  : A.a = E.A.a
  : B.b = B.b
  : C.A = unknown
+ : A.z = D.A.z
+ : B.q = ambiguous
+ : B.z = unknown
 x y x : y = #1
 a : a = #0
 _ : a = A.a
@@ -89,6 +92,45 @@ fn paths_in_the_diamond(rt: HostRuntime) -> Result<(), Fail> {
         assert!(rt; vars.len() < 100);
         let text = told(alloc, resolve(&scope, &vars, &path(alloc, written)?))?;
         assert!(rt; text.as_str() == wanted, "{line}");
+    }
+    Ok(())
+}
+
+/// Where there are so many variables `x` with a number behind it, and as many own constants `c`, what a path stands for.
+fn among_many(alloc: Global, count: usize, written: &str) -> Result<String, Fail> {
+    let mut around = String::new(alloc);
+    let mut constants = String::new(alloc);
+    for i in 0..count {
+        around.push_str(format!(in alloc; "x{i} ")?.as_str())?;
+        constants.push_str(format!(in alloc; "E.c{i} : type\n")?.as_str())?;
+    }
+    let own = signature(alloc, constants.as_str())?;
+    let vars = variables(alloc, around.as_str())?;
+    let includes = Names::new(alloc);
+    let faces = Faces::new(alloc);
+    let scope = Scope {
+        own: &own,
+        includes: &includes,
+        faces: &faces,
+    };
+    if vars.len() > 10_000 {
+        return Err("too many".into());
+    }
+    told(alloc, resolve(&scope, &vars, &path(alloc, written)?))
+}
+
+#[test]
+fn paths_among_many(rt: HostRuntime) -> Result<(), Fail> {
+    let alloc = rt.alloc();
+    for (written, wanted) in [
+        ("x0", "#999"),
+        ("x999", "#0"),
+        ("c0", "E.c0"),
+        ("c999", "E.c999"),
+        ("c1000", "unknown"),
+    ] {
+        let text = among_many(alloc, 1_000, written)?;
+        assert!(rt; text.as_str() == wanted, "{written}");
     }
     Ok(())
 }
