@@ -93,6 +93,19 @@ fn cycles_and_absent_names(rt: HostRuntime) -> Result<(), Fail> {
     Ok(())
 }
 
+/// A copy has the rows of the graph, and stays as it is where the graph changes.
+#[test]
+fn copied(rt: HostRuntime) -> Result<(), Fail> {
+    let alloc = rt.alloc();
+    let mut graph = rings(alloc)?;
+    let copy = graph.copy(alloc)?;
+    set(alloc, &mut graph, "Own", "Leaf")?;
+    assert!(rt; copy.len() == 8 && grounds(alloc, &copy, "Leaf Next Top")?);
+    assert!(rt; reaches(alloc, &copy, "Top", "Absent Gone Leaf Next Top")?);
+    assert!(rt; reaches(alloc, &copy, "Own", "Own")? && reaches(alloc, &graph, "Own", "Leaf Own")?);
+    Ok(())
+}
+
 /// How many names are grounded, and how many this one reaches.
 fn counts(alloc: Global, graph: &Graph, name: &str) -> Result<(usize, usize), Fail> {
     let name = Name::new(alloc, name)?;

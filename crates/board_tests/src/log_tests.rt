@@ -131,6 +131,46 @@ fn looked_up(rt: HostRuntime) -> Result<(), Fail> {
     Ok(())
 }
 
+/// Whether a copy of an edit is equal to it: a put of this text, or a drop where none is given.
+fn is_copied(alloc: Global, name: &str, text: Option<&[u8]>) -> Result<bool, Fail> {
+    let named = Name::new(alloc, name)?;
+    let edit = match text {
+        Some(text) => Edit::Put {
+            name: named,
+            text: Arc::new(alloc, Bytes::from_vec(Vec::from_slice(alloc, text)?))?,
+        },
+        None => Edit::Drop { name: named },
+    };
+    let copy = edit.copy(alloc)?;
+    let put = match &copy {
+        Edit::Put { text, .. } => Some(text.get().as_slice()),
+        Edit::Drop { .. } => None,
+    };
+    Ok(copy.name().as_str() == name && put == text)
+}
+
+/// Copies of a put, of a put of an empty text, and of a drop; and a text that is shared with the log.
+#[test]
+fn copied_and_shared(rt: HostRuntime) -> Result<(), Fail> {
+    let alloc = rt.alloc();
+    assert!(rt; is_copied(alloc, "Nat", Some(b"ab".as_slice()))?);
+    assert!(rt; is_copied(alloc, "Nat", Some(b"".as_slice()))? && is_copied(alloc, "Nat", None)?);
+    let mut log = Log::new(alloc);
+    let _ = put(alloc, &mut log, "Nat", b'a', 2)?;
+    assert!(rt; is_shared(alloc, &log, "Nat", Some(b"aa".as_slice()))?);
+    assert!(rt; is_shared(alloc, &log, "Zero", None)?);
+    Ok(())
+}
+
+/// Whether the text that the log shares for a name is this one.
+fn is_shared(alloc: Global, log: &Log, name: &str, wanted: Option<&[u8]>) -> Result<bool, Fail> {
+    let name = Name::new(alloc, name)?;
+    match log.share_text(&name)? {
+        Some(text) => Ok(wanted == Some(text.get().as_slice())),
+        None => Ok(wanted.is_none()),
+    }
+}
+
 /// A text of 2^20 + 1 bytes is refused, and one of 2^20 bytes is not.
 #[test]
 fn long_texts_are_refused(rt: HostRuntime) -> Result<(), Fail> {
