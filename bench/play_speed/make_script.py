@@ -8,7 +8,10 @@ copies   a theory with NUMBER structures of a small algebra
 many     a theory of NUMBER declarations with a value of eleven nodes
 late     the same behind as many further constants
 even     a declaration with a value of NUMBER nodes whose halves are even
+heavy    NUMBER theories of 1,000 declarations with a value of eleven nodes, which need nothing of each other, and a check
+edited   NUMBER theories, each of which includes one of those before it, and as many edits, each with a report of a theory behind it
 """
+import random
 import sys
 
 ALGEBRA = "a : type. op : a -> a -> a. e : a. i : a -> a. d : a = op e (i e)."
@@ -66,13 +69,52 @@ def modules(shape, count):
             yield theory("M", HEAD + f"d : a = {even(count)}.")
 
 
+def heavy(count):
+    for i in range(count):
+        yield put(*theory(f"T{i}", HEAD + values(1000)))
+    yield "check\n"
+
+
+def edited(count):
+    draw = random.Random(1)
+    last = [0] + [draw.randrange(i) for i in range(1, count)]
+
+    def at(i, revision):
+        if i == 0:
+            return theory("T0", f"a : type. c{revision} : a.")
+        return theory(f"T{i}", f"%include T{last[i]}. %struct s : T0. c{revision} : type.")
+
+    for i in range(count):
+        yield put(*at(i, 0))
+    for revision in range(1, count + 1):
+        i = draw.randrange(count)
+        told = draw.randrange(count)
+        yield f"drop T{i}\n" if draw.randrange(10) == 0 else put(*at(i, revision))
+        yield f"report T{told}\n"
+    yield "check\nlog\n"
+
+
+def put(name, text):
+    return f"put {name}\n{text}\n%%end\n"
+
+
+def pieces(shape, count):
+    match shape:
+        case "heavy":
+            yield from heavy(count)
+        case "edited":
+            yield from edited(count)
+        case _:
+            name = ""
+            for name, text in modules(shape, count):
+                yield put(name, text)
+            yield f"report {name}\n"
+
+
 def main():
     shape, count, file = sys.argv[1], int(sys.argv[2]), sys.argv[3]
-    name = ""
     with open(file, "w") as script:
-        for name, text in modules(shape, count):
-            script.write(f"put {name}\n{text}\n%%end\n")
-        script.write(f"report {name}\n")
+        script.writelines(pieces(shape, count))
 
 
 main()
