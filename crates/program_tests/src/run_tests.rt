@@ -1,81 +1,25 @@
 //! Whole runs over objects in memory.
 
 use crate::cases::{FAULTY, LINKS, THEORIES, UNREAD};
-use lf_terms::Bytes;
-use mmt_outside::{Inputs64, MemSink, MemSource, NoFolder, OpenGate};
-use mmt_top::{Status, run};
+use mmt_top::Status;
+use program_runs::{play, run_on};
 use std::alloc::{AllocError, Global};
 use std::sync::Wait;
 use std::test::Fail;
 use std::thread::Threads;
 
-/// How a run ended, and what it wrote.
-#[derive(Drop)]
-struct Ended {
-    status: Status,
-    output: Vec<u8>,
-}
-
-fn words_of(alloc: Global, words: &[&str]) -> Result<Vec<String>, AllocError> {
-    let mut all = Vec::new(alloc);
-    for word in words {
-        all.push(String::from_str(alloc, word)?)?;
-    }
-    Ok(all)
-}
-
-fn failing(alloc: Global, call: u64) -> Result<Inputs64, u64> {
-    let mut fails = Inputs64::new(alloc);
-    if call > 0 {
-        fails.push(call)?;
-    }
-    Ok(fails)
-}
-
-/// Runs the program on an input. The read and the call of the sink with these numbers fail; 0 is none.
-fn run_on<R: Threads + Wait + Sync>(
-    rt: &R,
-    alloc: Global,
-    words: &[&str],
-    input: &[u8],
-    failing_read: u64,
-    failing_write: u64,
-) -> Result<Ended, Fail> {
-    let words = words_of(alloc, words)?;
-    let input = Bytes::from_vec(input.to_vec(alloc)?);
-    let mut source = MemSource::new(input, failing(alloc, failing_read)?);
-    let mut sink = MemSink::new(alloc, 65536, failing(alloc, failing_write)?)?;
-    let mut folder = NoFolder::new();
-    let status = run(
-        rt,
-        alloc,
-        &words,
-        &mut source,
-        &mut sink,
-        &mut folder,
-        &OpenGate,
-    );
-    Ok(Ended {
-        status,
-        output: sink.bytes().to_vec(alloc)?,
-    })
-}
-
-fn play<R: Threads + Wait + Sync>(rt: &R, alloc: Global, input: &[u8]) -> Result<Ended, Fail> {
-    run_on(rt, alloc, &["play", "--workers", "0"], input, 0, 0)
-}
-
-/// Each script of a table, which gives the output behind it and this status.
+/// Whether each script of a table gives the output behind it and this status.
 fn all_print<R: Threads + Wait + Sync>(
     rt: &R,
     alloc: Global,
+    workers: &str,
     table: &str,
     status: Status,
 ) -> Result<bool, Fail> {
     for case in table.split("@@@\n") {
         let (script, output) = case.split_once("~~~\n").ok_or("no output")?;
-        let ended = play(rt, alloc, script.as_bytes())?;
-        if ended.status != status || ended.output.as_slice() != output.as_bytes() {
+        let ended = play(rt, alloc, workers, script.as_bytes())?;
+        if !ended.is(status, output.as_bytes()) {
             return Ok(false);
         }
     }
@@ -84,10 +28,12 @@ fn all_print<R: Threads + Wait + Sync>(
 
 #[test]
 fn worked_cases(rt: HostRuntime) -> Result<(), Fail> {
-    assert!(rt; all_print(&rt, rt.alloc(), THEORIES, Status::Done)?);
-    assert!(rt; all_print(&rt, rt.alloc(), LINKS, Status::Done)?);
-    assert!(rt; all_print(&rt, rt.alloc(), UNREAD, Status::Done)?);
-    assert!(rt; all_print(&rt, rt.alloc(), FAULTY, Status::ScriptFault)?);
+    for workers in ["0", "1", "4", "16"] {
+        assert!(rt; all_print(&rt, rt.alloc(), workers, THEORIES, Status::Done)?);
+        assert!(rt; all_print(&rt, rt.alloc(), workers, LINKS, Status::Done)?);
+        assert!(rt; all_print(&rt, rt.alloc(), workers, UNREAD, Status::Done)?);
+        assert!(rt; all_print(&rt, rt.alloc(), workers, FAULTY, Status::ScriptFault)?);
+    }
     Ok(())
 }
 
@@ -171,7 +117,7 @@ fn lines(rt: HostRuntime) -> Result<(), Fail> {
         ),
     ];
     for (input, status, output) in cases {
-        let ended = play(&rt, rt.alloc(), input)?;
+        let ended = play(&rt, rt.alloc(), "0", input)?;
         assert_eq!(rt; ended.status, status);
         assert_eq!(rt; ended.output.as_slice(), output);
     }
@@ -261,7 +207,7 @@ fn limits(rt: HostRuntime) -> Result<(), Fail> {
     ];
     for (front, piece, times, last, output) in cases {
         let script = with_many(rt.alloc(), front, piece, times, last)?;
-        let ended = play(&rt, rt.alloc(), &script)?;
+        let ended = play(&rt, rt.alloc(), "0", &script)?;
         assert_eq!(rt; ended.output.as_slice(), output);
     }
     Ok(())

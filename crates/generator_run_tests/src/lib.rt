@@ -1,0 +1,5 @@
+//! Whole runs of `gen`.
+#![tactic(auto)]
+
+#[cfg(test)]
+mod tests;
