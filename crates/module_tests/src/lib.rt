@@ -9,4 +9,8 @@ mod libraries;
 #[cfg(test)]
 mod link_tests;
 #[cfg(test)]
+mod order_tests;
+#[cfg(test)]
+mod order_texts;
+#[cfg(test)]
 mod verdict_tests;

@@ -26,7 +26,7 @@ Mag\n%sig Mag = { %struct u : Set. op : u.a -> u.a -> u.a. }.\n\n\
 Ring\n%sig Ring = { %struct add : Mag. %struct mul : Mag = { %struct u := Ring.add.u. }. }.\n";
 
 /// A monoid has a magma, which has a set: structures of structures, reached by a word of three names, by two words in a row,
-/// and by a constant's path; and assignments of which one reaches into another.
+/// by a constant's path and by a structure's; and assignments of which one reaches into another.
 const WORDS: &str = "Set\n%sig Set = {\na : type.\n}.\n\n\
 Mag\n%sig Mag = {\n%struct u : Set.\nop : u.a -> u.a -> u.a.\n}.\n\n\
 Mon\n%sig Mon = {\n%struct m : Mag.\ne : m.u.a.\n}.\n\n\
@@ -35,7 +35,8 @@ Row\n%sig Row = {\n%include Mon.\n%struct n : Mag = { %struct u := Mag.u Mon.m. 
 ByPath\n%sig ByPath = {\n%include Mon.\n%struct n : Mag = { u.a := m.u.a. }.\n}.\n\n\
 Overlap\n%sig Overlap = {\n%include Mon.\n%struct n : Mag = { %struct u := Mon.m.u. u.a := m.u.a. }.\n}.\n\n\
 Behind\n%sig Behind = {\n%include Mon.\n%struct n : Mag = { u.a := m.u.a. %struct u := Mon.m.u. }.\n}.\n\n\
-Apart\n%sig Apart = {\n%include Mon.\n%struct n : Mag = { %struct u := Mon.m Mag.u. }.\n}.\n";
+Apart\n%sig Apart = {\n%include Mon.\n%struct n : Mag = { %struct u := Mon.m Mag.u. }.\n}.\n\n\
+Inner\n%sig Inner = {\n%include Mon.\n%struct n : Mon = { %struct m.u := Mon.m.u. }.\n}.\n";
 
 /// Views of a theory with a definition.
 const DEFINED: &str = "Def\n%sig Def = {\na : type.\nc : a.\nd : a = c.\n}.\n\n\
@@ -79,7 +80,7 @@ fn structures(rt: HostRuntime) -> Result<(), Fail> {
         (RING, "Set theory 1\nMag theory 2\nRing theory 4"),
         (
             WORDS,
-            "Mon theory 3\nShared theory 5\nRow theory 5\nByPath theory 5",
+            "Mon theory 3\nShared theory 5\nRow theory 5\nByPath theory 5\nInner theory 6",
         ),
         (
             WORDS,

@@ -54,6 +54,10 @@ fn theories(rt: HostRuntime) -> Result<(), Fail> {
             "A refused 2:10 unknown-module B\nC refused 2:10 dependency-refused A",
         ),
         (
+            "T\n%sig T = {\na : type.\nc : a -> a.\nd : a -> c.\n}.\n",
+            "T refused 4:10 level d",
+        ),
+        (
             "A\n%sig A = {\na : type.\na : type.\n}.\n",
             "A refused 3:1 duplicate-name a",
         ),
@@ -74,6 +78,23 @@ fn texts_that_do_not_read(rt: HostRuntime) -> Result<(), Fail> {
             "Z\n%sig Nat = {\nnat : type.\nz : nat.\ns : nat -> nat.\n}.\n",
             "Z refused 1:6 wrong-name Nat",
         ),
+        (
+            "Z\n%sig Z = {\nk : {x} type.\n}.\n",
+            "Z refused 2:7 unsupported Z",
+        ),
+        ("Z\n%sig Z = {\na : type\n", "Z refused 3:1 syntax Z"),
+        ("Z\n%sig Z = {\n%.\n", "Z refused 2:1 syntax Z"),
+        ("Z\n%sig Z = {\nc : _.\n}.\n", "Z refused 2:5 unsupported Z"),
+        (
+            "Z\n%sig Z = {\nc : a -> a <- a.\n}.\n",
+            "Z refused 2:12 syntax Z",
+        ),
+        ("Z\n%sig Z = {\nc : type.z.\n}.\n", "Z refused 2:5 syntax Z"),
+        (
+            "Z\n%sig Z = {\na : type.\n}.\n}\n",
+            "Z refused 4:1 syntax Z",
+        ),
+        ("Z\n%sig Z = {\nc : \"x\".\n}.\n", "Z refused 2:5 syntax Z"),
     ] {
         assert!(rt; holds(alloc, library, verdicts)?, "{verdicts}");
     }
