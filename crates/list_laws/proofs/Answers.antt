@@ -1,5 +1,6 @@
 -- Answers taken apart, and put together.
 use Rattle.std.proofs.Common.{◌≡◌, Result, Ok, Err, refl, ap, ◌∙◌}
+use Rattle.std.specs.Result.{OnErr}
 use Rattle.answer_meaning.specs.Answers.{◌>>=◌}
 
 pub record Came {E A B : Type 0} (first : Result A E) (next : A → Result B E) (value : B) : Type 0 where
@@ -23,3 +24,8 @@ ok_same h = cc
 pub bind_assoc : {E A B C : Type 0} (first : Result A E) (next : A → Result B E) (last : B → Result C E) → (first >>= next) >>= last ≡ first >>= (λ item. next item >>= last)
 bind_assoc (Err fault) next last = refl
 bind_assoc (Ok item) next last = refl
+
+-- what holds anyhow holds of an error
+pub on_err : {A E P : Type 0} (answer : Result A E) → P → OnErr answer P
+on_err (Ok item) p = tt
+on_err (Err fault) p = p

@@ -4,6 +4,7 @@ use Rattle.std.proofs.lemmas.Bool.{cases_Bool, and_parts}
 use Rattle.name_meaning.specs.Names.{Name, Text, same_name, is_among}
 use Rattle.log_meaning.specs.Log.{Library, text_of, is_present}
 use Rattle.list_laws.proofs.Members.{Member, find_none, in_map}
+use Rattle.list_laws.proofs.Options.{some_mapped}
 use Rattle.name_laws.proofs.Order.{among_member, member_among}
 use Rattle.walk_meaning.specs.Walks.{of_text, direct, walking, is_ungrounded, is_grounded, ungrounded_names}
 use Rattle.walk_laws.proofs.Walking.{ungrounded_dependency}
@@ -19,10 +20,6 @@ use Rattle.verdict_laws.specs.VerdictLaws.{PresentNamesHaveVerdicts, VerdictIsJu
 use Rattle.verdict_laws.proofs.Shortness.{Short, short_more, short_reached}
 use Rattle.verdict_laws.proofs.Rounds.{judged_under, round_gives, known_alike, in_others, judge_alike, rounds_agree}
 use Rattle.std.proofs.lemmas.Option.{same_Some}
-
-some_mapped : {A B : Type 0} (f : A → B) (o : Option A) → is_some (option_map f o) ≡ is_some o
-some_mapped f None = refl
-some_mapped f (Some x) = refl
 
 -- whether there is a verdict is whether there is a text, for any list of modules
 pub verdict_exactly : (library : Library) (name : Name) → is_some (verdict_of library name) ≡ is_some (text_of library name)
