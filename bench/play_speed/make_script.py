@@ -9,6 +9,7 @@ many     a theory of NUMBER declarations with a value of eleven nodes
 late     the same behind as many further constants
 even     a declaration with a value of NUMBER nodes whose halves are even
 heavy    NUMBER theories of 1,000 declarations with a value of eleven nodes, which need nothing of each other, and a check
+judged   a small algebra, and NUMBER theories with a hundred structures of it, which need nothing of each other, and a check
 edited   NUMBER theories, each of which includes one of those before it, and as many edits, each with a report of a theory behind it
 """
 import random
@@ -75,6 +76,14 @@ def heavy(count):
     yield "check\n"
 
 
+def judged(count):
+    yield put(*theory("Algebra", ALGEBRA))
+    copies = "\n".join(f"%struct m{i} : Algebra." for i in range(100))
+    for i in range(count):
+        yield put(*theory(f"T{i}", copies))
+    yield "check\n"
+
+
 def edited(count):
     draw = random.Random(1)
     last = [0] + [draw.randrange(i) for i in range(1, count)]
@@ -102,6 +111,8 @@ def pieces(shape, count):
     match shape:
         case "heavy":
             yield from heavy(count)
+        case "judged":
+            yield from judged(count)
         case "edited":
             yield from edited(count)
         case _:
