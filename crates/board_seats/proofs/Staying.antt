@@ -1,5 +1,6 @@
 -- A job that a pass may end stays one.
 use Rattle.std.proofs.Common.{◌≡◌, ℕ, ◌<◌, Bool, true, false, ◌&&◌, ◌||◌, not, is_some, ◌++◌, length, slice_get, nat_eq, Option, Some, None, option_map, option_and_then, option_to_list, refl, sym, ap, ap₂, ◌∙◌, subst, arith}
+use Rattle.std.proofs.Math.Bool.{or-false}
 use Rattle.std.proofs.lemmas.Bool.{and_parts, or_from}
 use Rattle.std.proofs.lemmas.List.Folds.{list_any-append}
 use Rattle.walk_meaning.specs.Walks.{Dependencies}
@@ -64,11 +65,7 @@ module _ {Meaning : Type 0} (subject : Subject Meaning) (H : History) (pass : �
   unfolding is_open
   same_open =
       ap₂ (λ (o : Bool) (ended : Bool). o && not ended) (ap is_some (claim_front H later job.claim within))
-      (list_any-append (λ (entry : Entry). ends_claim job.claim entry.event) H later ∙ ap (λ (b : Bool). is_ended H job.claim || b) none ∙ or_false (is_ended H job.claim))
-    where
-      or_false : (b : Bool) → (b || false) ≡ b
-      or_false true = refl
-      or_false false = refl
+      (list_any-append (λ (entry : Entry). ends_claim job.claim entry.event) H later ∙ ap (λ (b : Bool). is_ended H job.claim || b) none ∙ or-false (is_ended H job.claim))
 
   same_call : (is_open (H ++ later) job.claim && is_by pass (slice_get (H ++ later) job.claim)) ≡ (is_open H job.claim && is_by pass (slice_get H job.claim))
   same_call = ap₂ (λ (a : Bool) (b : Bool). a && b) same_open (ap (is_by pass) (get_front H later job.claim within))

@@ -1,20 +1,20 @@
 -- The check of a folder as its front leaves it, and what becomes of it then.
-use Rattle.std.proofs.Common.{◌≡◌, ◌≤◌, ◌-◌, length, ℕ, true, List, ◌++◌, Option, Some, None, Result, Ok, Err, refl, sym, ap, ◌∙◌, subst}
+use Rattle.std.proofs.Common.{◌≡◌, ◌≤◌, ◌-◌, length, ℕ, true, List, Option, Some, None, Result, Ok, Err, refl, sym, ap, subst}
 use Rattle.std.specs.Prelude.{IfOk, IfSome, IsErrOf, OnOk}
-use Rattle.list_laws.proofs.Members.{any_found, any_of, append_left}
 use Rattle.mmt_outside.specs.Bytes.{Taken}
 use Rattle.mmt_outside.specs.Faults.{Rose}
 use Rattle.mmt_outside.specs.Files.{Files}
 use Rattle.log_meaning.specs.Log.{Log}
 use Rattle.text_meaning.specs.Dependencies.{dependencies}
-use Rattle.board_meaning.specs.Events.{Entry, History, log_of}
-use Rattle.board_meaning.specs.Ready.{is_close, is_closed}
+use Rattle.board_meaning.specs.Events.{History, log_of}
+use Rattle.board_meaning.specs.Ready.{is_closed}
 use Rattle.board_meaning.specs.Standing.{IsBacked}
 use Rattle.run_meaning.specs.Files.{File, load}
 use Rattle.run_meaning.specs.Folders.{folder_parts}
 use Rattle.judged_meaning.specs.JudgingByRules.{rules}
 use Rattle.install_laws.proofs.Tellings.{stay_backed}
 use Rattle.board_front.specs.Staying.{Stays}
+use Rattle.board_front.proofs.Closing.{closed_later}
 use Rattle.run_status.specs.Flushed.{FlushesAt, IsFlushed}
 use Rattle.run_status.specs.declared.status.Status.{Status}
 use Rattle.run_status.specs.declared.status.Status.TheVariants.{Done, Refused, Usage, ReadFault, WriteFault, Memory, ScriptFault}
@@ -24,12 +24,6 @@ use Rattle.folder_front.specs.Stops.{status_by}
 use Rattle.folder_front.specs.Checked.{BacksWritten, CheckEnds, EditsAre, FolderEnds, IsCheckStatus, IsFolderLed, IsWholeStatus, told_within}
 
 -- ---- the history goes on by no edit
-
-pub closed_later : (first second : History) → Stays first second → is_closed first ≡ true → is_closed second ≡ true
-unfolding is_closed
-closed_later first second stays closed =
-    let found = any_found (λ (entry : Entry). is_close entry.event) first closed in
-    ap is_closed stays.begins ∙ any_of (λ (entry : Entry). is_close entry.event) (first ++ stays.later) found.0 (append_left first stays.later found.0 found.1) found.2
 
 edits_later : (status : Status) (whole : Log) (first second : History) → Stays first second → EditsAre status whole (log_of first) → EditsAre status whole (log_of second)
 edits_later status whole first second stays edits = subst (EditsAre status whole) (sym stays.logged) edits

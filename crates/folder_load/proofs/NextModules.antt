@@ -1,5 +1,6 @@
 -- The modules of a file, with one more behind them.
 use Rattle.std.proofs.Common.{◌≡◌, ◌+◌, Bool, true, false, cond, [], ◌∷◌, ◌++◌, length, map, ◌||◌, Option, Some, None, is_some, refl, sym, ap, ◌∙◌, subst, arith, append_assoc}
+use Rattle.std.proofs.Math.Bool.{or-false}
 use Rattle.std.proofs.lemmas.List.{append-nil}
 use Rattle.name_meaning.specs.Names.{Name, Text, same_name}
 use Rattle.name_meaning.specs.Rows.{row_of, with_row}
@@ -30,12 +31,8 @@ none_follow modules following tallied edits names size =
       whole = ap (appended_all modules.log) none ∙ sym same;
       fresh = subst IsFresh (sym same) tallied.fresh;
       size = (let n : modules.size + following.size ≡ modules.size = omega (arith, size) in n) ∙ tallied.size ∙ sym (ap total_size same);
-      names = λ name. ap (λ l. is_present (library_of l) name) same ∙ or_none (is_present (library_of modules.log) name) ∙ ap (λ rows. is_present (library_of modules.log) name || is_some (row_of rows name)) (sym names);
+      names = λ name. ap (λ l. is_present (library_of l) name) same ∙ sym (or-false (is_present (library_of modules.log) name)) ∙ ap (λ rows. is_present (library_of modules.log) name || is_some (row_of rows name)) (sym names);
     }
-  where
-    or_none : (b : Bool) → b ≡ (b || false)
-    or_none true = refl
-    or_none false = refl
 
 module _ (modules : Modules) (old new : Following) (name : Name) (text : Text) (follows : Follows modules old) (passes : word_of (ahead modules old) name text ≡ None)
     (edits : edits_of new ≡ edits_of old ++ Put name text ∷ []) where

@@ -27,6 +27,7 @@ use Rattle.print_laws.proofs.WellWritten.{AreWrittenDecls, IsWrittenModule, IsWr
 use Rattle.print_laws.proofs.Writable.{IsWritable}
 use Rattle.run_meaning.specs.Generator.{draw_below, module_name, module_text, parent_lines, parent_of, upper_bits}
 use Rattle.script_reader.proofs.GeneratedNames.{name_is_identifier}
+use Rattle.module_check.specs.Names.{names_in}
 
 -- ---- the module that a generated text spells
 
@@ -199,9 +200,6 @@ read_only text tree spells (TooDeep at) reads = inl refl
 read_only text tree spells (Unsupported at) reads = inl refl
 
 -- ---- names of dependencies do not depend on spans
-
-abbrev names_in : List Dependency → List Name
-names_in found = map (λ (dependency : Dependency). dependency.name) found
 
 flat_bare : {A : Type 0} (depend : A → List Dependency) (bare : A → A) → ((x : A) → names_in (depend (bare x)) ≡ names_in (depend x)) → (xs : List A)
     → names_in (flat_map depend (map bare xs)) ≡ names_in (flat_map depend xs)

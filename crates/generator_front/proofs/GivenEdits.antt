@@ -1,6 +1,6 @@
 -- The edits that the generator has given, and the log that they leave.
 use Rattle.std.proofs.Common.{◌≡◌, ⊎_elim, ℕ, suc, ◌+◌, ◌<◌, ◌≤◌, List, [], ◌∷◌, ◌++◌, length, take, slice_get, Some, true, true≢false, refl, sym, ap, ◌∙◌, subst, arith, append_assoc, append-nil, length-append}
-use Rattle.std.specs.Prelude.{OnErr, Result, Ok, Err}
+use Rattle.std.specs.Prelude.{Result, Ok, Err}
 use Rattle.std.specs.Result.{is_err}
 use Rattle.std.proofs.lemmas.List.Sums.{fold-append}
 use Rattle.list_laws.proofs.Places.{take_length, take_more}
@@ -134,10 +134,6 @@ unfolding log_of
 empty_front log history none empty = record { legal = subst (IsLegal dependencies) (sym empty) (legal_empty dependencies); logged = none ∙ sym (ap log_of empty) }
 
 -- ---- what is said of an error
-
-pub where_err : {A E : Type 0} {P : Type 0} (result : Result A E) → P → OnErr result P
-where_err (Ok x) p = tt
-where_err (Err fault) p = p
 
 pub ends_at_err : {Fault : Type 0} (start modules edits : ℕ) (result : Result Counts Fault) (history : History) → is_err result ≡ true
     → IsBegun start modules edits (log_of history) → Ends start modules edits result history

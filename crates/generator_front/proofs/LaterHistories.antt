@@ -1,11 +1,10 @@
 -- What the generator leaves stays so where the history goes on without an edit.
-use Rattle.std.proofs.Common.{◌≡◌, ℕ, ◌||◌, Bool, true, ◌++◌, Result, Ok, Err, sym, ap, ◌∙◌, subst, arith}
-use Rattle.std.proofs.lemmas.List.Folds.{list_any-append}
+use Rattle.std.proofs.Common.{◌≡◌, ℕ, true, ◌++◌, Result, Ok, Err, sym, ap, ◌∙◌, subst, arith}
 use Rattle.log_meaning.specs.Log.{Log, library_of}
 use Rattle.walk_meaning.specs.Walks.{is_grounded}
 use Rattle.text_meaning.specs.Dependencies.{dependencies}
-use Rattle.board_meaning.specs.Events.{Entry, History, log_of}
-use Rattle.board_meaning.specs.Ready.{is_close, is_closed}
+use Rattle.board_meaning.specs.Events.{History, log_of}
+use Rattle.board_meaning.specs.Ready.{is_closed}
 use Rattle.board_meaning.specs.Standing.{installs}
 use Rattle.run_meaning.specs.Backing.{AreBacked}
 use Rattle.run_meaning.specs.Generator.{asked_after, counts_of, generator_told}
@@ -14,6 +13,7 @@ use Rattle.install_laws.specs.InstallLaws.{AllStand}
 use Rattle.install_laws.proofs.Installs.{installs_are_asked, unedited_between}
 use Rattle.install_laws.proofs.Tellings.{stay_backed}
 use Rattle.board_front.specs.Staying.{Stays}
+use Rattle.board_front.proofs.Closing.{closed_later}
 use Rattle.board_front.proofs.Standing.{stands_still}
 use Rattle.generator_front.specs.declared.counts.Counts.{Counts}
 use Rattle.generator_front.specs.Generated.{Ends, IsBegun, IsDone, IsGenerated}
@@ -35,12 +35,6 @@ module _ (before after : History) (stays : Stays before after) where
       let same = ap installs stays.begins in
       omega (arith, sum, nothing, same)
 
-  pub closed_later : is_closed before ≡ true → is_closed after ≡ true
-  unfolding is_closed
-  closed_later closed =
-      ap is_closed stays.begins ∙ list_any-append (λ (entry : Entry). is_close entry.event) before stays.later
-      ∙ ap (λ (b : Bool). b || is_closed stays.later) closed
-
   pub done_later : (start modules edits : ℕ) (counts : Counts) → IsDone start modules edits counts before → IsDone start modules edits counts after
   done_later start modules edits counts done = record {
     logged = stays.logged ∙ done.logged;
@@ -59,7 +53,7 @@ module _ (before after : History) (stays : Stays before after) where
   pub generated_later : {Fault : Type 0} (start modules edits : ℕ) (result : Result Counts Fault) → IsGenerated start modules edits result before → IsGenerated start modules edits result after
   generated_later start modules edits result led = record {
     legal = stays.legal;
-    closed = closed_later led.closed;
+    closed = closed_later before after stays led.closed;
     ends = ends_later start modules edits result led.ends;
   }
 

@@ -1,6 +1,7 @@
 -- One more name, in a table of names and in a list that has the same names.
 use Rattle.std.proofs.Common.{◌≡◌, ℕ, ◌+◌, ◌<◌, ◌≤◌, length, take, get_or, arith, Bool, true, false, cond, not, ◌||◌, List, [], ◌∷◌, ◌++◌, append_assoc, refl, sym, ap, ◌∙◌}
 use Rattle.std.specs.List.{list_any}
+use Rattle.std.proofs.Math.Bool.{or-false, or_assoc}
 use Rattle.std.proofs.lemmas.List.{take_more}
 use Rattle.std.proofs.lemmas.List.Sums.{fold-append}
 use Rattle.std.proofs.Math.Seq.{take-length}
@@ -13,16 +14,8 @@ use Rattle.include_closure.specs.declared.additions.Additions.{Additions}
 
 among_more : (names : List Name) (name other : Name) → is_among (names ++ name ∷ []) other ≡ (is_among names other || same_name other name)
 unfolding is_among
-among_more [] name other = or_false (same_name other name)
-  where
-    or_false : (b : Bool) → (b || false) ≡ b
-    or_false true = refl
-    or_false false = refl
-among_more (first ∷ names) name other = ap (λ b. same_name other first || b) (among_more names name other) ∙ or_assoc (same_name other first) (is_among names other) (same_name other name)
-  where
-    or_assoc : (a b c : Bool) → (a || (b || c)) ≡ ((a || b) || c)
-    or_assoc true b c = refl
-    or_assoc false b c = refl
+among_more [] name other = or-false (same_name other name)
+among_more (first ∷ names) name other = ap (λ b. same_name other first || b) (among_more names name other) ∙ sym (or_assoc (same_name other first) (is_among names other) (same_name other name))
 
 -- a name of the list is no new name
 old_name : (names : List Name) (name other : Name) → is_among names name ≡ true → (is_among names other || same_name other name) ≡ is_among names other

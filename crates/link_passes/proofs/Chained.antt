@@ -1,5 +1,5 @@
 -- Answers of links, step by step: the first refusal of a part is that of the whole, and what passes goes on.
-use Rattle.std.proofs.Common.{◌≡◌, List, [], Result, Ok, Err, refl, sym, ap, ◌∙◌, subst}
+use Rattle.std.proofs.Common.{◌≡◌, List, [], Result, Ok, Err, refl, sym, ◌∙◌, subst}
 use Rattle.answer_meaning.specs.Answers.{◌>>=◌}
 use Rattle.text_meaning.specs.Trees.{Assign}
 use Rattle.link_meaning.specs.Refusals.{Outcome}
@@ -8,15 +8,6 @@ use Rattle.link_meaning.specs.Passes.{assigned_map, link_map}
 use Rattle.morphism.specs.Answers.{IsFirstRefusal, Links, RefusesNothing}
 use Rattle.morphism.specs.declared.fault.LinkFault.{LinkFault}
 use Rattle.morphism.specs.declared.fault.LinkFault.TheVariants as faults
-
--- The first refusal of a part is that of the whole.
-pub first_stays : {A B : Type 0} (fault : LinkFault) (m : Outcome A) (f : A → Outcome B) → IsFirstRefusal fault m → IsFirstRefusal fault (m >>= f)
-first_stays (faults.Broken refusal) m f h = ap (λ a. a >>= f) h
-first_stays faults.Memory m f h = tt
-
--- So it is behind what passes.
-pub first_behind : {A B : Type 0} (fault : LinkFault) (m : Outcome A) (a : A) (f : A → Outcome B) → m ≡ Ok a → IsFirstRefusal fault (f a) → IsFirstRefusal fault (m >>= f)
-first_behind fault m a f is h = subst (λ n. IsFirstRefusal fault (n >>= f)) (sym is) h
 
 pub same_fault : {B : Type 0} (fault : LinkFault) (a b : Outcome B) → b ≡ a → IsFirstRefusal fault a → IsFirstRefusal fault b
 same_fault fault a b same h = subst (IsFirstRefusal fault) (sym same) h

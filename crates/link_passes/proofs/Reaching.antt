@@ -1,13 +1,13 @@
 -- Which assignment reaches a constant: beginnings and rests of paths.
 use Rattle.std.proofs.Common.{◌≡◌, ◌≢◌, ℕ, ◌+◌, ◌-◌, ◌<◌, ◌≤◌, Bool, true, false, List, [], ◌∷◌, ◌++◌, map, take, drop, length, get_or, Option, Some, None, ◌&&◌, refl, sym, ap, ◌∙◌, arith}
 use Rattle.std.proofs.lemmas.List.{drop_more, drop_all}
-use Rattle.std.proofs.Math.Seq.{take-length}
 use lib.Pointwise.{pointwise}
 use Rattle.name_meaning.specs.Names.{Name, Path, same_name}
 use Rattle.name_laws.proofs.Order.{same_itself, same_sound}
 use Rattle.name_laws.proofs.Contained.{same_other_way}
 use Rattle.link_meaning.specs.Assignments.{Assigned, Covering, Sharing, Giving, is_beginning}
 use Rattle.link_meaning.specs.Passes.{ByNone, rest_behind, reached_by, equal_paths}
+use Rattle.names.proofs.Qualified.{behind_first}
 use Rattle.link_passes.specs.Reaching.{reached_through}
 
 -- Two paths are equal where each is a beginning of the other.
@@ -55,12 +55,6 @@ none_behind (name ∷ beginning) (other ∷ path) h =
     ]) None
     by true e f = f e
     by false e f = refl
-
-behind_first : (path : Path) → take (length path - 1) (drop 1 path) ≡ drop 1 path
-behind_first [] = refl
-behind_first (first ∷ rest) =
-    let counted : length (first ∷ rest) - 1 ≡ length rest = omega arith in
-    ap (λ n. take n rest) counted ∙ take-length rest
 
 -- What is behind a beginning, in its parts.
 pub rest_read : (beginning path rest : Path) (first : Name) → path ≡ beginning ++ rest → 1 ≤ length rest → first ≡ get_or rest 0 first

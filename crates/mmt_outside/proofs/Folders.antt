@@ -4,7 +4,7 @@ use Rattle.std.specs.List.{list_any}
 use Rattle.std.specs.Str.{bytes_eq}
 use Rattle.std.proofs.Math.ListN.{get_or-map}
 use Rattle.std.proofs.Math.Seq.{drop-cons}
-use Rattle.std.proofs.Math.Bool.{or_assoc}
+use Rattle.std.proofs.Math.Bool.{or_assoc, or-false}
 use Rattle.std.proofs.lemmas.List.{drop_all}
 use Rattle.std.proofs.lemmas.List.Folds.{list_any-append, list_any_at}
 use Rattle.std.proofs.lemmas.List.Quantifiers.{all_pairs_push}
@@ -68,23 +68,19 @@ none_same names name h k d below same =
 
 -- ---- the names of the files in a folder
 
-or_none : (b : Bool) → (b || false) ≡ b
-or_none true = refl
-or_none false = refl
-
 in_with : (folder : List ℕ) (names : List (List ℕ)) (file : File) (name : List ℕ) → is_in (with_file folder names file) name ≡ (is_in names name || has_place folder name file)
 in_with folder names file name = by (bytes_eq file.folder folder) (is_in names file.name) refl
   where
     more : is_in (names ++ file.name ∷ []) name ≡ (is_in names name || bytes_eq file.name name)
-    more = list_any-append (λ own. bytes_eq own name) names (file.name ∷ []) ∙ ap (λ b. is_in names name || b) (or_none (bytes_eq file.name name))
+    more = list_any-append (λ own. bytes_eq own name) names (file.name ∷ []) ∙ ap (λ b. is_in names name || b) (or-false (bytes_eq file.name name))
 
     there_already : is_in names file.name ≡ true → (b : Bool) → bytes_eq file.name name ≡ b → is_in names name ≡ (is_in names name || b)
     there_already h true e = let is = subst (λ n. is_in names n ≡ true) ((bytes_eq-Decides file.name name).0 e) h in is ∙ ap (λ b. b || true) (sym is)
-    there_already h false e = sym (or_none (is_in names name))
+    there_already h false e = sym (or-false (is_in names name))
 
     by : (here there : Bool) → is_in names file.name ≡ there
         → is_in (cond (here && not there) (names ++ file.name ∷ []) names) name ≡ (is_in names name || (here && bytes_eq file.name name))
-    by false there h = sym (or_none (is_in names name))
+    by false there h = sym (or-false (is_in names name))
     by true false h = more
     by true true h = there_already h (bytes_eq file.name name) refl
 
@@ -98,7 +94,7 @@ bytes_first file files folder name = by (has_place folder name file)
 
 in_fold : (folder : List ℕ) (names : List (List ℕ)) (files : List File) (name : List ℕ)
     → is_in (fold (with_file folder) names files) name ≡ (is_in names name || is_some (bytes_of files folder name))
-in_fold folder names [] name = sym (ap (λ o. is_in names name || is_some o) (no_bytes folder name) ∙ or_none (is_in names name))
+in_fold folder names [] name = sym (ap (λ o. is_in names name || is_some o) (no_bytes folder name) ∙ or-false (is_in names name))
 in_fold folder names (file ∷ files) name =
     in_fold folder (with_file folder names file) files name
     ∙ ap (λ b. b || is_some (bytes_of files folder name)) (in_with folder names file name)

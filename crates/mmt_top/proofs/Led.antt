@@ -1,5 +1,5 @@
 -- A session as its front leaves it, and what becomes of it then.
-use Rattle.std.proofs.Common.{◌≡◌, ℕ, true, List, [], ◌++◌, refl, sym, ap, ◌∙◌, subst, arith}
+use Rattle.std.proofs.Common.{◌≡◌, ℕ, true, List, [], refl, sym, ap, ◌∙◌, subst, arith}
 use Rattle.std.specs.Prelude.{Option, Some, None, IfSome, IsNone, IsSome}
 use Rattle.mmt_outside.specs.Bytes.{Taken}
 use Rattle.mmt_outside.proofs.Bytes.{TookPrefix-none}
@@ -7,17 +7,15 @@ use Rattle.run_meaning.specs.ScriptItems.{script_of}
 use Rattle.run_meaning.specs.ScriptOutput.{has_fault}
 use Rattle.run_meaning.specs.ScriptLogs.{script_log}
 use Rattle.judged_meaning.specs.Outputs.{play_output}
-use Rattle.log_meaning.specs.Log.{Log}
 use Rattle.text_meaning.specs.Dependencies.{dependencies}
-use Rattle.board_meaning.specs.Events.{Entry, History, log_of}
+use Rattle.board_meaning.specs.Events.{History, log_of}
 use Rattle.board_meaning.specs.Legal.{IsLegal}
 use Rattle.board_meaning.specs.Machine.{CloseCall, after_call, may_call}
-use Rattle.board_meaning.specs.Ready.{is_close, is_closed}
+use Rattle.board_meaning.specs.Ready.{is_closed}
 use Rattle.board_laws.proofs.Legality.{legal_empty}
-use Rattle.list_laws.proofs.Members.{any_found, any_of, append_left}
 use Rattle.worker_crew.specs.Leading.{WasLed}
-use Rattle.board_front.specs.Staying.{IsFront, Stays}
-use Rattle.board_front.proofs.Closing.{closed_after}
+use Rattle.board_front.specs.Staying.{Stays}
+use Rattle.board_front.proofs.Closing.{closed_after, closed_later}
 use Rattle.board_front.proofs.Histories.{stays_call}
 use Rattle.run_status.specs.declared.status.Status.{Status}
 use Rattle.run_status.specs.declared.status.Status.TheVariants.{Memory}
@@ -52,22 +50,11 @@ closed_at_once history after none closes =
 pub empty_legal : (history : History) → history ≡ [] → IsLegal dependencies history
 empty_legal history empty = subst (IsLegal dependencies) (sym empty) (legal_empty dependencies)
 
-pub empty_front : (log : Log) (history : History) → log ≡ [] → history ≡ [] → IsFront log history
-unfolding log_of
-empty_front log history none empty = record { legal = empty_legal history empty; logged = none ∙ sym (ap log_of empty) }
-
 pub unbegun_led : (status : Status) (left : Option (List ℕ)) (reads : ℕ) (before : Option Taken) (writes : ℕ) (board : Option History) → status ≡ Memory
     → IfSome board (λ last. Stays [] last × (is_closed last ≡ true)) → IfSome board (IsLed status left left reads reads before before writes writes)
 unbegun_led status left reads before writes None is ends = tt
 unbegun_led status left reads before writes (Some last) is ends =
     subst (λ (s : Status). IsLed s left left reads reads before before writes writes last) (sym is) (none_led left reads before writes last ends.0 ends.1)
-
--- What was closed stays closed.
-pub closed_later : (history later : History) → is_closed history ≡ true → is_closed (history ++ later) ≡ true
-unfolding is_closed
-closed_later history later closed =
-    let at = any_found (λ (entry : Entry). is_close entry.event) history closed in
-    any_of (λ (entry : Entry). is_close entry.event) (history ++ later) at.0 (append_left history later at.0 at.1) at.2
 
 -- A session whose front has ended, with what its workers did behind it.
 pub was_led : (status : Status) (left rest : Option (List ℕ)) (reads reads_after : ℕ) (before now : Option Taken) (writes writes_after : ℕ) (history : History)
@@ -79,7 +66,7 @@ was_led status left rest reads reads_after before now writes writes_after histor
     let stays : Stays led.seen history = record { legal = led.at_point.legal; later = on.later; begins = on.begins; logged = led.logged } in
     record {
       legal = led.at_point.legal;
-      closed = ap is_closed on.begins ∙ closed_later led.seen on.later front.closed;
+      closed = closed_later led.seen history stays front.closed;
       ends = ended_later status before now left led.seen history stays front.ends;
       read_all = front.read_all;
       answers = front.answers;

@@ -2,7 +2,6 @@ pub mod Crossing
 pub mod AnsweredFaces
 pub mod Judged
 pub mod FirstAmong
-pub mod SearchedNames
 pub mod NamesLeft
 pub mod Cyclic
 pub mod LibraryGraph

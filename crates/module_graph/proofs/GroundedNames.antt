@@ -1,15 +1,16 @@
 -- Grounded names of a graph, as a list and one by one.
-use Rattle.std.proofs.Common.{◌≡◌, ℕ, Bool, true, false, not, List, [], ◌∷◌, Result, Ok, Err, IfOk, IfErr, is_err, Bor, length, map, slice_get, Option, Some, None, is_some, ◌⊎◌, inl, inr, refl, sym, ap, ◌∙◌, subst, true≢false}
+use Rattle.std.proofs.Common.{◌≡◌, ℕ, Bool, true, false, not, Result, Ok, Err, IfOk, IfErr, is_err, Bor, length, map, slice_get, Option, Some, None, is_some, ◌⊎◌, inl, inr, refl, sym, ap, ◌∙◌, subst, true≢false}
 use Rattle.std.specs.Option.{option_copied}
 use Rattle.std.specs.List.Sorted.{IsSearchInRange, IsBinarySearchResult}
 use Rattle.std.specs.Ordering.{nat_cmp}
 use Rattle.std.specs.Cmp.Lexicographic.{slice_cmp}
-use Rattle.std.proofs.lemmas.Bool.{cases_Bool, and_from, and_parts, not_from_false}
+use Rattle.std.proofs.lemmas.Bool.{cases_Bool, and_from, and_parts, not_from_false, false_from_ne_true}
 use Rattle.name_meaning.specs.Names.{Name, is_ascending}
 use Rattle.name_meaning.specs.Rows.{row_names, row_of, IsTable, IsGap}
 use Rattle.log_meaning.specs.Log.{is_present}
 use Rattle.walk_meaning.specs.Walks.{is_ungrounded, is_grounded}
 use Rattle.walk_meaning.specs.Graphs.{Graph, row_dependencies, row_library, is_graph_ungrounded, graph_grounded}
+use Rattle.list_laws.proofs.Lists.{each_itself}
 use Rattle.list_laws.proofs.Members.{in_filter, filter_in, place_member}
 use Rattle.name_laws.proofs.Order.{among_member, ascending_filtered}
 use Rattle.name_laws.proofs.Searching.{searched}
@@ -21,17 +22,13 @@ not_both : (b : Bool) → not b ≡ true → b ≡ true → ⊥
 not_both true f g = true≢false (sym f)
 not_both false f g = true≢false (sym g)
 
-is_false : (b : Bool) → (b ≡ true → ⊥) → b ≡ false
-is_false true h = absurd (h refl)
-is_false false h = refl
-
 module _ (graph : Graph) where
   -- a name at a place of the grounded names is grounded, and one that would stand between them is not
   pub ungrounded_found : (n : Name) (i : ℕ) → slice_get (graph_grounded graph) i ≡ Some n → is_graph_ungrounded graph n ≡ false
   unfolding graph_grounded is_graph_ungrounded
   ungrounded_found n i h =
       let g = (in_filter (is_grounded (row_dependencies graph) (row_library graph)) (row_names graph) n (place_member (graph_grounded graph) i n h)).1 in
-      is_false (is_ungrounded (row_dependencies graph) (row_library graph) n)
+      false_from_ne_true (is_ungrounded (row_dependencies graph) (row_library graph) n)
       (not_both (is_ungrounded (row_dependencies graph) (row_library graph) n) (and_parts (is_present (row_library graph) n) (not (is_ungrounded (row_dependencies graph) (row_library graph) n)) g).1)
 
   pub ungrounded_not_found : (n : Name) (i : ℕ) → is_some (row_of graph n) ≡ true → IsGap (graph_grounded graph) n i → is_graph_ungrounded graph n ≡ true
@@ -47,17 +44,13 @@ module _ (graph : Graph) where
 
   pub ungrounded_absent : (n : Name) → is_some (row_of graph n) ≡ false → is_graph_ungrounded graph n ≡ false
   unfolding is_graph_ungrounded
-  ungrounded_absent n h = is_false (is_ungrounded (row_dependencies graph) (row_library graph) n) (λ u.
+  ungrounded_absent n h = false_from_ne_true (is_ungrounded (row_dependencies graph) (row_library graph) n) (λ u.
       true≢false (sym (in_present (row_dependencies graph) (row_library graph) n (walking_present (row_dependencies graph) (row_library graph) _ n (ungrounded_in (row_dependencies graph) (row_library graph) n u))) ∙ row_present graph n ∙ h))
 
 -- the grounded names stand in byte order
 pub grounded_ascending : (graph : Graph) → IsTable graph → is_ascending (graph_grounded graph) ≡ true
 unfolding graph_grounded
 grounded_ascending graph t = ascending_filtered (is_grounded (row_dependencies graph) (row_library graph)) (row_names graph) t
-
-each_itself : (names : List Name) → map (λ (n : Name). n) names ≡ names
-each_itself [] = refl
-each_itself (n ∷ names) = ap (λ z. n ∷ z) (each_itself names)
 
 -- a search among the grounded names misses a present name exactly where it is ungrounded
 pub ungrounded_searched : (graph : Graph) (n : Name) (r : Result ℕ ℕ) → IsTable graph → is_some (row_of graph n) ≡ true → IsSearchInRange r (length (graph_grounded graph))

@@ -78,12 +78,6 @@ drop_past [] (suc i) h = refl
 drop_past (x ∷ xs) zero h = absurd (omega (arith, h))
 drop_past (x ∷ xs) (suc i) h = drop_past xs i (omega (arith, h))
 
-pub take_past_end : {X : Type 0} (xs : List X) (i : ℕ) → length xs ≤ i → take i xs ≡ xs
-take_past_end [] zero h = refl
-take_past_end [] (suc i) h = refl
-take_past_end (x ∷ xs) zero h = absurd (omega (arith, h))
-take_past_end (x ∷ xs) (suc i) h = ap (λ z. x ∷ z) (take_past_end xs i (omega (arith, h)))
-
 -- what passes a test among the items before a place, after one more item
 filter_last : {X : Type 0} (p : X → Bool) (xs : List X) (x : X) → filter p (xs ++ x ∷ []) ≡ cond (p x) (filter p xs ++ x ∷ []) (filter p xs)
 filter_last p [] x = refl

@@ -24,7 +24,7 @@ use Rattle.mmt_interface.specs.declared.verdict.Verdict.{Verdict}
 use Rattle.mmt_interface.proofs.Known.{lacked_is_absent}
 use Rattle.morphism.specs.Answers.{IsFirstRefusal}
 use Rattle.morphism.specs.declared.fault.LinkFault.{LinkFault}
-use Rattle.morphism.specs.declared.fault.LinkFault.TheVariants.{Broken, Memory}
+use Rattle.morphism.proofs.FirstRefusals.{refuses_then}
 use Rattle.module_verdicts.specs.Answers.{Declares, IsNamed}
 
 -- Its own constants have its name.
@@ -50,11 +50,6 @@ stays_coherent rows before after decl (Ok done) k h e =
     let n = declarations_keep_built (environment_of rows) (read_theory before) (read_theory after) decl b e in
     record { absent = ap (row_of rows) n.1 ∙ h.absent; theory = n.0.so_far }
 
--- The first refusal of a part is that of the whole.
-pub refused_first : {A B : Type 0} (fault : LinkFault) (first : Outcome A) (next : A → Outcome B) → IsFirstRefusal fault first → IsFirstRefusal fault (first >>= next)
-refused_first (Broken refusal) first next h = ap (λ z. z >>= next) h
-refused_first Memory first next h = tt
-
 -- So is that of what follows.
 pub refused_next : {A B : Type 0} (fault : LinkFault) (first : Outcome A) (value : A) (next : A → Outcome B) → first ≡ Ok value → IsFirstRefusal fault (next value) → IsFirstRefusal fault (first >>= next)
 refused_next {A} {B} fault first value next e h = subst (λ (z : Outcome A). IsFirstRefusal fault (z >>= next)) (sym e) h
@@ -75,7 +70,7 @@ module _ (environment : Environment) (start here : faces.TheoryFace) (decls : Li
 
   pub all_refused : (decl : Decl) (fault : LinkFault) → place < length decls → decl ≡ get_or decls place decl → IsFirstRefusal fault (declare environment here (read_decl decl)) → IsFirstRefusal fault (declare_all environment start (read_decls decls))
   all_refused decl fault within is h =
-      subst (IsFirstRefusal fault) (sym (so_far ∙ all_here environment here decls place decl within is)) (refused_first fault (declare environment here (read_decl decl)) (λ n. declare_all environment n (read_decls (drop (place + 1) decls))) h)
+      subst (IsFirstRefusal fault) (sym (so_far ∙ all_here environment here decls place decl within is)) (refuses_then fault (declare environment here (read_decl decl)) (λ n. declare_all environment n (read_decls (drop (place + 1) decls))) h)
 
   pub all_done : length decls ≤ place → declare_all environment start (read_decls decls) ≡ Ok here
   unfolding declare_all

@@ -16,10 +16,11 @@ use Rattle.mmt_syntax.specs.Readings.{read_written, read_assigns}
 use Rattle.mmt_syntax.specs.declared.decl.StructDecl as code
 use Rattle.morphism.specs.Answers.{IsFirstRefusal}
 use Rattle.morphism.specs.declared.fault.LinkFault.{LinkFault}
+use Rattle.morphism.proofs.FirstRefusals.{refuses_then}
 use Rattle.struct_flatten.specs.Answers.{Flattens, setting_of}
 use Rattle.module_verdicts.specs.Answers.{Declares}
 use Rattle.module_verdicts.specs.Steps.{constant_answer, with_declaration}
-use Rattle.module_verdicts.proofs.Built.{refused_first, refused_next}
+use Rattle.module_verdicts.proofs.Built.{refused_next}
 
 grouped : {A B C D E : Type 0} (x : Result A E) (y : A → Result B E) (g : A → B → C) (h : C → D) → (x >>= (λ a. y a >>= (λ b. Ok (h (g a b))))) ≡ ((x >>= (λ a. y a >>= (λ b. Ok (g a b)))) >>= (λ d. Ok (h d)))
 grouped {A} {B} {C} {D} {E} (Err fault) y g h = refl
@@ -42,13 +43,13 @@ module _ (environment : Environment) (here : TheoryFace) (name : Written) (class
       (λ c v. record { name = record { theory = here.name; path = first_name name.path ∷ [] }; class = c; value = v }) (with_declaration here))
 
   pub constant_used : (fault : LinkFault) → IsFirstRefusal fault (unused_test here name) → IsFirstRefusal fault (declare environment here (ConstDecl name class value))
-  constant_used fault h = subst (IsFirstRefusal fault) (sym constant_steps) (refused_first fault (unused_test here name) _ h)
+  constant_used fault h = subst (IsFirstRefusal fault) (sym constant_steps) (refuses_then fault (unused_test here name) _ h)
 
   pub constant_refused : (fault : LinkFault) → unused_test here name ≡ Ok tt → IsFirstRefusal fault (constant_answer (scope_in environment here) here.name name class value) → IsFirstRefusal fault (declare environment here (ConstDecl name class value))
   constant_refused fault u h =
       subst (IsFirstRefusal fault) (sym constant_steps)
       (refused_next fault (unused_test here name) tt (λ done. constant_answer (scope_in environment here) here.name name class value >>= (λ d. Ok (with_declaration here d))) u
-      (refused_first fault (constant_answer (scope_in environment here) here.name name class value) (λ d. Ok (with_declaration here d)) h))
+      (refuses_then fault (constant_answer (scope_in environment here) here.name name class value) (λ d. Ok (with_declaration here d)) h))
 
   pub constant_declared : (d : Declaration) (next : TheoryFace) → unused_test here name ≡ Ok tt → constant_answer (scope_in environment here) here.name name class value ≡ Ok d → next ≡ with_declaration here d
       → declare environment here (ConstDecl name class value) ≡ Ok next
@@ -83,11 +84,11 @@ module _ (environment : Environment) (here : TheoryFace) (decl : code.StructDecl
   made next = declare environment here (StructDecl (read_written decl.name) (read_written decl.domain) (read_assigns decl.assigns)) ≡ Ok next
 
   pub structure_used : (fault : LinkFault) → IsFirstRefusal fault (unused_test here (read_written decl.name)) → IsFirstRefusal fault (declare environment here (StructDecl (read_written decl.name) (read_written decl.domain) (read_assigns decl.assigns)))
-  structure_used fault h = refused_first fault (unused_test here (read_written decl.name)) _ h
+  structure_used fault h = refuses_then fault (unused_test here (read_written decl.name)) _ h
 
   pub structure_unknown : (fault : LinkFault) → unused_test here (read_written decl.name) ≡ Ok tt → IsFirstRefusal fault (module_test environment decl.name.path (read_written decl.domain))
       → IsFirstRefusal fault (declare environment here (StructDecl (read_written decl.name) (read_written decl.domain) (read_assigns decl.assigns)))
-  structure_unknown fault u h = refused_next fault (unused_test here (read_written decl.name)) tt _ u (refused_first fault (module_test environment decl.name.path (read_written decl.domain)) _ h)
+  structure_unknown fault u h = refused_next fault (unused_test here (read_written decl.name)) tt _ u (refuses_then fault (module_test environment decl.name.path (read_written decl.domain)) _ h)
 
   pub structure_flattened : (result : Result ⊤ LinkFault) (next face : TheoryFace) → unused_test here (read_written decl.name) ≡ Ok tt → module_test environment decl.name.path (read_written decl.domain) ≡ Ok face
       → Flattens environment here decl next result (link_map (setting_of environment here decl) (read_assigns decl.assigns))
@@ -100,4 +101,4 @@ module _ (environment : Environment) (here : TheoryFace) (decl : code.StructDecl
   structure_flattened (Err fault) next face u t h =
       refused_next fault (unused_test here (read_written decl.name)) tt _ u
       (refused_next fault (module_test environment decl.name.path (read_written decl.domain)) face _ t
-      (refused_first fault (link_map (setting_of environment here decl) (read_assigns decl.assigns)) _ h))
+      (refuses_then fault (link_map (setting_of environment here decl) (read_assigns decl.assigns)) _ h))

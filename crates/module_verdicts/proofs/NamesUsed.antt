@@ -1,8 +1,9 @@
 -- Names that a theory has already.
-use Rattle.std.proofs.Common.{◌≡◌, ℕ, ◌+◌, ◌<◌, ◌≤◌, true, false, cond, List, [], ◌∷◌, length, get_or, drop, Option, Some, None, is_some, refl, sym, ap, ◌∙◌}
+use Rattle.std.proofs.Common.{◌≡◌, ℕ, ◌+◌, ◌<◌, ◌≤◌, true, false, cond, List, [], ◌∷◌, length, get_or, drop, Option, Some, is_some, sym, ap, ◌∙◌}
 use Rattle.std.specs.Option.{option_map}
 use Rattle.std.specs.Borrow.{Bor}
 use Rattle.std.proofs.lemmas.List.{at_drop_more, at_drop_all}
+use Rattle.list_laws.proofs.Options.{some_mapped}
 use Rattle.name_meaning.specs.Names.{Name, same_name}
 use Rattle.lf_meaning.specs.Signatures.{declaration_of}
 use Rattle.library_meaning.specs.Faces.{structure_of}
@@ -45,14 +46,10 @@ pub structure_none : (structures : List StructFace) (name : Name) (place : ℕ) 
 unfolding structure_of
 structure_none structures name place past so_far = sym (ap is_some (so_far ∙ at_drop_all (λ z. structure_of (read_structures z) name) structures place past))
 
-mapped_some : {A B : Type 0} (f : A → B) (o : Option A) → is_some (option_map f o) ≡ is_some o
-mapped_some f None = refl
-mapped_some f (Some a) = refl
-
 -- A constant that is looked up by its name is the own one at that path.
 pub found_constant : (here : TheoryFace) (constant : QName) (name : Name) (found : Option (Bor FlatDecl)) → IsNamed (read_theory here) → constant ≡ record { theory = here.name; path = name ∷ [] }
     → option_map (λ (d : Bor FlatDecl). read_declaration d.now) found ≡ declaration_of (read_signature here.own) (read_constant constant)
     → is_some found ≡ is_some (own_at (read_signature here.own) (name ∷ []))
 found_constant here constant name found named is looked =
-    sym (mapped_some (λ (d : Bor FlatDecl). read_declaration d.now) found)
+    sym (some_mapped (λ (d : Bor FlatDecl). read_declaration d.now) found)
     ∙ ap is_some (looked ∙ ap (λ (z : QName). declaration_of (read_signature here.own) (read_constant z)) is ∙ own_found (read_signature here.own) here.name (name ∷ []) named)

@@ -2,6 +2,7 @@
 use Rattle.std.proofs.Common.{◌≡◌, ℕ, ◌+◌, ◌<◌, length, take, drop, get_or, Bool, ◌||◌, ◌&&◌, List, [], ◌∷◌, ◌++◌, Some, Ok, refl, sym, ap, ◌∙◌}
 use Rattle.std.specs.Prelude.{slice_get, ⊤}
 use Rattle.std.specs.List.{list_any}
+use Rattle.std.proofs.Math.Bool.{or-false}
 use Rattle.std.proofs.lemmas.List.{at_drop_more, take_more}
 use Rattle.std.proofs.lemmas.List.Folds.{list_any-append}
 use Rattle.std.proofs.lemmas.Option.{slice_get_within, get_or_from_slice_get}
@@ -18,7 +19,6 @@ use Rattle.link_meaning.specs.Coverings.{covered_tests, covering_value, identity
 use Rattle.link_meaning.specs.Passes.{mapping_to}
 use Rattle.link_meaning.specs.CoveringMaps.{included_part, cover_all, covering_map}
 use Rattle.morphism.specs.CoverTables.{is_below_identity}
-use Rattle.morphism.proofs.NameTables.{or_none}
 
 -- The next of the items that are left.
 pub next_item : {A B : Type 0} (f : List A → B) (xs : List A) (i : ℕ) (x : A) → i < length xs → x ≡ get_or xs i x → f (drop i xs) ≡ f (x ∷ drop (i + 1) xs)
@@ -43,7 +43,7 @@ module _ (setting : Setting) (assigned : List Assigned) where
       let test : Name → Bool = λ (x : Name). identity_covers setting assigned x && sees (includes_of (theory_of setting.environment x)) theory in
       ap (list_any test) (take_more theories i other within ∙ ap (λ x. take i theories ++ x ∷ []) (sym there))
       ∙ list_any-append test (take i theories) (other ∷ [])
-      ∙ ap (λ b. list_any test (take i theories) || b) (or_none (test other))
+      ∙ ap (λ b. list_any test (take i theories) || b) (or-false (test other))
 
   -- Images one by one.
   pub covers_one : (so_far : HeadMap) (d : Declaration) (ds : Signature) (value : Value) → covering_value setting assigned d ≡ Ok value

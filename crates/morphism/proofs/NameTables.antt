@@ -1,6 +1,7 @@
 -- Names in hash tables: which names a table has after some were added.
 use Rattle.std.proofs.Common.{◌≡◌, ℕ, ◌+◌, ◌<◌, length, take, get_or, Bool, true, false, cond, ◌||◌, List, [], ◌∷◌, ◌++◌, refl, sym, ap, ◌∙◌}
 use Rattle.std.specs.List.{list_any}
+use Rattle.std.proofs.Math.Bool.{or-false}
 use Rattle.std.proofs.lemmas.List.{take_more}
 use Rattle.std.proofs.lemmas.List.Folds.{list_any-append}
 use Rattle.indexmap.specs.IndexSet.{insert_key}
@@ -9,21 +10,13 @@ use Rattle.library_meaning.specs.Closure.{sees}
 use Rattle.name_laws.proofs.Contained.{same_other_way}
 use Rattle.name_laws.proofs.Order.{same_sound}
 
-pub or_none : (b : Bool) → (b || false) ≡ b
-or_none true = refl
-or_none false = refl
-
-pub or_grouped : (a b c : Bool) → ((a || b) || c) ≡ (a || (b || c))
-or_grouped true b c = refl
-or_grouped false b c = refl
-
 pub none_among : (other : Name) → sees [] other ≡ false
 unfolding is_among
 none_among other = refl
 
 pub among_behind : (names : List Name) (name other : Name) → sees (names ++ name ∷ []) other ≡ (sees names other || same_name other name)
 unfolding is_among
-among_behind names name other = list_any-append (same_name other) names (name ∷ []) ∙ ap (λ b. is_among names other || b) (or_none (same_name other name))
+among_behind names name other = list_any-append (same_name other) names (name ∷ []) ∙ ap (λ b. is_among names other || b) (or-false (same_name other name))
 
 -- a name that is there already is no other one
 one_of_them : (names : List Name) (name other : Name) → sees names name ≡ true → sees names other ≡ (sees names other || same_name other name)
@@ -51,4 +44,4 @@ pub one_among : (keys : List Name) (name other : Name) → keys ≡ [] → (sees
 one_among keys name other none = ap (λ (ks : List Name). sees ks other || same_name other name) none ∙ ap (λ b. b || same_name other name) (none_among other) ∙ same_other_way other name
 
 pub nothing_more : (before : Bool) (names : List Name) (other : Name) → names ≡ [] → before ≡ (before || sees names other)
-nothing_more before names other none = sym (ap (λ (ns : List Name). before || sees ns other) none ∙ ap (λ b. before || b) (none_among other) ∙ or_none before)
+nothing_more before names other none = sym (ap (λ (ns : List Name). before || sees ns other) none ∙ ap (λ b. before || b) (none_among other) ∙ or-false before)

@@ -1,5 +1,5 @@
 -- Constants that are added behind those of a theory.
-use Rattle.std.proofs.Common.{◌≡◌, ℕ, zero, suc, ◌≤◌, List, [], ◌∷◌, ◌++◌, take, length, slice_get, append_assoc, Some, refl, sym, ap, ◌∙◌, arith}
+use Rattle.std.proofs.Common.{◌≡◌, ℕ, suc, ◌≤◌, List, [], ◌∷◌, ◌++◌, take, length, slice_get, append_assoc, Some, sym, ap, ◌∙◌, arith}
 use Rattle.std.proofs.lemmas.List.Elements.{filter_map-append}
 use Rattle.list_laws.proofs.Lists.{rest_same}
 use Rattle.list_laws.proofs.Places.{take_more, take_take}
@@ -26,13 +26,3 @@ one_more here structure along before now after declarations i d there e f =
     let induce = induced_into here structure along in
     f ∙ ap (λ z. z ++ induce (d ∷ [])) e ∙ append_assoc before (induce (take i declarations)) (induce (d ∷ []))
     ∙ ap (λ z. before ++ z) (sym (filter_map-append (induced_by here structure along) (take i declarations) (d ∷ [])) ∙ ap induce (sym (take_more declarations i d there)))
-
-pub all_taken : {A : Type 0} (items : List A) (i : ℕ) → length items ≤ i → take i items ≡ items
-all_taken [] zero h = refl
-all_taken [] (suc i) h = refl
-all_taken (x ∷ items) zero h = absurd (omega (arith, h))
-all_taken (x ∷ items) (suc i) h = ap (λ z. x ∷ z) (all_taken items i (omega (arith, h)))
-
-pub append_none : {A : Type 0} (xs : List A) → xs ++ [] ≡ xs
-append_none [] = refl
-append_none (x ∷ xs) = ap (λ z. x ∷ z) (append_none xs)

@@ -2,7 +2,8 @@
 use Rattle.std.specs.Prelude.{◌||◌}
 use Rattle.std.specs.declared.boxed.Box.{Box}
 use Rattle.std.specs.declared.alloc.Global.{Global}
-use Rattle.std.proofs.Common.{◌≡◌, ℕ, suc, ◌+◌, Bool, true, false, List, [], ◌∷◌, drop, refl, sym, ap, ◌∙◌}
+use Rattle.std.proofs.Common.{◌≡◌, ℕ, suc, ◌+◌, false, List, [], ◌∷◌, drop, sym, ap, ◌∙◌}
+use Rattle.std.proofs.Math.Bool.{or-false, or_assoc}
 use Rattle.lf_meaning.specs.Terms.{Object, Atomic, App, AtomicFamily, FamilyCon, FamilyApp, apply_all, family_apply_all}
 use Rattle.printing_meaning.specs.PrintedTerms.{object_uses, atomic_uses, family_uses, atomic_family_uses, kind_uses}
 use Rattle.base_types.specs.declared.qname.QName.{QName}
@@ -18,19 +19,11 @@ use Rattle.term_trees.specs.Readings.{read_constant, read_head, read_object, rea
 use Rattle.term_trees.proofs.ReadingEquations.{read_object_lam, read_object_at, read_family_pi, read_family_at, read_kind_ty, read_kind_pi}
 use Rattle.term_text.specs.Arguments.{arguments_use}
 
-or_false : (b : Bool) → (b || false) ≡ b
-or_false true = refl
-or_false false = refl
-
-or_grouped : (a b c : Bool) → ((a || b) || c) ≡ (a || (b || c))
-or_grouped true b c = refl
-or_grouped false b c = refl
-
 module _ (variable : ℕ) where
   applied : (r : Atomic) (ms : List Object) → atomic_uses variable (apply_all r ms) ≡ (atomic_uses variable r || arguments_use variable ms)
   unfolding object_uses
-  applied r [] = sym (or_false (atomic_uses variable r))
-  applied r (m ∷ ms) = applied (App r m) ms ∙ or_grouped (atomic_uses variable r) (object_uses variable m) (arguments_use variable ms)
+  applied r [] = sym (or-false (atomic_uses variable r))
+  applied r (m ∷ ms) = applied (App r m) ms ∙ or_assoc (atomic_uses variable r) (object_uses variable m) (arguments_use variable ms)
 
   pub lambda_uses : (t : Obj) (m : Box Obj Global) → t ≡ objs.Lam m → object_uses variable (read_object t) ≡ object_uses (suc variable) (read_object m.value)
   unfolding object_uses
@@ -42,8 +35,8 @@ module _ (variable : ℕ) where
 
   family_applied : (p : AtomicFamily) (ms : List Object) → atomic_family_uses variable (family_apply_all p ms) ≡ (atomic_family_uses variable p || arguments_use variable ms)
   unfolding family_uses
-  family_applied p [] = sym (or_false (atomic_family_uses variable p))
-  family_applied p (m ∷ ms) = family_applied (FamilyApp p m) ms ∙ or_grouped (atomic_family_uses variable p) (object_uses variable m) (arguments_use variable ms)
+  family_applied p [] = sym (or-false (atomic_family_uses variable p))
+  family_applied p (m ∷ ms) = family_applied (FamilyApp p m) ms ∙ or_assoc (atomic_family_uses variable p) (object_uses variable m) (arguments_use variable ms)
 
   pub pi_uses : (t : Fam) (a b : Box Fam Global) → t ≡ fams.Pi a b → family_uses variable (read_family t) ≡ (family_uses variable (read_family a.value) || family_uses (suc variable) (read_family b.value))
   unfolding family_uses

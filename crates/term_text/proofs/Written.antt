@@ -23,10 +23,6 @@ use Rattle.term_trees.proofs.ReadingEquations.{read_object_lam, read_object_at, 
 use Rattle.term_text.specs.Arguments.{argument_text, arguments_text}
 use Rattle.term_text.specs.Products.{front_text, back_text}
 
--- two pieces that are written one after another
-pub written_then : (o x y : List ℕ) {p q : List ℕ} → p ≡ o ++ x → q ≡ p ++ y → q ≡ o ++ (x ++ y)
-written_then o x y e h = h ∙ ap (λ z. z ++ y) e ∙ append_assoc o x y
-
 -- ---- a head alone
 
 applied_is_no_head : (r : Atomic) (m : Object) (ms : List Object) → is_head (At (apply_all (App r m) ms)) ≡ false

@@ -1,6 +1,7 @@
 -- The text of an expression, from those of its parts.
 use Rattle.std.proofs.Common.{◌≡◌, ℕ, ◌+◌, ◌<◌, Bool, true, false, ◌&&◌, ◌||◌, List, [], ◌∷◌, ◌++◌, take, length, slice_index_or, codes, refl, sym, ap, ◌∙◌, append_assoc, append-nil, map, fold, arith}
 use Rattle.std.specs.Prelude.{if◌then◌else◌}
+use Rattle.list_laws.proofs.Lists.{written_then}
 use Rattle.name_meaning.specs.Names.{Path}
 use Rattle.text_meaning.specs.Tokens.{spelled, dotted}
 use Rattle.text_meaning.specs.Trees as trees
@@ -17,10 +18,6 @@ use Rattle.print_laws.proofs.LaidOut.{text_append}
 use Rattle.twelf_print.specs.Places.{opening, closing, inner_gap, inner_free}
 
 -- ---- pieces that are written one after another
-
--- a second piece behind a first
-pub written_then : (o xs ys : List ℕ) {p q : List ℕ} → p ≡ o ++ xs → q ≡ p ++ ys → q ≡ o ++ (xs ++ ys)
-written_then o xs ys e f = f ∙ ap (λ t. t ++ ys) e ∙ append_assoc o xs ys
 
 -- the text of one item with more behind it
 pub item_then : (i : Item) (items : List Item) → text_of (i ∷ items) ≡ (i.bytes ++ i.gap) ++ text_of items

@@ -1,6 +1,6 @@
 -- What is told of a name, by its stage.
-use Rattle.std.proofs.Common.{◌≡◌, ℕ, zero, suc, ◌≤◌, length, arith, Bool, true, false, not, List, [], ◌∷◌, ◌++◌, map, filter, take, slice_get, Option, Some, None, option_map, is_some, cond, ◌&&◌, refl, sym, ap, ◌∙◌, subst, true≢false, append-nil}
-use Rattle.std.proofs.lemmas.Bool.{and_parts, and_from, not-true, or_left, or_right, or_from}
+use Rattle.std.proofs.Common.{◌≡◌, ℕ, suc, Bool, true, false, not, List, [], ◌∷◌, ◌++◌, map, filter, take, slice_get, Option, Some, None, option_map, is_some, cond, ◌&&◌, refl, sym, ap, ◌∙◌, subst, true≢false, append-nil}
+use Rattle.std.proofs.lemmas.Bool.{and_parts, and_from, not-true, or_left, or_right, or_from, and_left, and_right}
 use Rattle.std.proofs.lemmas.List.{map-append}
 use Rattle.std.proofs.lemmas.List.Elements.{filter-append}
 use Rattle.name_meaning.specs.Names.{Name, is_among, is_ascending}
@@ -37,14 +37,6 @@ ungrounded_not D L n h = by (is_present L n) (is_ungrounded D L n) h
     by true true q = refl
     by true false q = absurd (true≢false (sym q))
     by false b q = refl
-
-and_first_not : (a b : Bool) → a ≡ false → (a && b) ≡ false
-and_first_not true b h = absurd (true≢false h)
-and_first_not false b h = refl
-
-and_second_not : (a b : Bool) → b ≡ false → (a && b) ≡ false
-and_second_not true b h = h
-and_second_not false b h = refl
 
 module _ {Answer Meaning : Type 0} (subject : Subject Meaning) (meaning : Answer → Meaning) (H : History) (l : IsLegal subject.dependencies H) where
   abbrev D : Dependencies
@@ -124,10 +116,10 @@ module _ {Answer Meaning : Type 0} (subject : Subject Meaning) (meaning : Answer
     standing_stage n (Cyclic b) inputs k h = absurd (cc)
 
     not_standing : (n : Name) (stage : Stage Answer) → IsStage subject meaning H n stage → standing_in stage ≡ None → (is_grounded D L n && stands D H n) ≡ false
-    not_standing n Waiting k h = and_second_not (is_grounded D L n) (stands D H n) k.stands_not
-    not_standing n (Claimed c inputs) k h = and_second_not (is_grounded D L n) (stands D H n) (current_stands_not D H l n c k.current)
+    not_standing n Waiting k h = and_right (is_grounded D L n) (stands D H n) k.stands_not
+    not_standing n (Claimed c inputs) k h = and_right (is_grounded D L n) (stands D H n) (current_stands_not D H l n c k.current)
     not_standing n (Standing b inputs) k h = absurd (cc)
-    not_standing n (Cyclic b) k h = and_first_not (is_grounded D L n) (stands D H n) (ungrounded_not D L n k.ungrounded)
+    not_standing n (Cyclic b) k h = and_left (is_grounded D L n) (stands D H n) (ungrounded_not D L n k.ungrounded)
 
     module _ (n : Name) (stage : Stage Answer) (inputs : List Name) (h : row_of stages n ≡ Some stage) (e : standing_in stage ≡ Some inputs) where
       pub inputs_reached : inputs ≡ reach D L n
@@ -148,7 +140,7 @@ module _ {Answer Meaning : Type 0} (subject : Subject Meaning) (meaning : Answer
     unfolding answers_reply
     answers_of_absent n h =
         sym (ap (λ (b : Bool). cond b (Some (answers_of subject L n)) None)
-        (and_first_not (is_grounded D L n) (stands D H n) (ap (λ (b : Bool). b && not (is_ungrounded D L n)) (absent_row n h))))
+        (and_left (is_grounded D L n) (stands D H n) (ap (λ (b : Bool). b && not (is_ungrounded D L n)) (absent_row n h))))
 
     pub answers_not_told : (n : Name) (stage : Stage Answer) → row_of stages n ≡ Some stage → standing_in stage ≡ None → None ≡ answers_reply subject H n
     unfolding answers_reply
@@ -189,9 +181,3 @@ module _ {Answer Meaning : Type 0} (meaning : Answer → Meaning) (f : Name → 
   answers_table i answers t a =
       ap is_ascending (sym (names_read meaning answers) ∙ ap row_names a ∙ names_mapped f (filter p (take i reached)))
       ∙ ascending_filtered p (take i reached) (ascending_front reached i t)
-
-pub all_taken : {A : Type 0} (xs : List A) (i : ℕ) → length xs ≤ i → take i xs ≡ xs
-all_taken [] zero h = refl
-all_taken [] (suc i) h = refl
-all_taken (x ∷ xs) zero h = absurd (omega (arith, h))
-all_taken (x ∷ xs) (suc i) h = ap (λ z. x ∷ z) (all_taken xs i (omega (arith, h)))

@@ -7,6 +7,7 @@ use Rattle.std.proofs.lemmas.List.Folds.{list_any-append}
 use Rattle.std.proofs.lemmas.List.Elements.{filter-append}
 use Rattle.name_meaning.specs.Names.{Name}
 use Rattle.list_laws.proofs.Members.{Member, in_option}
+use Rattle.list_laws.proofs.Options.{some_of}
 use Rattle.walk_laws.proofs.Walking.{filter_shorter, filter_within}
 use Rattle.board_meaning.specs.Events.{Entry, History}
 use Rattle.board_meaning.specs.Claims.{claimed_name, claim_at, claims_from, ends_claim, is_ended, is_open, open_claims}
@@ -16,10 +17,6 @@ use Rattle.board_machine_laws.proofs.Claiming.{claim_entry, claim_front}
 use Rattle.board_machine_laws.proofs.Earlier.{claims_in}
 use Rattle.board_laws.proofs.Following.{installed_last}
 use Rattle.verdict_board.proofs.Currents.{open_parts, open_from, ended_more}
-
-some_of : {A : Type 0} (o : Option A) → is_some o ≡ true → (x : A) × (o ≡ Some x)
-some_of None h = absurd (true≢false (sym h))
-some_of (Some x) h = (x, refl)
 
 pub closed_more : (H : History) (e : Entry) → is_closed (H ++ e ∷ []) ≡ (is_closed H || is_close e.event)
 unfolding is_closed

@@ -6,7 +6,8 @@ use Rattle.answer_meaning.specs.Answers.{◌>>=◌}
 use Rattle.link_meaning.specs.Passes.{map_all}
 use Rattle.term_trees.specs.Readings.{read_declaration, read_map, read_signature}
 use Rattle.morphism.specs.Readings.{read_all_assigned, read_setting}
-use Rattle.link_passes.proofs.Chained.{first_stays, same_fault}
+use Rattle.link_passes.proofs.Chained.{same_fault}
+use Rattle.morphism.proofs.FirstRefusals.{refuses_then}
 use Rattle.link_passes.proofs.Imaging.{image_at, no_more}
 use Rattle.link_passes.proofs.images.add_images.Goals as goal
 use Rattle.link_passes.proofs.images.add_images.Goals.{in-Some+in_ok-add_image, in_default}
@@ -21,7 +22,7 @@ returns-in_err-add_image c =
     let there : slice_get own i ≡ Some d = sym c.in-Some.ensures.meaning in
     let whole = sym c.loop-index.invariant ∙ image_at setting assigned (read_map c.loop-index.along) own i d there (c.requires i d there) in
     let p = err_from_is_err_and c.from_residual.result c.from_residual.ensures.1 in
-    rw (p.1, p.2) (same_fault c.in_err-add_image.field-0.0 _ _ whole (first_stays c.in_err-add_image.field-0.0 _ (λ along. map_all setting assigned along (drop (suc i) own)) c.in_err-add_image.ensures))
+    rw (p.1, p.2) (same_fault c.in_err-add_image.field-0.0 _ _ whole (refuses_then c.in_err-add_image.field-0.0 _ (λ along. map_all setting assigned along (drop (suc i) own)) c.in_err-add_image.ensures))
 
 pub loop-index-preserved : goal.loop-index-preserved
 loop-index-preserved c =

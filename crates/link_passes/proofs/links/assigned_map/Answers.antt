@@ -3,7 +3,8 @@ use Rattle.term_trees.specs.Readings.{read_map}
 use Rattle.link_laws.specs.CoveringLaws.{later_passes}
 use Rattle.link_laws.proofs.CoveringMaps.{links_begin_with_coverings}
 use Rattle.morphism.specs.Readings.{read_all_assigned, read_setting}
-use Rattle.link_passes.proofs.Chained.{first_stays, same_fault, goes_on, same_answer}
+use Rattle.link_passes.proofs.Chained.{same_fault, goes_on, same_answer}
+use Rattle.morphism.proofs.FirstRefusals.{refuses_then}
 use Rattle.link_passes.proofs.links.assigned_map.Goals as goal
 
 pub returns-in_err-front : goal.returns-in_err-front
@@ -11,7 +12,7 @@ returns-in_err-front c =
     let setting = read_setting c.args.setting.now in
     let assigned = read_all_assigned c.args.assigned.now in
     let p = err_from_is_err_and c.from_residual.result c.from_residual.ensures.1 in
-    rw (p.1, p.2) (same_fault c.in_err-front.field-0.0 _ _ (links_begin_with_coverings setting assigned c.requires) (first_stays c.in_err-front.field-0.0 _ (later_passes setting assigned) c.in_err-front.ensures))
+    rw (p.1, p.2) (same_fault c.in_err-front.field-0.0 _ _ (links_begin_with_coverings setting assigned c.requires) (refuses_then c.in_err-front.field-0.0 _ (later_passes setting assigned) c.in_err-front.ensures))
 
 pub returns : goal.returns
 returns c =

@@ -4,7 +4,8 @@ use Rattle.link_meaning.specs.Passes.{assigned_map}
 use Rattle.term_trees.specs.Readings.{read_map}
 use Rattle.mmt_syntax.specs.Readings.{read_assigns}
 use Rattle.morphism.specs.Readings.{read_all_assigned, read_setting}
-use Rattle.link_passes.proofs.Chained.{first_stays, same_fault, goes_on, same_answer, map_is}
+use Rattle.link_passes.proofs.Chained.{same_fault, goes_on, same_answer, map_is}
+use Rattle.morphism.proofs.FirstRefusals.{refuses_then}
 use Rattle.link_passes.proofs.links.link_map.Goals as goal
 
 pub returns-in_err-assigned : goal.returns-in_err-assigned
@@ -12,7 +13,7 @@ returns-in_err-assigned c =
     let setting = read_setting c.args.setting.now in
     let assigns = read_assigns c.args.assigns.now in
     let p = err_from_is_err_and c.from_residual.result c.from_residual.ensures.1 in
-    rw (p.1, p.2) (same_fault c.in_err-assigned.field-0.0 _ _ (map_is setting assigns) (first_stays c.in_err-assigned.field-0.0 _ (assigned_map setting) c.in_err-assigned.ensures))
+    rw (p.1, p.2) (same_fault c.in_err-assigned.field-0.0 _ _ (map_is setting assigns) (refuses_then c.in_err-assigned.field-0.0 _ (assigned_map setting) c.in_err-assigned.ensures))
 
 pub returns : goal.returns
 returns c =

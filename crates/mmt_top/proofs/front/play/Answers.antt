@@ -6,7 +6,8 @@ use Rattle.run_status.specs.declared.status.Status.{Status}
 use Rattle.mmt_top.specs.Session.{TurnTells}
 use Rattle.mmt_outside.proofs.Bytes.{preceded-nil}
 use Rattle.mmt_top.proofs.Sessions.{ended_whole, start, played_more, played_end, played_done, played_start}
-use Rattle.mmt_top.proofs.Led.{empty_front, empty_legal}
+use Rattle.mmt_top.proofs.Led.{empty_legal}
+use Rattle.generator_front.proofs.GivenEdits.{empty_front}
 use Rattle.mmt_top.proofs.front.play.Goals as goal
 
 pub returns-in-Some-turn-clause-ends : goal.returns-in-Some-turn-clause-ends

@@ -1,4 +1,5 @@
 use Rattle.std.proofs.Common.{◌≡◌, ◌+◌, suc, not, List, Some, filter, map, slice_get, sym, ap, ◌∙◌, arith}
+use Rattle.std.proofs.lemmas.List.{take_all}
 use Rattle.std.proofs.lemmas.Option.{slice_get-get_or}
 use Rattle.name_meaning.specs.Names.{Name, same_name, is_ascending}
 use Rattle.log_meaning.specs.Log.{library_of}
@@ -8,7 +9,7 @@ use Rattle.walk_meaning.specs.Subject.{present_answer, answers_of}
 use Rattle.text_meaning.specs.Dependencies.{dependencies}
 use Rattle.verdict_meaning.specs.Rounds.{modules}
 use Rattle.mmt_interface.specs.Readings.{read_verdict}
-use Rattle.verdict_board.proofs.Reports.{answers_more, answers_table, all_taken}
+use Rattle.verdict_board.proofs.Reports.{answers_more, answers_table}
 use Rattle.module_check.proofs.known_answers.known_answers.Goals as goal
 
 pub push-requires : goal.push-requires
@@ -41,4 +42,4 @@ returns c =
     let past = c.loop-other-test.false in
     c.loop-other.invariant
     ∙ ap (λ (xs : List Name). map (λ (other : Name). (other, f other)) (filter p xs))
-    (all_taken c.as_slice-other-items.result.now c.loop-other.other-index (omega (arith, past)) ∙ c.as_slice-other-items.ensures ∙ c.in_ok-reached.ensures ∙ graph_reaches c.args.graph.now dependencies L c.requires.holds c.args.name.now)
+    (take_all c.loop-other.other-index c.as_slice-other-items.result.now (omega (arith, past)) ∙ c.as_slice-other-items.ensures ∙ c.in_ok-reached.ensures ∙ graph_reaches c.args.graph.now dependencies L c.requires.holds c.args.name.now)

@@ -1,10 +1,11 @@
 use Rattle.std.proofs.Common.{◌≡◌, ℕ, Bool, true, false, List, [], ◌∷◌, ◌++◌, filter, slice_get, Some, sym, ap, ◌∙◌, arith}
+use Rattle.std.proofs.lemmas.List.{take_all}
 use Rattle.name_meaning.specs.Names.{Name}
 use Rattle.name_meaning.specs.Rows.{row_names}
 use Rattle.walk_meaning.specs.Walks.{is_grounded}
 use Rattle.walk_meaning.specs.Graphs.{Graph, row_dependencies, row_library, graph_grounded}
 use Rattle.module_graph.specs.Peeling.{TellsGrounded}
-use Rattle.module_graph.proofs.Writes.{item_read, item_at, filter_more, take_past_end}
+use Rattle.module_graph.proofs.Writes.{item_read, item_at, filter_more}
 use Rattle.module_graph.proofs.Peeled.{names_long}
 use Rattle.module_graph.proofs.grounding.grounded.Goals as goal
 use Rattle.module_graph.proofs.grounding.grounded.Goals.{then-index+in_ok-copy+in_ok-push, else-index}
@@ -40,4 +41,4 @@ returns c =
     let count = c.len-place-end.ensures.len in
     let test = c.loop-place-test.false in
     let long = names_long c.args.graph.now in
-    c.from_vec.ensures ∙ c.loop-place.invariant ∙ ap (filter (is_grounded (row_dependencies c.args.graph.now) (row_library c.args.graph.now))) (take_past_end (row_names c.args.graph.now) c.loop-place.place (omega (arith, count, test, long)))
+    c.from_vec.ensures ∙ c.loop-place.invariant ∙ ap (filter (is_grounded (row_dependencies c.args.graph.now) (row_library c.args.graph.now))) (take_all c.loop-place.place (row_names c.args.graph.now) (omega (arith, count, test, long)))

@@ -1,11 +1,12 @@
 use Rattle.std.proofs.Common.{◌≡◌, ◌∙◌, ◌||◌, ◌&&◌, Bool, true, false, List, take, sym, ap}
+use Rattle.std.proofs.Math.Bool.{or-false}
 use Rattle.std.proofs.lemmas.List.{take_all}
 use Rattle.name_meaning.specs.Names.{Name}
 use Rattle.library_meaning.specs.Closure.{sees}
 use Rattle.library_meaning.specs.Faces.{includes_of, theory_of}
 use Rattle.link_meaning.specs.Coverings.{identity_covers}
 use Rattle.morphism.specs.CoverTables.{assigned_of, is_below_identity, setting_of}
-use Rattle.morphism.proofs.NameTables.{none_among, or_none}
+use Rattle.morphism.proofs.NameTables.{none_among}
 use Rattle.morphism.proofs.AllCovered.{below_more}
 use Rattle.morphism.proofs.identity.below_identity.Goals as goal
 use Rattle.morphism.proofs.identity.below_identity.Goals.{then-identity_covers+in_ok-add_includes, else-identity_covers}
@@ -35,7 +36,7 @@ loop-theory-preserved c = λ theory.
           let not_covered : identity_covers setting assigned other ≡ false = sym c.identity_covers.ensures ∙ w.if-identity_covers.false in
           ap (λ z. sees z.keys theory) w.below-is
           ∙ c.loop-theory.invariant theory
-          ∙ sym (or_none before)
+          ∙ sym (or-false before)
           ∙ ap (λ b. before || (b && within)) (sym not_covered)
           ∙ sym more
     ]

@@ -1,12 +1,13 @@
 use Rattle.std.proofs.Common.{◌∙◌, ◌||◌, sym, ap, take}
+use Rattle.std.proofs.Math.Bool.{or-false, or_assoc}
 use Rattle.name_meaning.specs.Names.{same_name}
 use Rattle.library_meaning.specs.Closure.{sees}
 use Rattle.std.proofs.lemmas.List.{take_all}
-use Rattle.morphism.proofs.NameTables.{or_none, or_grouped, none_among, taken_among}
+use Rattle.morphism.proofs.NameTables.{none_among, taken_among}
 use Rattle.morphism.proofs.tables.add_all.Goals as goal
 
 pub loop-name-init : goal.loop-name-init
-loop-name-init c = λ other. sym (ap (λ b. sees c.args.table.now.keys other || b) (none_among other) ∙ or_none (sees c.args.table.now.keys other))
+loop-name-init c = λ other. sym (ap (λ b. sees c.args.table.now.keys other || b) (none_among other) ∙ or-false (sees c.args.table.now.keys other))
 
 pub loop-name-preserved : goal.loop-name-preserved
 loop-name-preserved c = λ other.
@@ -16,7 +17,7 @@ loop-name-preserved c = λ other.
     let before = sees c.args.table.now.keys other in
     c.in_ok-add.ensures other
     ∙ ap (λ b. b || same_name other name) (c.loop-name.invariant other)
-    ∙ or_grouped before (sees (take i names) other) (same_name other name)
+    ∙ or_assoc before (sees (take i names) other) (same_name other name)
     ∙ ap (λ b. before || b) (sym (taken_among names i name other c.loop-name-test.true c.name-item.is))
 
 pub returns : goal.returns

@@ -1,15 +1,15 @@
 use Rattle.std.proofs.Common.{◌≡◌, ◌≤◌, ◌+◌, suc, ◌++◌, take, length, Some, refl, sym, ap, ◌∙◌, arith}
 use Rattle.std.specs.Prelude.{slice_get}
-use Rattle.std.proofs.lemmas.List.{length-map}
+use Rattle.std.proofs.lemmas.List.{length-map, take_all, append-nil}
 use Rattle.std.proofs.Math.Seq.{take-length}
 use Rattle.term_trees.specs.Readings.{read_declaration, read_map, read_signature}
 use Rattle.struct_flatten.specs.Steps.{induced_into}
-use Rattle.struct_flatten.proofs.Adding.{front_of_front, one_more, all_taken, append_none}
+use Rattle.struct_flatten.proofs.Adding.{front_of_front, one_more}
 use Rattle.struct_flatten.proofs.induced.add_all.Goals as goal
 use Rattle.struct_flatten.proofs.induced.add_all.Goals.{in-Some+in_ok-add_one, in_default}
 
 pub loop-index-init : goal.loop-index-init
-loop-index-init c = (sym (append_none (read_signature c.args.own.now)), take-length c.args.own.now)
+loop-index-init c = (sym (append-nil (read_signature c.args.own.now)), take-length c.args.own.now)
 
 pub returns-in_err-add_one-clause-front : goal.returns-in_err-add_one-clause-front
 returns-in_err-add_one-clause-front c = front_of_front c.args.own.now c.loop-index.own _ c.loop-index.invariant.1 c.add_one.ensures.front
@@ -38,4 +38,4 @@ pub returns-clause-ok : goal.returns-clause-ok
 returns-clause-ok c =
     let declarations = read_signature c.args.declarations.now in
     let past : length declarations ≤ c.loop-index.index = omega (arith, length-map c.args.declarations.now read_declaration, c.len-index-end.ensures.len) in
-    c.loop-index.invariant.0 ∙ ap (λ ds. read_signature c.args.own.now ++ induced_into c.args.here.now c.args.face.now.name (read_map c.args.face.now.map) ds) (all_taken declarations c.loop-index.index past)
+    c.loop-index.invariant.0 ∙ ap (λ ds. read_signature c.args.own.now ++ induced_into c.args.here.now c.args.face.now.name (read_map c.args.face.now.map) ds) (take_all c.loop-index.index declarations past)

@@ -1,9 +1,9 @@
 use Rattle.std.proofs.Common.{◌∙◌, append_assoc, sym, ap, ◌++◌, ◌∷◌, [], take, slice_index_or}
 use Rattle.text_meaning.specs.Tokens.{dotted}
 use Rattle.std.proofs.lemmas.List.{append-nil, take_all}
+use Rattle.list_laws.proofs.Lists.{written_then}
 use Rattle.printing_meaning.specs.Constants.{path_text}
 use Rattle.term_text.proofs.Paths.{dotted_next, no_names, path_is}
-use Rattle.term_text.proofs.Written.{written_then}
 use Rattle.term_text.proofs.constants.path.Goals as goal
 
 pub loop-name-preserved : goal.loop-name-preserved

@@ -1,6 +1,7 @@
 use Rattle.std.proofs.Common.{◌∙◌, sym, ap, ◌++◌, ◌∷◌, [], take, slice_index_or}
+use Rattle.list_laws.proofs.Lists.{written_then}
 use Rattle.text_meaning.specs.Tokens.{dotted}
-use Rattle.twelf_print.proofs.Texts.{written_then, dotted_next}
+use Rattle.twelf_print.proofs.Texts.{dotted_next}
 use Rattle.twelf_print.proofs.paths.names.Goals as goal
 
 pub loop-name-preserved : goal.loop-name-preserved

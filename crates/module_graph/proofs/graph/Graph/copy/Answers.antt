@@ -4,7 +4,6 @@ use Rattle.name_meaning.specs.Rows.{IsTable}
 use Rattle.std.proofs.Common.{List}
 use Rattle.name_table.proofs.Fronts.{table_more}
 use Rattle.list_laws.proofs.Places.{take_more, take_length}
-use Rattle.module_graph.proofs.Writes.{take_past_end}
 use Rattle.module_graph.proofs.graph.Graph.copy.Goals as goal
 
 pub push-requires : goal.push-requires

@@ -1,11 +1,12 @@
 use Rattle.std.proofs.Common.{◌≡◌, ◌+◌, suc, not, List, Some, filter, map, length, slice_get, sym, ap, ◌∙◌, subst, arith}
+use Rattle.std.proofs.lemmas.List.{take_all}
 use Rattle.std.proofs.lemmas.Option.{slice_get-get_or}
 use Rattle.name_meaning.specs.Names.{Name, same_name, is_ascending}
 use Rattle.walk_laws.proofs.Reaching.{reach_ascending}
 use Rattle.walk_meaning.specs.Subject.{present_answer, answers_of}
 use Rattle.board_meaning.specs.Events.{library_after}
 use Rattle.list_laws.proofs.Members.{place_member}
-use Rattle.verdict_board.proofs.Reports.{answers_more, answers_table, all_taken}
+use Rattle.verdict_board.proofs.Reports.{answers_more, answers_table}
 use Rattle.verdict_board.proofs.board.Board.answers_among.Goals as goal
 
 pub answer_of-requires-after_bounds : goal.answer_of-requires-after_bounds
@@ -45,4 +46,4 @@ returns g c =
     let all = ap length c.as_slice-other-items.ensures in
     let past = c.loop-other-test.false in
     c.loop-other.invariant
-    ∙ ap (λ (xs : List Name). map (λ (other : Name). (other, f other)) (filter p xs)) (all_taken c.args.reached.now c.loop-other.other-index (omega (arith, all, past)) ∙ c.requires.reached)
+    ∙ ap (λ (xs : List Name). map (λ (other : Name). (other, f other)) (filter p xs)) (take_all c.loop-other.other-index c.args.reached.now (omega (arith, all, past)) ∙ c.requires.reached)

@@ -1,4 +1,5 @@
-use Rattle.std.proofs.Common.{◌≡◌, ◌&&◌, true, false, suc, ◌+◌, Bool, refl, sym, ◌∙◌, arith, true≢false}
+use Rattle.std.proofs.Common.{◌≡◌, true, false, suc, ◌+◌, sym, ◌∙◌, arith}
+use Rattle.std.proofs.lemmas.Bool.{and_left, and_right}
 use Rattle.name_laws.proofs.Rows.{row_at}
 use Rattle.board_meaning.specs.Ready.{dependencies_stand}
 use Rattle.verdict_board.specs.Stages.{is_waiting}
@@ -6,14 +7,6 @@ use Rattle.verdict_board.proofs.Reports.{present_row}
 use Rattle.verdict_board.proofs.Ready.{closed_unready, ready_next, least_found, none_ready}
 use Rattle.verdict_board.proofs.board.Board.least_ready.Goals as goal
 use Rattle.verdict_board.proofs.board.Board.least_ready.Goals.{else-is_waiting-via-then-is_waiting+else-rests, else-is_waiting-via-else-is_waiting}
-
-first_not : (a b : Bool) → a ≡ false → (a && b) ≡ false
-first_not true b h = absurd (true≢false h)
-first_not false b h = refl
-
-second_not : (a b : Bool) → b ≡ false → (a && b) ≡ false
-second_not true b h = h
-second_not false b h = refl
 
 pub returns-then-self : goal.returns-then-self
 returns-then-self g c =
@@ -36,8 +29,8 @@ loop-place-preserved g c =
     c.len-place-end.ensures.ordered (sym c.self.invariant.closed_is ∙ c.if-self.false) c.row_at.ensures in
     rw one (next
     (elim c.else-is_waiting.branch [
-      | else-is_waiting-via-then-is_waiting+else-rests w ↦ second_not (is_waiting c.row_at.result.1.now) (dependencies_stand g.S.Subject.subject.dependencies c.self.inside.history.entries c.row_at.result.0.now) (rw c.self.view_is (sym w.rests.ensures ∙ w.if-rests.false))
-      | else-is_waiting-via-else-is_waiting w ↦ first_not (is_waiting c.row_at.result.1.now) (dependencies_stand g.S.Subject.subject.dependencies c.self.inside.history.entries c.row_at.result.0.now) (sym c.is_waiting.ensures ∙ w.if-is_waiting.false)
+      | else-is_waiting-via-then-is_waiting+else-rests w ↦ and_right (is_waiting c.row_at.result.1.now) (dependencies_stand g.S.Subject.subject.dependencies c.self.inside.history.entries c.row_at.result.0.now) (rw c.self.view_is (sym w.rests.ensures ∙ w.if-rests.false))
+      | else-is_waiting-via-else-is_waiting w ↦ and_left (is_waiting c.row_at.result.1.now) (dependencies_stand g.S.Subject.subject.dependencies c.self.inside.history.entries c.row_at.result.0.now) (sym c.is_waiting.ensures ∙ w.if-is_waiting.false)
     ]) c.loop-place.invariant)
 
 pub returns : goal.returns

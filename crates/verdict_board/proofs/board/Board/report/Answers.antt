@@ -1,13 +1,9 @@
-use Rattle.std.proofs.Common.{sym, ap, ◌∙◌, length, Result, Ok, Err}
+use Rattle.std.proofs.Common.{sym, ap, ◌∙◌, length}
 use Rattle.std.specs.Option.{option_copied}
-use Rattle.std.specs.Result.{OnErr}
+use Rattle.list_laws.proofs.Answers.{on_err}
 use Rattle.board_meaning.specs.Points.{is_verdict}
 use Rattle.verdict_board.proofs.Reports.{told_absent, told_verdict, told_pending}
 use Rattle.verdict_board.proofs.board.Board.report.Goals as goal
-
-on_err : {A E : Type 0} {P : Type 0} (r : Result A E) → P → OnErr r P
-on_err (Ok x) p = tt
-on_err (Err e) p = p
 
 pub returns-in_default-clause-told : goal.returns-in_default-clause-told
 returns-in_default-clause-told g c =

@@ -1,5 +1,5 @@
 use Rattle.std.proofs.Common.{◌≡◌, ◌+◌, suc, List, ⊎_elim, refl, sym, ap, ◌∙◌, subst, arith}
-use Rattle.std.proofs.lemmas.List.{length-map}
+use Rattle.std.proofs.lemmas.List.{length-map, take_all}
 use Rattle.name_meaning.specs.Names.{Name}
 use Rattle.name_meaning.specs.Rows.{row_names, row_of}
 use Rattle.log_meaning.specs.Log.{names_of}
@@ -8,7 +8,6 @@ use Rattle.walk_meaning.specs.Graphs.{HoldsDependencies}
 use Rattle.board_meaning.specs.Events.{log_of, library_after, version_after}
 use Rattle.edit_log.specs.Readings.{read_edit}
 use Rattle.verdict_board.specs.Stages.{IsStage, after_edit_of}
-use Rattle.verdict_board.proofs.Reports.{all_taken}
 use Rattle.verdict_board.proofs.Edits.{library_edited}
 use Rattle.verdict_board.proofs.EditSteps.{known_sorted, at_grounded, at_ungrounded, bad_listed, row_last, names_more, more_table}
 use Rattle.verdict_board.proofs.board.Board.stages_after.Goals as goal
@@ -86,6 +85,6 @@ returns g c =
     let long = c.len-place-end.ensures.len in
     let named = length-map c.args.graph.now (λ (row : Name × List Name). row.0) in
     record {
-      names = c.loop-place.invariant.names ∙ all_taken (row_names c.args.graph.now) c.loop-place.place (omega (arith, past, long, named)) ∙ c.requires.holds.names ∙ ap names_of (sym lib);
+      names = c.loop-place.invariant.names ∙ take_all c.loop-place.place (row_names c.args.graph.now) (omega (arith, past, long, named)) ∙ c.requires.holds.names ∙ ap names_of (sym lib);
       staged = c.loop-place.invariant.staged;
     }
