@@ -2,13 +2,12 @@
 ghost use Rattle.std.specs.Prelude.{◌≡◌, ◌∷◌, [], MatchOption};
 ghost use Rattle.std.specs.Iterator.{YieldsFirstBy, item_count};
 ghost use Rattle.mmt_syntax.specs.Readings.{read_assign, read_module, read_words, read_written};
-ghost use Rattle.text_meaning.specs.Trees as trees;
 ghost use Rattle.text_meaning.specs.Dependencies.{is_own_word};
 ghost use Rattle.mmt_syntax.specs.Dependencies as meaning;
 ghost use Rattle.mmt_syntax.specs.DependenciesLeft as leaving;
 ghost use Rattle.mmt_syntax.specs.DependenciesLeft.{item_dependency, left, left_of_links, own_name};
 
-use crate::{Assign, Decl, Module, Written};
+use crate::{Assign, Decl, Module, Written, first_name};
 use lf_terms::{Name, Span};
 
 /// The words of assignments, but for those about structures of the theory itself.
@@ -64,12 +63,6 @@ fn all_deps(module: &Module) -> DepIter<'_>
             decls: &[],
         },
     }
-}
-
-fn first_name(written: &Written) -> &Name
-    ensures { result.now ≡ trees.first_name written.now.path }
-{
-    &written.path.as_slice()[0]
 }
 
 /// Whether a word is about a structure of the theory itself.

@@ -21,4 +21,4 @@ pub use module::{Judgement, Module, ViewDecl};
 pub use morph::Morph;
 pub use origin::{Origin, Origins};
 pub use place::{Place, place_of};
-pub use written::{Words, Written};
+pub use written::{Words, Written, first_name};

@@ -12,8 +12,7 @@ ghost use Rattle.module_check.specs.Mentions.{first_among, read_mention};
 
 use crate::search::contains;
 use lf_terms::{Name, Names, Path};
-use mmt_syntax::{Assign, Decl, Module, Written};
-use module_verdicts::first_name;
+use mmt_syntax::{Assign, Decl, Module, Written, first_name};
 
 /// A written path that begins with the name of a module, and the label of what it stands in: a path, behind the name of a
 /// structure if it is in one.

@@ -12,12 +12,11 @@ ghost use Rattle.morphism.specs.Answers.{Links};
 ghost use Rattle.module_verdicts.specs.Steps.{constant_answer, with_declaration};
 
 use crate::fault::labelled;
-use crate::modules::first_name;
 use crate::used::own_name;
 use elaborate::{elab_class, elab_value};
 use lf_terms::{Class, FlatDecl, Memory, Name, Path, Value};
 use mmt_interface::TheoryFace;
-use mmt_syntax::{Expr, Written};
+use mmt_syntax::{Expr, Written, first_name};
 use morphism::LinkFault;
 use names::Scope;
 use std::alloc::Global;

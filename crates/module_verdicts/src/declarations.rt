@@ -11,11 +11,10 @@ ghost use Rattle.module_verdicts.specs.Answers.{Declares};
 
 use crate::constants::{add, constant};
 use crate::known::module_test;
-use crate::modules::first_name;
 use crate::used::unused_test;
 use include_closure::add as include;
 use mmt_interface::{Faces, TheoryFace};
-use mmt_syntax::{Decl, Expr, StructDecl, Written};
+use mmt_syntax::{Decl, Expr, StructDecl, Written, first_name};
 use morphism::LinkFault;
 use names::Scope;
 use std::alloc::Global;

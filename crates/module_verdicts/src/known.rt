@@ -5,10 +5,9 @@ ghost use Rattle.mmt_interface.specs.Readings.{environment_of, read_theory};
 ghost use Rattle.morphism.specs.Answers.{Links};
 
 use crate::fault::refused;
-use crate::modules::first_name;
 use lf_terms::Path;
 use mmt_interface::{Faces, Interface, Rule, TheoryFace, Verdict};
-use mmt_syntax::Written;
+use mmt_syntax::{Written, first_name};
 use morphism::LinkFault;
 use std::alloc::Global;
 

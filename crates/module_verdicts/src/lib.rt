@@ -11,4 +11,4 @@ mod sizes;
 mod used;
 
 pub use fault::refused;
-pub use modules::{first_name, tested, written_name};
+pub use modules::{tested, written_name};

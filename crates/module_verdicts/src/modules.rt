@@ -16,17 +16,10 @@ use crate::known::module_test;
 use crate::sizes::size;
 use lf_terms::{FlatSig, Memory, Name, Names};
 use mmt_interface::{Faces, Interface, Rule, Structs, TheoryFace, ViewFace};
-use mmt_syntax::{Decls, Module, ViewDecl, Written};
+use mmt_syntax::{Decls, Module, ViewDecl, Written, first_name};
 use morphism::LinkFault;
 use std::alloc::Global;
 use view_check::check_view;
-
-/// The first name of a written path.
-pub fn first_name(written: &Written) -> &Name
-    ensures { result.now ≡ trees.first_name written.now.path }
-{
-    &written.path.as_slice()[0]
-}
 
 /// The name with which a module is written.
 pub fn written_name(module: &Module) -> &Written

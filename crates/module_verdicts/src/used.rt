@@ -9,10 +9,9 @@ ghost use Rattle.mmt_interface.specs.Readings.{read_structures, read_theory};
 ghost use Rattle.module_verdicts.specs.Answers.{IsNamed, Passes};
 
 use crate::fault::refused;
-use crate::modules::first_name;
 use lf_terms::{Memory, Name, Path, QName};
 use mmt_interface::{Rule, StructFace, TheoryFace};
-use mmt_syntax::Written;
+use mmt_syntax::{Written, first_name};
 use morphism::LinkFault;
 use std::alloc::Global;
 

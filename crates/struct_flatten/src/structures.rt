@@ -15,10 +15,10 @@ ghost use Rattle.struct_flatten.specs.Answers.{setting_of, Flattens, HasStructur
 ghost use Rattle.struct_flatten.specs.Steps.{with_face, IsBegunFrom};
 
 use crate::induced::add_induced;
-use lf_terms::{HeadMap, Memory, Name};
+use lf_terms::{HeadMap, Memory};
 use link_passes::link_map;
 use mmt_interface::{Faces, StructFace, TheoryFace};
-use mmt_syntax::{StructDecl, Written};
+use mmt_syntax::{StructDecl, first_name};
 use morphism::{LinkFault, Setting};
 use names::Scope;
 use std::alloc::Global;
@@ -110,11 +110,4 @@ fn add_parts(
 {
     add_induced(alloc, faces, &here.name, &face, &mut here.own)?;
     here.structs.add(face)
-}
-
-/// The first name of a written path.
-fn first_name(written: &Written) -> &Name
-    ensures { result.now ≡ first_name written.now.path }
-{
-    &written.path.as_slice()[0]
 }

@@ -13,10 +13,10 @@ ghost use Rattle.mmt_interface.specs.Readings.{environment_of, read_view};
 ghost use Rattle.morphism.specs.Answers.{Links, RefusesNothing};
 ghost use Rattle.view_check.specs.Answers.{face_with, setting_of};
 
-use lf_terms::{HeadMap, Name};
+use lf_terms::HeadMap;
 use link_passes::link_map;
 use mmt_interface::{Faces, ViewFace};
-use mmt_syntax::{ViewDecl, Written};
+use mmt_syntax::{ViewDecl, first_name};
 use morphism::{LinkFault, Setting};
 use names::Scope;
 use std::alloc::Global;
@@ -62,11 +62,4 @@ fn map_of<'a>(alloc: Global, faces: &'a Faces, view: &'a ViewDecl) -> Result<Hea
         at: &view.name,
     };
     link_map(alloc, &setting, &view.assigns)
-}
-
-/// The first name of a written path.
-fn first_name(written: &Written) -> &Name
-    ensures { result.now ≡ first_name written.now.path }
-{
-    &written.path.as_slice()[0]
 }
