@@ -1,11 +1,10 @@
 -- Tables of texts as libraries, and tables of stamps.
 use Rattle.std.proofs.Common.{◌≡◌, ℕ, suc, Bool, true, false, not, cond, List, [], ◌∷◌, ◌++◌, length, Option, Some, unwrap_or, refl, sym, ap, ◌∙◌}
 use Rattle.std.specs.Map.{lookup}
-use Rattle.std.specs.Cmp.{both_ways}
 use Rattle.name_meaning.specs.Names.{Name, Text, same_name, comes_before}
 use Rattle.log_meaning.specs.Log.{Edit, edited_name, Log, Module, names_of, with_module, without_module, text_of, version_of, stamp_of}
 use Rattle.name_meaning.specs.Rows.{Rows, row_names, row_of, with_row, without_row}
-use Rattle.name_laws.proofs.Order.{same_sound, same_of}
+use Rattle.name_laws.proofs.Contained.{same_other_way}
 use Rattle.log_laws.proofs.Libraries.{stamp_after_last}
 use Rattle.edit_log.specs.Readings.{read_library}
 use Rattle.edit_log.specs.Keeping.{stamp_in}
@@ -49,9 +48,6 @@ pub length_read : (rows : Rows Text) → length (read_library rows) ≡ length r
 length_read [] = refl
 length_read (o ∷ rows) = ap suc (length_read rows)
 
-same_either_way : (n m : Name) → same_name n m ≡ same_name m n
-same_either_way n m = both_ways (same_name n m) (same_name m n) (λ e. same_of m n (sym (same_sound n m e))) (λ e. same_of n m (sym (same_sound m n e)))
-
 unwrapped : (b : Bool) (v : ℕ) (old : Option ℕ) → unwrap_or (cond b (Some v) old) 0 ≡ cond b v (unwrap_or old 0)
 unwrapped true v old = refl
 unwrapped false v old = refl
@@ -62,4 +58,4 @@ pub stamps_after : (log : Log) (e : Edit) (old new : List (Name × ℕ)) → ((n
     → (n : Name) → stamp_in new n ≡ stamp_of (log ++ e ∷ []) n
 stamps_after log e old new kept added n =
     ap (λ found. unwrap_or found 0) (added n) ∙ unwrapped (same_name (edited_name e) n) (suc (version_of log)) (lookup (same_name n) old)
-    ∙ (λ i. cond (same_either_way (edited_name e) n i) (suc (version_of log)) (kept n i)) ∙ sym (stamp_after_last log e n)
+    ∙ (λ i. cond (same_other_way (edited_name e) n i) (suc (version_of log)) (kept n i)) ∙ sym (stamp_after_last log e n)

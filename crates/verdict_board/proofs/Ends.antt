@@ -21,7 +21,7 @@ use Rattle.verdict_board.specs.declared.stage.Stage.TheVariants.{Waiting, Claime
 use Rattle.verdict_board.specs.Readings.{read_job, read_inputs}
 use Rattle.verdict_board.specs.Changes.{IsFirstChanged}
 use Rattle.verdict_board.specs.declared.inputs.Input as inputs
-use Rattle.std.proofs.lemmas.Option.{slice_get-map, slice_get-get_or}
+use Rattle.std.proofs.lemmas.Option.{slice_get-map, slice_get-get_or, same_Some}
 use Rattle.std.proofs.lemmas.List.{length-map}
 use Rattle.verdict_board.specs.Stages.{claim_in, IsCurrent, IsStage}
 use Rattle.verdict_board.specs.Keeping.{IsKept, HasRoom}
@@ -73,11 +73,8 @@ module _ {Answer Meaning : Type 0} (subject : Subject Meaning) (meaning : Answer
   unfolding install_reply
   here_stale place newer x at k =
       let k' : IsFirstChanged H i.inputs place newer = subst (λ (z : History). IsFirstChanged z i.inputs place newer) (sym e) (subst (λ (z : Job Answer). IsFirstChanged K z.inputs place newer) (sym f) k) in
-      let same : x ≡ k'.input = some_same (sym at ∙ k'.at) in
+      let same : x ≡ k'.input = same_Some _ _ (sym at ∙ k'.at) in
       ap (λ (inputs : List Input). installed_by (first_changed H inputs)) (sym here_inputs) ∙ ap installed_by k'.changed ∙ ap (λ (z : Input). IsStale z.name newer) (sym same)
-    where
-      some_same : {A : Type 0} {x y : A} → Some x ≡ Some y → x ≡ y
-      some_same q = cc
 
   -- the reply where none has
   pub here_installed : first_changed K j.inputs ≡ None → install_reply subject.dependencies H i.claim ≡ IsInstalled
@@ -166,10 +163,7 @@ module _ (H : History) (inputs : List Input) where
       (none_found (λ (input : Input). not (is_unchanged H input)) inputs (λ j y g. ap not (f j y (let w = place_within inputs j y g in omega (arith, w, past)) g)))
 
   pub changed_next : (i : ℕ) (x : Input) → slice_get inputs i ≡ Some x → is_unchanged H x ≡ true → NoneChanged i → NoneChanged (suc i)
-  changed_next i x h u f j y w g = ⊎_elim (λ less. f j y less g) (λ same. subst (λ z. is_unchanged H z ≡ true) (some_same (sym h ∙ ap (slice_get inputs) (sym same) ∙ g)) u) (order j i w)
-    where
-      some_same : {A : Type 0} {x y : A} → Some x ≡ Some y → x ≡ y
-      some_same q = cc
+  changed_next i x h u f j y w g = ⊎_elim (λ less. f j y less g) (λ same. subst (λ z. is_unchanged H z ≡ true) (same_Some _ _ (sym h ∙ ap (slice_get inputs) (sym same) ∙ g)) u) (order j i w)
 
       order : (a b : ℕ) → a < suc b → (a < b) ⊎ (a ≡ b)
       order a b w = grind arith

@@ -1,5 +1,6 @@
 -- How modules stand after an entry that is no edit.
 use Rattle.std.proofs.Common.{◌≡◌, ℕ, Bool, true, false, [], ◌∷◌, ◌++◌, Some, None, ⊎_elim, refl, sym, ap, ◌∙◌, subst, cond}
+use Rattle.std.proofs.lemmas.Option.{same_Some}
 use Rattle.name_meaning.specs.Names.{Name, same_name, with_name}
 use Rattle.name_meaning.specs.Rows.{Rows, row_names, row_of, with_row}
 use Rattle.name_laws.proofs.Order.{same_sound, with_present, among_member}
@@ -19,9 +20,6 @@ use Rattle.verdict_board.specs.declared.stage.Stage.{Stage}
 use Rattle.verdict_board.specs.declared.stage.Stage.TheVariants.{Waiting, Claimed, Standing, Cyclic}
 use Rattle.verdict_board.specs.Stages.{IsCurrent, IsStage, AreStages}
 use Rattle.verdict_board.proofs.Currents.{current_more, current_less, claim_more}
-
-some_same : {A : Type 0} {x y : A} → Some x ≡ Some y → x ≡ y
-some_same p = cc
 
 pub same_library : (H : History) (e : Entry) → edit_in e ≡ None → library_after (H ++ e ∷ []) ≡ library_after H
 same_library H e g = ap library_of (log_none H e g)
@@ -98,5 +96,5 @@ module _ {Answer Meaning : Type 0} (subject : Subject Meaning) (meaning : Answer
   }
     where
       by : (m : Name) (other : Stage Answer) (b : Bool) → same_name m n ≡ b → cond b (Some stage) (row_of stages m) ≡ Some other → IsStage subject meaning (H ++ e ∷ []) m other
-      by m other true q at = subst (λ z. IsStage subject meaning (H ++ e ∷ []) z other) (sym (same_sound m n q)) (subst (λ z. IsStage subject meaning (H ++ e ∷ []) n z) (some_same at) new)
+      by m other true q at = subst (λ z. IsStage subject meaning (H ++ e ∷ []) z other) (sym (same_sound m n q)) (subst (λ z. IsStage subject meaning (H ++ e ∷ []) n z) (same_Some _ _ at) new)
       by m other false q at = stage_kept m other (k.staged m other at) (s m q) (f m q) (h m q)

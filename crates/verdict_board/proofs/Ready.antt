@@ -2,7 +2,7 @@
 use Rattle.std.proofs.Common.{◌≡◌, ℕ, zero, suc, ◌<◌, ◌≤◌, Bool, true, false, not, List, [], ◌∷◌, take, length, find, slice_get, Some, None, is_some, cond, ◌||◌, ◌&&◌, ◌⊎◌, ⊎_elim, refl, sym, ap, ◌∙◌, subst, true≢false, arith}
 use Rattle.std.specs.List.{list_all}
 use Rattle.std.specs.Option.{option_map}
-use Rattle.std.proofs.lemmas.Option.{slice_get-map}
+use Rattle.std.proofs.lemmas.Option.{slice_get-map, same_Some}
 use Rattle.std.proofs.lemmas.List.{length-map}
 use Rattle.std.specs.Cmp.{both_ways}
 use Rattle.std.proofs.lemmas.Bool.{and_parts, and_from, not-true, not_from_false, false_from_ne_true}
@@ -103,12 +103,9 @@ module _ {Answer Meaning : Type 0} (subject : Subject Meaning) (meaning : Answer
     pub ready_next : (i : ℕ) (n : Name) (stage : Stage Answer) → IsTable stages → is_closed H ≡ false → slice_get stages i ≡ Some (n, stage) → (is_waiting stage && dependencies_stand D H n) ≡ false → NoneReady i → NoneReady (suc i)
     ready_next i n stage t o h q f j m w g =
         ⊎_elim (λ less. f j m less g)
-        (λ same. let e : n ≡ m = some_same (sym (named_at i n stage h) ∙ ap (slice_get (row_names stages)) (sym same) ∙ g) in
+        (λ same. let e : n ≡ m = same_Some _ _ (sym (named_at i n stage h) ∙ ap (slice_get (row_names stages)) (sym same) ∙ g) in
         subst (λ z. is_ready D H z ≡ false) e (stage_ready n stage (k.staged n stage (row_at n stage stages i t h)) o ∙ q))
         (order j i w)
-      where
-        some_same : {A : Type 0} {x y : A} → Some x ≡ Some y → x ≡ y
-        some_same p = cc
 
         order : (a b : ℕ) → a < suc b → (a < b) ⊎ (a ≡ b)
         order a b w = grind arith
@@ -141,7 +138,4 @@ module _ {Answer Meaning : Type 0} (subject : Subject Meaning) (meaning : Answer
 
   pub rests_told : (graph : Graph) → HoldsDependencies graph D L → (n : Name) (deps : List Name) → is_present L n ≡ true → row_of graph n ≡ Some deps → list_all stands_or_absent deps ≡ dependencies_stand D H n
   unfolding dependencies_stand
-  rests_told graph holds n deps p h = ap (list_all stands_or_absent) (some_same (sym h ∙ holds.rows n p))
-    where
-      some_same : {A : Type 0} {x y : A} → Some x ≡ Some y → x ≡ y
-      some_same q = cc
+  rests_told graph holds n deps p h = ap (list_all stands_or_absent) (same_Some _ _ (sym h ∙ holds.rows n p))

@@ -2,6 +2,7 @@
 use Rattle.std.proofs.Common.{◌≡◌, ℕ, ◌+◌, ◌-◌, ◌<◌, ◌^◌, Bool, true, false, not, List, [], ◌∷◌, ◌++◌, length, take, nat_eq, slice_get, Option, Some, None, option_map, option_to_list, ◌||◌, ⊎_elim, refl, sym, ap, ◌∙◌, subst, true≢false, arith, length-append, eqb-true, eq-eqb, cond}
 use Rattle.std.proofs.Math.Bool.{or-false}
 use Rattle.std.proofs.lemmas.Bool.{and_parts, and_from, false_from_ne_true, or_right}
+use Rattle.std.proofs.lemmas.Option.{same_Some}
 use Rattle.name_meaning.specs.Names.{Name, same_name}
 use Rattle.name_meaning.specs.Rows.{Rows, row_of, with_row}
 use Rattle.name_laws.proofs.Order.{same_itself}
@@ -30,9 +31,6 @@ use Rattle.verdict_board.proofs.Kept.{same_library, no_claim, stages_kept, stage
 use Rattle.verdict_board.proofs.Rooms.{closed_more, installs_more, opened_more, opened_same, opened_less}
 use Rattle.verdict_board.proofs.Calls.{legal_with}
 use Rattle.verdict_board.specs.Entries.{entry}
-
-some_same : {A : Type 0} {x y : A} → Some x ≡ Some y → x ≡ y
-some_same p = cc
 
 pub present_of : (D : Dependencies) (L : Library) (n : Name) → is_grounded D L n ≡ true → is_present L n ≡ true
 present_of D L n h = (and_parts (is_present L n) (not (is_ungrounded D L n)) h).0
@@ -108,7 +106,7 @@ module _ {Answer Meaning : Type 0} (subject : Subject Meaning) (meaning : Answer
           })
           (λ m q. others_leave D H k.legal (entry pass version (Claim n)) m refl refl)
           (λ m q c i. ⊎_elim (λ at. (current_less D H (entry pass version (Claim n)) m c i at).0)
-          (λ r. let same : n ≡ m = some_same r.1 in absurd (true≢false (sym (same_itself n) ∙ ap (λ (z : Name). same_name z n) same ∙ q)))
+          (λ r. let same : n ≡ m = same_Some _ _ r.1 in absurd (true≢false (sym (same_itself n) ∙ ap (λ (z : Name). same_name z n) same ∙ q)))
           (claim_more H (entry pass version (Claim n)) c m i.claimed))
           (λ m q c i. refl);
       closed_is = closed_on (Claim n) refl;
@@ -150,7 +148,7 @@ module _ {Answer Meaning : Type 0} (subject : Subject Meaning) (meaning : Answer
       other_claim : (m : Name) → same_name m n ≡ false → (d : ℕ) → IsCurrent D H m d → nat_eq d c ≡ false
       other_claim m q d i =
           false_from_ne_true (nat_eq d c)
-          (λ e. let same : n ≡ m = some_same (sym at ∙ ap (claim_at H) (sym (eqb-true d c e)) ∙ i.claimed) in
+          (λ e. let same : n ≡ m = same_Some _ _ (sym at ∙ ap (claim_at H) (sym (eqb-true d c e)) ∙ i.claimed) in
           true≢false (sym (same_itself n) ∙ ap (λ (z : Name). same_name z n) same ∙ q))
 
       pub kept_install : (names : List Name) (answer : Answer) → install_reply D H c ≡ IsInstalled → names ≡ reach D (library_after (take c H)) n
@@ -193,7 +191,7 @@ module _ {Answer Meaning : Type 0} (subject : Subject Meaning) (meaning : Answer
           not_claim : (m : Name) → same_name m n ≡ false → is_claim_of H m c ≡ false
           not_claim m q =
               false_from_ne_true (is_claim_of H m c)
-              (λ t. let same : n ≡ m = some_same (sym at ∙ is_name_some m (claim_at H c) t) in
+              (λ t. let same : n ≡ m = same_Some _ _ (sym at ∙ is_name_some m (claim_at H c) t) in
               true≢false (sym (same_itself n) ∙ ap (λ (z : Name). same_name z n) same ∙ q))
 
       pub kept_stale : (name : Name) (newer : ℕ) → install_reply D H c ≡ IsStale name newer
@@ -275,5 +273,5 @@ module _ {Answer Meaning : Type 0} (subject : Subject Meaning) (meaning : Answer
         where
           other : (m : Name) (d : ℕ) → IsCurrent D H m d → d ≡ c → ⊥
           other m d i s =
-              let same : m ≡ n = some_same (sym i.claimed ∙ ap (claim_at H) s ∙ at) in
+              let same : m ≡ n = same_Some _ _ (sym i.claimed ∙ ap (claim_at H) s ∙ at) in
               not_current (subst (λ (z : ℕ). IsCurrent D H n z) s (subst (λ (z : Name). IsCurrent D H z d) same i))
