@@ -137,12 +137,12 @@ module _ {Answer Meaning : Type 0} (subject : Subject Meaning) (meaning : Answer
 
 -- ---- the tables
 
-module _ {Answer Meaning : Type 0} (subject : Subject Meaning) (meaning : Answer → Meaning) (H : History) (log : Log) (graph : Graph) (stages : Rows (Stage Answer)) (closed : Bool) (opened entries installed : ℕ)
-    (k : IsKept subject meaning H log graph stages closed opened entries installed) (edit : Edit) (pass version made : ℕ) where
+module _ {Answer Meaning : Type 0} (subject : Subject Meaning) (meaning : Answer → Meaning) (H : History) (log : Log) (graph : Graph) (stages : Rows (Stage Answer)) (closed : Bool) (opened entries installed : ℕ) {exhausted : Bool}
+    (k : IsKept subject meaning H log graph stages closed opened entries installed exhausted) (edit : Edit) (pass version made : ℕ) where
   pub kept_edit : (new_log : Log) (new_graph : Graph) (new_stages : Rows (Stage Answer)) → pass ≡ 0 → edit_reply H edit ≡ Made made → version ≡ suc (version_after H) → new_log ≡ log ++ edit ∷ []
       → HoldsDependencies new_graph subject.dependencies (edited (library_after H) edit)
       → AreStages subject meaning (H ++ entry pass version (EditMade edit) ∷ []) new_stages → entries < 2 ^ 62 → opened < 2 ^ 62
-      → IsKept subject meaning (H ++ entry pass version (EditMade edit) ∷ []) new_log new_graph new_stages closed opened (entries + 1) installed
+      → IsKept subject meaning (H ++ entry pass version (EditMade edit) ∷ []) new_log new_graph new_stages closed opened (entries + 1) installed false
   unfolding event_of may_call
   kept_edit new_log new_graph new_stages front answer v logged holds staged few less = record {
     legal = legal_with subject.dependencies H pass (EditCall edit) (EditMade edit) version (ap (edit_event edit) answer) v k.legal (eq-eqb pass 0 front);
@@ -154,6 +154,7 @@ module _ {Answer Meaning : Type 0} (subject : Subject Meaning) (meaning : Answer
     counted = let a = length-append H (e ∷ []) in let b = k.counted in omega (arith, a, b);
     installed_all = let a = installs_more H e in let b = k.installed_all in omega (arith, a, b);
     room = room closed;
+    none_left = λ h. absurd (true≢false (sym h));
   }
     where
       e : Entry

@@ -85,8 +85,8 @@ module _ {Answer Meaning : Type 0} (subject : Subject Meaning) (meaning : Answer
 
 -- ---- the counts of a board
 
-module _ {Answer Meaning : Type 0} (subject : Subject Meaning) (meaning : Answer → Meaning) (H : History) (log : Log) (graph : Graph) (stages : Rows (Stage Answer)) (closed : Bool) (opened entries installed : ℕ)
-    (k : IsKept subject meaning H log graph stages closed opened entries installed) where
+module _ {Answer Meaning : Type 0} (subject : Subject Meaning) (meaning : Answer → Meaning) (H : History) (log : Log) (graph : Graph) (stages : Rows (Stage Answer)) (closed : Bool) (opened entries installed : ℕ) {exhausted : Bool}
+    (k : IsKept subject meaning H log graph stages closed opened entries installed exhausted) where
   pub entries_fit : 0 < opened → entries + 1 < 2 ^ 64
   entries_fit o = by closed k.room
     where

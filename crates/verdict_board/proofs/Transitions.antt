@@ -36,7 +36,7 @@ pub present_of : (D : Dependencies) (L : Library) (n : Name) → is_grounded D L
 present_of D L n h = (and_parts (is_present L n) (not (is_ungrounded D L n)) h).0
 
 module _ {Answer Meaning : Type 0} (subject : Subject Meaning) (meaning : Answer → Meaning) where
-  pub kept_new : IsKept {Answer = Answer} subject meaning [] [] [] [] false 0 0 0
+  pub kept_new : IsKept {Answer = Answer} subject meaning [] [] [] [] false 0 0 0 false
   unfolding log_of library_of row_of is_closed installed_claims claims_from
   kept_new = record {
     legal = legal_empty subject.dependencies;
@@ -48,9 +48,27 @@ module _ {Answer Meaning : Type 0} (subject : Subject Meaning) (meaning : Answer
     counted = refl;
     installed_all = refl;
     room = omega arith;
+    none_left = λ h. absurd (true≢false (sym h));
   }
 
-  module _ (H : History) (log : Log) (graph : Graph) (stages : Rows (Stage Answer)) (closed : Bool) (opened entries installed : ℕ) (k : IsKept subject meaning H log graph stages closed opened entries installed) (pass version : ℕ) (v : version ≡ version_after H) where
+  -- a claim that finds no module ready leaves word of it
+  pub kept_exhausted : (H : History) {log : Log} {graph : Graph} {stages : Rows (Stage Answer)} {closed : Bool} {opened entries installed : ℕ} {exhausted : Bool}
+      → IsKept subject meaning H log graph stages closed opened entries installed exhausted → least_ready subject.dependencies H ≡ None
+      → IsKept subject meaning H log graph stages closed opened entries installed true
+  kept_exhausted H k none = record {
+    legal = k.legal;
+    logged = k.logged;
+    holds = k.holds;
+    staged = k.staged;
+    closed_is = k.closed_is;
+    opened_all = k.opened_all;
+    counted = k.counted;
+    installed_all = k.installed_all;
+    room = k.room;
+    none_left = λ h. none;
+  }
+
+  module _ (H : History) (log : Log) (graph : Graph) (stages : Rows (Stage Answer)) (closed : Bool) (opened entries installed : ℕ) {exhausted : Bool} (k : IsKept subject meaning H log graph stages closed opened entries installed exhausted) (pass version : ℕ) (v : version ≡ version_after H) where
     abbrev D : Dependencies
     D = subject.dependencies
 
@@ -75,7 +93,7 @@ module _ {Answer Meaning : Type 0} (subject : Subject Meaning) (meaning : Answer
 
     -- ---- close
 
-    pub kept_close : closed ≡ false → pass ≡ 0 → IsKept subject meaning (H ++ entry pass version Close ∷ []) log graph stages true opened (entries + 1) installed
+    pub kept_close : closed ≡ false → pass ≡ 0 → IsKept subject meaning (H ++ entry pass version Close ∷ []) log graph stages true opened (entries + 1) installed false
     unfolding event_of may_call
     kept_close unclosed front = record {
       legal = legal_with D H pass CloseCall Close version (ap (λ (b : Bool). cond b None (Some Close)) (sym k.closed_is ∙ unclosed)) v k.legal (eq-eqb pass 0 front);
@@ -88,12 +106,13 @@ module _ {Answer Meaning : Type 0} (subject : Subject Meaning) (meaning : Answer
       counted = more Close;
       installed_all = installed_on Close refl;
       room = let room : HasRoom false opened entries = subst (λ (b : Bool). HasRoom b opened entries) unclosed k.room in omega (arith, room);
+      none_left = λ h. absurd (true≢false (sym h));
     }
 
     -- ---- claim
 
     pub kept_claim : (n : Name) (names : List Name) → least_ready D H ≡ Some n → names ≡ reach D (library_after H) n → entries < 2 ^ 62 → opened < 2 ^ 62
-        → IsKept subject meaning (H ++ entry pass version (Claim n) ∷ []) log graph (with_row n (Claimed entries names) stages) closed (opened + 1) (entries + 1) installed
+        → IsKept subject meaning (H ++ entry pass version (Claim n) ∷ []) log graph (with_row n (Claimed entries names) stages) closed (opened + 1) (entries + 1) installed false
     unfolding event_of may_call
     kept_claim n names least reached few less = record {
       legal = legal_with D H pass ClaimCall (Claim n) version (ap (option_map Claim) least) v k.legal refl;
@@ -114,6 +133,7 @@ module _ {Answer Meaning : Type 0} (subject : Subject Meaning) (meaning : Answer
       counted = more (Claim n);
       installed_all = installed_on (Claim n) refl;
       room = room_more closed;
+      none_left = λ h. absurd (true≢false (sym h));
     }
       where
         present : is_present (library_after H) n ≡ true
@@ -153,7 +173,7 @@ module _ {Answer Meaning : Type 0} (subject : Subject Meaning) (meaning : Answer
 
       pub kept_install : (names : List Name) (answer : Answer) → install_reply D H c ≡ IsInstalled → names ≡ reach D (library_after (take c H)) n
           → subject.answer (library_after H) n ≡ Some (meaning answer)
-          → IsKept subject meaning (H ++ entry pass version (Install c) ∷ []) log graph (with_row n (Standing answer names) stages) closed (opened - 1) (entries + 1) (installed + 1)
+          → IsKept subject meaning (H ++ entry pass version (Install c) ∷ []) log graph (with_row n (Standing answer names) stages) closed (opened - 1) (entries + 1) (installed + 1) false
       unfolding event_of
       kept_install names answer r reached a = record {
         legal = legal_with D H pass (InstallCall c) (Install c) version (ap (λ z. Some (install_event c z)) r) v k.legal may_install;
@@ -174,6 +194,7 @@ module _ {Answer Meaning : Type 0} (subject : Subject Meaning) (meaning : Answer
         counted = more (Install c);
         installed_all = let i = installs_more H e in let j = k.installed_all in omega (arith, i, j);
         room = room_less closed k.room;
+        none_left = λ h. absurd (true≢false (sym h));
       }
         where
           e : Entry
@@ -195,7 +216,7 @@ module _ {Answer Meaning : Type 0} (subject : Subject Meaning) (meaning : Answer
               true≢false (sym (same_itself n) ∙ ap (λ (z : Name). same_name z n) same ∙ q))
 
       pub kept_stale : (name : Name) (newer : ℕ) → install_reply D H c ≡ IsStale name newer
-          → IsKept subject meaning (H ++ entry pass version (Stale c name newer) ∷ []) log graph stages closed (opened - 1) (entries + 1) installed
+          → IsKept subject meaning (H ++ entry pass version (Stale c name newer) ∷ []) log graph stages closed (opened - 1) (entries + 1) installed false
       unfolding event_of
       kept_stale name newer r = record {
         legal = legal_with D H pass (InstallCall c) (Stale c name newer) version (ap (λ z. Some (install_event c z)) r) v k.legal may_install;
@@ -210,6 +231,7 @@ module _ {Answer Meaning : Type 0} (subject : Subject Meaning) (meaning : Answer
         counted = more (Stale c name newer);
         installed_all = installed_on (Stale c name newer) refl;
         room = room_less closed k.room;
+        none_left = λ h. absurd (true≢false (sym h));
       }
         where
           clash : IsInstalled ≡ IsStale name newer → ⊥
@@ -221,7 +243,7 @@ module _ {Answer Meaning : Type 0} (subject : Subject Meaning) (meaning : Answer
 
       -- a release of a claim that is current
       pub kept_release_current : IsCurrent D H n c
-          → IsKept subject meaning (H ++ entry pass version (Release c) ∷ []) log graph (with_row n Waiting stages) closed (opened - 1) (entries + 1) installed
+          → IsKept subject meaning (H ++ entry pass version (Release c) ∷ []) log graph (with_row n Waiting stages) closed (opened - 1) (entries + 1) installed false
       unfolding event_of
       kept_release_current current = record {
         legal = legal_with D H pass (ReleaseCall c) (Release c) version refl v k.legal may_release;
@@ -244,6 +266,7 @@ module _ {Answer Meaning : Type 0} (subject : Subject Meaning) (meaning : Answer
         counted = more (Release c);
         installed_all = installed_on (Release c) refl;
         room = room_less closed k.room;
+        none_left = λ h. absurd (true≢false (sym h));
       }
         where
           e : Entry
@@ -254,7 +277,7 @@ module _ {Answer Meaning : Type 0} (subject : Subject Meaning) (meaning : Answer
 
       -- a release of one that is not
       pub kept_release : (IsCurrent D H n c → ⊥)
-          → IsKept subject meaning (H ++ entry pass version (Release c) ∷ []) log graph stages closed (opened - 1) (entries + 1) installed
+          → IsKept subject meaning (H ++ entry pass version (Release c) ∷ []) log graph stages closed (opened - 1) (entries + 1) installed false
       unfolding event_of
       kept_release not_current = record {
         legal = legal_with D H pass (ReleaseCall c) (Release c) version refl v k.legal may_release;
@@ -269,6 +292,7 @@ module _ {Answer Meaning : Type 0} (subject : Subject Meaning) (meaning : Answer
         counted = more (Release c);
         installed_all = installed_on (Release c) refl;
         room = room_less closed k.room;
+        none_left = λ h. absurd (true≢false (sym h));
       }
         where
           other : (m : Name) (d : ℕ) → IsCurrent D H m d → d ≡ c → ⊥

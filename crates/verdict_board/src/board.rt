@@ -30,6 +30,9 @@ pub struct Board<S: Subject> {
     pub(crate) opened: u64,
     pub(crate) entries: u64,
     pub(crate) installed: u64,
+    /// Whether a claim has found that no module is ready, and no entry came since. A worker that asks again is then told so at
+    /// once.
+    pub(crate) exhausted: bool,
     /// The entries themselves, of which only their number is kept.
     pub(crate) history: Trail,
 }
@@ -43,7 +46,7 @@ impl<S: Subject> Model for Board<S> {
 
     ghost view = { λ b. b.history.entries };
 
-    ghost invariant = { λ b. IsKept S.subject S.meaning b.history.entries b.log b.graph b.stages b.closed b.opened b.entries b.installed };
+    ghost invariant = { λ b. IsKept S.subject S.meaning b.history.entries b.log b.graph b.stages b.closed b.opened b.entries b.installed b.exhausted };
 }
 
 impl<S: Subject> Board<S> {
@@ -60,6 +63,7 @@ impl<S: Subject> Board<S> {
             opened: 0,
             entries: 0,
             installed: 0,
+            exhausted: false,
             history: Trail::new(),
         })
     }
@@ -112,5 +116,6 @@ impl<S: Subject> Board<S> {
         self.history = noted(&self.history, pass, version, Event::Close);
         self.entries += 1;
         self.closed = true;
+        self.exhausted = false;
     }
 }

@@ -32,7 +32,10 @@ impl<S: Subject> Board<S> {
     {
         let name = match self.least_ready() {
             Some(name) => name.copy(alloc)?,
-            None => return Ok(None),
+            None => {
+                self.exhausted = true;
+                return Ok(None);
+            }
         };
         if self.entries >= MOST || self.opened >= MOST {
             return Err(Memory);
@@ -55,6 +58,7 @@ impl<S: Subject> Board<S> {
         self.history = noted(&self.history, pass, version, Event::Claim(claimed));
         self.entries += 1;
         self.opened += 1;
+        self.exhausted = false;
         Ok(Some(Job {
             claim,
             name,
@@ -70,6 +74,9 @@ impl<S: Subject> Board<S> {
         ensures { option_copied result ≡ least_ready S.subject.dependencies self.now }
     {
         if self.closed {
+            return None;
+        }
+        if self.exhausted {
             return None;
         }
         for place in 0..self.stages.len() {

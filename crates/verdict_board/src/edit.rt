@@ -55,6 +55,7 @@ impl<S: Subject> Board<S> {
         self.stages = stages;
         self.history = noted(&self.history, pass, version, event);
         self.entries += 1;
+        self.exhausted = false;
         Ok(answer)
     }
 

@@ -56,6 +56,7 @@ impl<S: Subject> Board<S> {
         self.history = noted(&self.history, pass, version, Event::Release { claim });
         self.entries += 1;
         self.opened -= 1;
+        self.exhausted = false;
         if current {
             self.stages.replace(&name, Stage::Waiting);
         }
@@ -87,6 +88,7 @@ impl<S: Subject> Board<S> {
         self.entries += 1;
         self.opened -= 1;
         self.installed += 1;
+        self.exhausted = false;
     }
 
     /// Ends a claim whose input at this place is the first that has changed, to this stamp.
@@ -115,6 +117,7 @@ impl<S: Subject> Board<S> {
         self.history = Trail::with(&self.history, &entry);
         self.entries += 1;
         self.opened -= 1;
+        self.exhausted = false;
         let Entry { event, .. } = entry;
         match event {
             Event::Stale { name, newer, .. } => Installed::Stale { name, newer },

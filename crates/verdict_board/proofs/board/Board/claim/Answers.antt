@@ -1,4 +1,4 @@
-use Rattle.std.proofs.Common.{◌≡◌, Option, Some, IfSome, sym, ap, ◌∙◌, length, subst, arith}
+use Rattle.std.proofs.Common.{◌≡◌, Option, None, Some, IfSome, sym, ap, ◌∙◌, length, subst, arith}
 use Rattle.log_meaning.specs.Log.{library_of, text_of}
 use Rattle.walk_laws.proofs.Graphs.{graph_reaches}
 use Rattle.board_meaning.specs.Claims.{input_names}
@@ -6,13 +6,20 @@ use Rattle.board_meaning.specs.Ready.{least_ready}
 use Rattle.name_meaning.specs.Names.{Text}
 use Rattle.verdict_board.specs.Readings.{IsShort, read_inputs}
 use Rattle.verdict_board.proofs.Calls.{none_claimed, claim_after}
-use Rattle.verdict_board.proofs.Transitions.{kept_claim}
+use Rattle.verdict_board.proofs.Transitions.{kept_claim, kept_exhausted}
 use Rattle.verdict_board.proofs.Reports.{staged_present}
 use Rattle.verdict_board.proofs.Handing.{names_of_inputs, least_known, least_present, text_not_missing, job_told, job_given}
 use Rattle.verdict_board.proofs.board.Board.claim.Goals as goal
 
 pub returns-in-None-clause-history : goal.returns-in-None-clause-history
-returns-in-None-clause-history g c = sym (none_claimed g.S.Subject.subject.dependencies c.args.self.now c.args.pass (sym c.in-None.ensures))
+returns-in-None-clause-history g c =
+    let none : least_ready g.S.Subject.subject.dependencies c.self.inside.history.entries ≡ None = rw c.self.view_is (sym c.in-None.ensures) in
+    rw (← c.self.view_is) (sym (none_claimed g.S.Subject.subject.dependencies c.self.inside.history.entries c.args.pass none))
+
+pub invariant_of-self : goal.invariant_of-self
+invariant_of-self g c =
+    let none : least_ready g.S.Subject.subject.dependencies c.self.inside.history.entries ≡ None = rw c.self.view_is (sym c.in-None.ensures) in
+    kept_exhausted g.S.Subject.subject g.S.Subject.meaning c.self.inside.history.entries c.self.invariant none
 
 pub answers_among-requires-clause-reached : goal.answers_among-requires-clause-reached
 answers_among-requires-clause-reached g c κs b =
@@ -45,8 +52,8 @@ invariant_of-result g c = (
   sym (ap input_names c.in_ok-inputs.ensures ∙ names_of_inputs c.args.self.now c.get.result.now ∙ c.get.ensures),
 )
 
-pub invariant_of-self : goal.invariant_of-self
-invariant_of-self g c =
+pub invariant_of-self-2 : goal.invariant_of-self-2
+invariant_of-self-2 g c =
     let least : least_ready g.S.Subject.subject.dependencies c.self.inside.history.entries ≡ Some c.in_ok-name-in-Some.name = rw (c.self.view_is, c.in_ok-name-in-Some.ensures) (sym c.in-Some.ensures) in
     let reached = c.in_ok-kept.ensures ∙ c.in_ok-names.ensures ∙ c.in_ok-reach.ensures ∙ graph_reaches c.self.inside.graph g.S.Subject.subject.dependencies _ c.self.invariant.holds c.in_ok-name-in-Some.name in
     let v = c.version-version.ensures.version ∙ ap length c.self.invariant.logged in

@@ -12,6 +12,9 @@ pub returns-then-self : goal.returns-then-self
 returns-then-self g c =
     rw (← c.self.view_is) (closed_unready g.S.Subject.subject g.S.Subject.meaning c.self.inside.history.entries c.self.invariant.legal (sym c.self.invariant.closed_is ∙ c.if-self.true))
 
+pub returns-then-self-2 : goal.returns-then-self-2
+returns-then-self-2 g c = rw (← c.self.view_is) (sym (c.self.invariant.none_left c.if-self-2.true))
+
 pub rests-requires-after_bounds : goal.rests-requires-after_bounds
 rests-requires-after_bounds g c κs b =
     rw (← c.self.view_is) (present_row g.S.Subject.subject g.S.Subject.meaning c.self.inside.history.entries c.self.invariant.legal c.self.inside.stages c.self.invariant.staged c.row_at.result.0.now c.row_at.result.1.now
