@@ -1,8 +1,8 @@
 -- Entries whose keys are read off their values: what is found by key is what is found among the values.
-use Rattle.std.specs.Prelude.{ℕ, position, not, length, take}
+use Rattle.std.specs.Prelude.{position, not, length}
 use Rattle.std.specs.List.{find, prefix_len}
 use Rattle.std.specs.Map.{keys_of, values_of, lookup}
-use Rattle.std.proofs.Common.{◌≡◌, zero, suc, ◌+◌, Bool, true, false, cond, List, [], ◌∷◌, ◌++◌, map, None, Some, refl, ap, ◌∙◌}
+use Rattle.std.proofs.Common.{◌≡◌, suc, ◌+◌, Bool, true, false, cond, List, [], ◌∷◌, ◌++◌, map, None, Some, refl, ap, ◌∙◌}
 use Rattle.indexmap.specs.IndexMap.{IndexMap, insert_entry}
 use Rattle.indexmap.proofs.CallerLemmas.{insert_entry-new}
 
@@ -42,14 +42,13 @@ module _ {K X : Type 0} (key : X → K) where
       let rest : keys_of es ≡ map key (values_of es) = cc in
       ap (λ k. k ∷ keys_of (es ++ (key x, x) ∷ [])) first ∙ ap (λ ks. key e.1 ∷ ks) (keyed_pushed es x rest)
 
-  -- The first so many entries are keyed too.
-  pub keyed_taken : (n : ℕ) (es : List (K × X)) → keys_of es ≡ map key (values_of es) → keys_of (take n es) ≡ map key (values_of (take n es))
-  keyed_taken zero es h = refl
-  keyed_taken (suc n) [] h = refl
-  keyed_taken (suc n) (e ∷ es) h =
+  -- What stands before the last entry is keyed too.
+  pub keyed_popped : (es : List (K × X)) (last : K × X) → keys_of (es ++ last ∷ []) ≡ map key (values_of (es ++ last ∷ [])) → keys_of es ≡ map key (values_of es)
+  keyed_popped [] last h = refl
+  keyed_popped (e ∷ es) last h =
       let first : e.0 ≡ key e.1 = cc in
-      let rest : keys_of es ≡ map key (values_of es) = cc in
-      ap (λ k. k ∷ keys_of (take n es)) first ∙ ap (λ ks. key e.1 ∷ ks) (keyed_taken n es rest)
+      let rest : keys_of (es ++ last ∷ []) ≡ map key (values_of (es ++ last ∷ [])) = cc in
+      ap (λ k. k ∷ keys_of es) first ∙ ap (λ ks. key e.1 ∷ ks) (keyed_popped es last rest)
 
   -- A value whose key is not there comes last.
   pub keyed_added : {S : Type 0} (same : K → K → Bool) (table : IndexMap K X S) (k : K) (x : X) → k ≡ key x → lookup (same (key x)) table.entries ≡ None → insert_entry same table.entries k x ≡ table.entries ++ (key x, x) ∷ []

@@ -1,3 +1,5 @@
 pub mod KeyedEntries
 pub mod SameName
+pub mod FirstPlaces
+pub mod FlatTables
 pub mod Lookup

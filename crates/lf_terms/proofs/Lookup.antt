@@ -9,11 +9,13 @@ use Rattle.std.specs.Option.{option_copied, option_map}
 use Rattle.std.specs.Ordering.{on}
 use Rattle.std.specs.List.{AllByRecursion, IsDistinct, find, position_or_len}
 use Rattle.std.specs.Map.{keys_of, lookup, values_of}
-use Rattle.lf_meaning.specs.Signatures.{declaration_of, same_constant}
+use Rattle.name_meaning.specs.Names.{Path}
+use Rattle.lf_meaning.specs.Signatures.{declaration_of, same_constant, Declaration}
+use Rattle.list_laws.proofs.Options.{mapped_by}
 use Rattle.lf_terms.proofs.KeyedEntries.{found_by_key}
 use Rattle.term_trees.specs.Readings.{read_constant, read_declaration, read_signature, read_image, read_map}
 use Rattle.lf_terms.proofs.SameName.{same_qname, same_qname_equiv}
-use Rattle.lf_terms.specs.Tables.{declared, declared_names, image_of, place_of, HasDistinctNames}
+use Rattle.lf_terms.specs.Tables.{declared, declared_names, first_with_path, image_of, place_of, same_path, HasDistinctNames}
 use Rattle.base_types.specs.declared.qname.QName.{QName}
 use Rattle.term_trees.specs.declared.flat_decl.FlatDecl.{FlatDecl}
 use Rattle.term_trees.specs.declared.flat_decl.Image.{Image}
@@ -45,11 +47,16 @@ module _ {X : Type 0} (p : X → Bool) where
       by false e g = ltb-false (position_or_len p xs) (length xs) e
 
   -- What is found stands at its position.
-  found_there : (xs : List X) (i : ℕ) → position p xs ≡ Some i → find p xs ≡ slice_get xs i
+  pub found_there : (xs : List X) (i : ℕ) → position p xs ≡ Some i → find p xs ≡ slice_get xs i
   found_there xs i h = find_at p xs ∙ ap (slice_get xs) (position_is xs i h)
 
-  none_found : (xs : List X) → position p xs ≡ None → find p xs ≡ None
+  pub none_found : (xs : List X) → position p xs ≡ None → find p xs ≡ None
   none_found xs h = find_at p xs ∙ slice_get_past xs (position_or_len p xs) (position_past xs h)
+
+-- The first declaration of a path stands for the first of what the declarations stand for.
+pub first_read : (decls : List FlatDecl) (path : Path) → option_map read_declaration (first_with_path decls path) ≡ find (λ (d : Declaration). same_path d.name.path path) (read_signature decls)
+first_read [] path = refl
+first_read (d ∷ decls) path = sym (mapped_by read_declaration (same_path d.name.path path) d (first_with_path decls path) (find (λ (e : Declaration). same_path e.name.path path) (read_signature decls)) (sym (first_read decls path)))
 
 pub declared_read : (decls : List FlatDecl) (q : QName) → option_map read_declaration (declared decls q) ≡ declaration_of (read_signature decls) (read_constant q)
 declared_read [] q = refl

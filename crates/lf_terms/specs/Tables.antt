@@ -1,7 +1,9 @@
 -- Look-up by name in flat signatures and in maps of constants (this profile).
-use Rattle.std.specs.Prelude.{ℕ, List, Option, map, position}
+use Rattle.std.specs.Prelude.{◌≡◌, ℕ, Bool, List, Option, map, position}
 use Rattle.std.specs.List.{find, IsDistinct}
 use Rattle.std.specs.Map.{keys_of, lookup}
+use lib.Pointwise.{pointwise}
+use Rattle.name_meaning.specs.Names.{Path, same_name}
 use Rattle.lf_meaning.specs.Terms.{Constant}
 use Rattle.lf_meaning.specs.Signatures.{same_constant}
 use Rattle.term_trees.specs.Readings.{read_constant}
@@ -28,6 +30,22 @@ declared decls name = find (λ d. same_constant (read_constant name) (read_const
 -- The index of that declaration.
 abbrev pub place_of : List FlatDecl → QName → Option ℕ
 place_of decls name = position (λ d. same_constant (read_constant name) (read_constant d.name)) decls
+
+-- The two paths are equal.
+abbrev pub same_path : Path → Path → Bool
+same_path = pointwise same_name
+
+-- The first declaration of this path.
+abbrev pub first_with_path : List FlatDecl → Path → Option FlatDecl
+first_with_path decls path = find (λ d. same_path d.name.path path) decls
+
+-- The index of that declaration.
+abbrev pub first_place : List FlatDecl → Path → Option ℕ
+first_place decls path = position (λ d. same_path d.name.path path) decls
+
+-- The table holds the index of the first declaration of each path.
+abbrev pub HasFirstPlaces : List (Path × ℕ) → List FlatDecl → Type 0
+HasFirstPlaces places decls = (path : Path) → lookup (same_path path) places ≡ first_place decls path
 
 -- What a refused push hands back.
 abbrev pub handed_back : PushFault → FlatDecl

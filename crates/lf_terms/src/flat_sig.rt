@@ -1,12 +1,15 @@
-//! Flat signatures: declarations in order, with a table of their names.
-ghost use Rattle.std.specs.Prelude.{◌≡◌, ◌↔◌, ◌≤◌, ◌∷◌, ◌++◌, [], length, slice_get, take, IfErr, IsErrOf, IsSome, None, MatchOption, OnErr, OnOk, IsNone};
+//! Flat signatures: declarations in order, with a table of their names and one of their paths.
+ghost use Rattle.std.specs.Prelude.{◌≡◌, ◌↔◌, ◌≤◌, ◌-◌, ◌∷◌, ◌++◌, [], length, slice_get, take, IfErr, IsErrOf, IsSome, None, MatchOption, OnErr, OnOk, IsNone};
+ghost use Rattle.std.specs.List.{find};
+ghost use Rattle.std.specs.Map.{lookup};
 ghost use Rattle.std.specs.Option.{option_copied, option_map};
-ghost use Rattle.lf_meaning.specs.Signatures.{declaration_of};
+ghost use Rattle.lf_meaning.specs.Signatures.{declaration_of, same_constant, Declaration};
 ghost use Rattle.term_trees.specs.Readings.{read_constant, read_declaration, read_signature};
-ghost use Rattle.lf_terms.specs.Tables.{declared, handed_back, place_of, HasDistinctNames};
+ghost use Rattle.lf_terms.specs.Tables.{declared, first_with_path, handed_back, place_of, same_path, HasDistinctNames};
 ghost use Rattle.lf_terms.specs.declared.flat_sig.PushFault.TheVariants.{Twice};
 
-use base_types::QName;
+use crate::path_names::PathNames;
+use base_types::{Name, Path, QName};
 use indexmap::IndexMap;
 use std::alloc::Global;
 use std::marker::Model;
@@ -17,6 +20,8 @@ use term_trees::FlatDecl;
 pub struct FlatSig {
     /// Each declaration under a copy of its name, over the same bytes.
     decls: IndexMap<QName, FlatDecl>,
+    /// The index of the first declaration of each path.
+    by_path: IndexMap<Path, usize>,
 }
 
 impl Model for FlatSig {
@@ -25,6 +30,7 @@ impl Model for FlatSig {
     ghost use Rattle.std.specs.Coded.{codes};
     ghost use Rattle.term_trees.specs.declared.flat_decl.FlatDecl.{FlatDecl};
     ghost use Rattle.term_trees.specs.contracts.flat_decl.FlatDecl as e;
+    ghost use Rattle.lf_terms.specs.Tables.{HasFirstPlaces};
 
     ghost Value = { List FlatDecl };
 
@@ -32,7 +38,7 @@ impl Model for FlatSig {
 
     ghost view = { λ s. values_of s.decls.entries };
 
-    ghost invariant = { λ s. keys_of s.decls.entries ≡ map (λ d. d.name) (values_of s.decls.entries) };
+    ghost invariant = { λ s. (keys_of s.decls.entries ≡ map (λ d. d.name) (values_of s.decls.entries)) × HasFirstPlaces s.by_path.entries (values_of s.decls.entries) };
 }
 
 /// Why a declaration was not added. It comes back with the reason.
@@ -51,6 +57,7 @@ impl FlatSig {
     {
         FlatSig {
             decls: IndexMap::new(alloc),
+            by_path: IndexMap::new(alloc),
         }
     }
 
@@ -65,20 +72,23 @@ impl FlatSig {
         if self.decls.contains_key(&decl.name) {
             return Err(PushFault::Twice(decl));
         }
-        let alloc = *self.decls.allocator();
-        match decl.name.copy(alloc) {
-            Ok(name) => match self.decls.insert(name, decl) {
-                Ok(previous) => {
-                    drop(previous);
-                    Ok(())
-                }
-                Err(failed) => {
-                    let (name, decl) = failed.value;
-                    drop(name);
-                    Err(PushFault::Memory(decl))
-                }
-            },
-            Err(_) => Err(PushFault::Memory(decl)),
+        match self.append(decl) {
+            Ok(()) => Ok(()),
+            Err(decl) => Err(PushFault::Memory(decl)),
+        }
+    }
+
+    /// Adds a declaration of a new name at the end, or hands it back for want of memory.
+    fn append(&mut self, decl: FlatDecl) -> Result<(), FlatDecl>
+        requires { declared self.old decl.name ≡ None }
+        ensures ok { OnOk result (self.new ≡ self.old ++ decl ∷ []) }
+        ensures err { OnErr result (self.new ≡ self.old) }
+        ensures back { IfErr result (λ back. back ≡ decl) }
+    {
+        if self.by_path.contains_key(&decl.name.path) {
+            insert(&mut self.decls, decl)
+        } else {
+            insert_first(&mut self.decls, &mut self.by_path, decl)
         }
     }
 
@@ -111,11 +121,38 @@ impl FlatSig {
         }
     }
 
+    /// The first declaration of a path. None exactly where there is none. It takes expected constant time, by a hash
+    /// table, and no memory.
+    pub fn first_at(&self, path: &[Name]) -> Option<&FlatDecl>
+        ensures declaration { option_copied result ≡ first_with_path self.now path.now }
+        ensures meaning { option_map (λ d. read_declaration d.now) result ≡ find (λ (d : Declaration). same_path d.name.path path.now) (read_signature self.now) }
+    {
+        match self.by_path.get(PathNames(path)) {
+            Some(index) => self.at(*index),
+            None => None,
+        }
+    }
+
     /// Keeps the first `len` declarations, and lets the others go. It takes no memory.
     pub fn truncate(&mut self, len: usize)
         ensures { self.new ≡ take len self.old }
     {
-        self.decls.truncate(len);
+        while self.len() > len {
+            self.drop_last();
+        }
+    }
+
+    /// Lets the last declaration go, if there is one.
+    fn drop_last(&mut self)
+        ensures { self.new ≡ take (length self.old - 1) self.old }
+    {
+        if let Some((name, decl)) = self.decls.pop() {
+            drop(name);
+            let path = &decl.name.path;
+            if self.by_path.get(path).copied() == Some(self.decls.len()) {
+                self.by_path.swap_remove(path);
+            }
+        }
     }
 
     /// The number of declarations.
@@ -125,4 +162,55 @@ impl FlatSig {
     {
         self.decls.len()
     }
+}
+
+/// Adds a declaration under a copy of its name, which is new, or hands it back for want of memory.
+fn insert(decls: &mut IndexMap<QName, FlatDecl>, decl: FlatDecl) -> Result<(), FlatDecl>
+    requires { lookup (λ q. same_constant (read_constant decl.name) (read_constant q)) decls.old.entries ≡ None }
+    ensures ok { OnOk result (decls.new.entries ≡ decls.old.entries ++ (decl.name, decl) ∷ []) }
+    ensures err { OnErr result (decls.new.entries ≡ decls.old.entries) }
+    ensures back { IfErr result (λ back. back ≡ decl) }
+{
+    let alloc = *decls.allocator();
+    let Ok(name) = decl.name.copy(alloc) else {
+        return Err(decl);
+    };
+    match decls.insert(name, decl) {
+        Ok(previous) => {
+            drop(previous);
+            Ok(())
+        }
+        Err(failed) => {
+            let (name, decl) = failed.value;
+            drop(name);
+            Err(decl)
+        }
+    }
+}
+
+/// Adds a declaration of a new path as `insert` does, and its index under a copy of the path.
+fn insert_first(
+    decls: &mut IndexMap<QName, FlatDecl>,
+    by_path: &mut IndexMap<Path, usize>,
+    decl: FlatDecl,
+) -> Result<(), FlatDecl>
+    requires name { lookup (λ q. same_constant (read_constant decl.name) (read_constant q)) decls.old.entries ≡ None }
+    requires path { lookup (same_path decl.name.path) by_path.old.entries ≡ None }
+    ensures ok { OnOk result (decls.new.entries ≡ decls.old.entries ++ (decl.name, decl) ∷ []) }
+    ensures ok_path { OnOk result (by_path.new.entries ≡ by_path.old.entries ++ (decl.name.path, length decls.old.entries) ∷ []) }
+    ensures err { OnErr result (decls.new.entries ≡ decls.old.entries) }
+    ensures err_path { OnErr result (by_path.new.entries ≡ by_path.old.entries) }
+    ensures back { IfErr result (λ back. back ≡ decl) }
+{
+    let alloc = *decls.allocator();
+    let Ok(path) = decl.name.path.copy(alloc) else {
+        return Err(decl);
+    };
+    let Ok(()) = by_path.reserve(1) else {
+        return Err(decl);
+    };
+    let index = decls.len();
+    insert(decls, decl)?;
+    let _ = by_path.insert(path, index);
+    Ok(())
 }

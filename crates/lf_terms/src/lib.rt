@@ -4,6 +4,7 @@
 
 mod flat_sig;
 mod head_map;
+mod path_names;
 
 pub use base_types::{
     Arc, Bytes, Memory, Name, NameFault, Names, Path, QName, Sequence, Span, Steps, TermPath, Texts,

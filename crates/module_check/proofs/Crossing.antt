@@ -2,6 +2,7 @@
 -- put together here by hand, from the parts up. A struct's part has the type of its fields (`the_field`), and a parameter that of
 -- its values (`the_row`).
 use denote.Param.Send.{IsSend, IsSync, sendable, recorded_send, recorded_sync, struct_send, struct_sync, enum_send, enum_sync, view_send, view_sync}
+use denote.Builtin.{usize}
 use denote.Struct.Declared.{shape}
 use denote.Enum.Declared as enum
 use Rattle.std.proofs.Crossing.{Box-send, Box-sync, Vec-send, Vec-sync, send, sync, frees}
@@ -11,8 +12,10 @@ use Rattle.std.specs.contracts.hash.BuildHasherDefault as hashers
 use Rattle.std.specs.contracts.hash.FoldHasher as hasher
 use Rattle.std.specs.contracts.option.Option as option
 use Rattle.indexmap.proofs.map.IndexMap.TheSendSync as tables
+use Rattle.base_types.specs.contracts.path.Path as path
 use Rattle.base_types.specs.contracts.qname.QName as constant
 use Rattle.base_types.proofs.name.Name.TheSendSync as names
+use Rattle.base_types.proofs.path.Path.TheSendSync as paths
 use Rattle.base_types.proofs.qname.QName.TheSendSync as constants
 use Rattle.base_types.proofs.sequence.Sequence.TheSendSync as sequences
 use Rattle.base_types.proofs.shared.Arc.TheSendSync as shared
@@ -81,7 +84,8 @@ image_row_send = recorded_send (image.the_field).row _ _ (image.the_type).to_one
 
 signature_inside_send : IsSend signature_inside.the_row
 signature_inside_send = recorded_send (signature_inside.the_field).row _ _ (signature_inside.the_type).to_one (struct_send (shape signature_inside.the_type)
-    (tables.the_send constant.the_row declaration.the_row (hashers.the_row hasher.the_row) heap.the_row hasher.the_row _ _ _ _ ghosts constants.the_send declaration_row_send (search sendable depth 20) send frees, tt))
+    (tables.the_send constant.the_row declaration.the_row (hashers.the_row hasher.the_row) heap.the_row hasher.the_row _ _ _ _ ghosts constants.the_send declaration_row_send (search sendable depth 20) send frees,
+    (tables.the_send path.the_row usize (hashers.the_row hasher.the_row) heap.the_row hasher.the_row _ _ _ _ ghosts paths.the_send (search sendable) (search sendable depth 20) send frees, tt)))
 
 pub signature_send : IsSend signature.the_row
 signature_send = view_send signature_inside.the_row _ _ _ _ signature_inside_send
@@ -155,7 +159,8 @@ image_row_sync = recorded_sync (image.the_field).row _ _ (image.the_type).to_one
 
 signature_inside_sync : IsSync signature_inside.the_row
 signature_inside_sync = recorded_sync (signature_inside.the_field).row _ _ (signature_inside.the_type).to_one (struct_sync (shape signature_inside.the_type)
-    (tables.the_sync constant.the_row declaration.the_row (hashers.the_row hasher.the_row) heap.the_row hasher.the_row _ _ _ _ ghosts constants.the_sync declaration_row_sync (search sendable depth 20) sync, tt))
+    (tables.the_sync constant.the_row declaration.the_row (hashers.the_row hasher.the_row) heap.the_row hasher.the_row _ _ _ _ ghosts constants.the_sync declaration_row_sync (search sendable depth 20) sync,
+    (tables.the_sync path.the_row usize (hashers.the_row hasher.the_row) heap.the_row hasher.the_row _ _ _ _ ghosts paths.the_sync (search sendable) (search sendable depth 20) sync, tt)))
 
 pub signature_sync : IsSync signature.the_row
 signature_sync = view_sync signature_inside.the_row _ _ _ _ signature_inside_sync

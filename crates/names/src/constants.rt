@@ -11,18 +11,11 @@ use crate::{Found, ResolveFault, Scope};
 use lf_terms::{FlatDecl, FlatSig, Name, Path};
 use mmt_interface::Faces;
 
-/// The constant of an own part at a path. None exactly where there is none.
+/// The constant of an own part at a path, by a look-up in a table. None exactly where there is none.
 pub fn own_constant<'a>(own: &'a FlatSig, path: &[Name]) -> Option<&'a FlatDecl>
     ensures { option_map (λ decl. read_declaration decl.now) result ≡ own_at (read_signature own.now) path.now }
 {
-    for index in 0..own.len() {
-        if let Some(decl) = own.at(index) {
-            if decl.name.path.as_slice() == path {
-                return Some(decl);
-            }
-        }
-    }
-    None
+    own.first_at(path)
 }
 
 /// The constant that a path names by an included theory in front of it.

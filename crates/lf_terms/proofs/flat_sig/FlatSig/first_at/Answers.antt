@@ -1,0 +1,33 @@
+use Rattle.std.proofs.Common.{◌≡◌, Option, Some, None, sym, ap, ◌∙◌}
+use Rattle.std.specs.Prelude.{slice_get}
+use Rattle.std.specs.Option.{option_map}
+use Rattle.term_trees.specs.Readings.{read_declaration}
+use Rattle.term_trees.specs.declared.flat_decl.FlatDecl.{FlatDecl}
+use Rattle.lf_terms.specs.Tables.{first_place, first_with_path, same_path}
+use Rattle.lf_terms.proofs.Lookup.{copied_read, first_read, found_there, none_found}
+use Rattle.lf_terms.proofs.flat_sig.FlatSig.first_at.Goals as goal
+use Rattle.lf_terms.proofs.flat_sig.FlatSig.first_at.Goals.{After-at, In-None}
+
+there : (c : After-at) → first_place c.args.self.now c.args.path.now ≡ Some c.in-Some.index.now
+there c = rw (← c.self.view_is) (sym (c.self.invariant.1 c.args.path.now) ∙ sym c.in-Some.ensures.value)
+
+found : (c : After-at) → slice_get c.args.self.now c.in-Some.index.now ≡ first_with_path c.args.self.now c.args.path.now
+found c = sym (found_there (λ (d : FlatDecl). same_path d.name.path c.args.path.now) c.args.self.now c.in-Some.index.now (there c))
+
+none : (c : In-None) → ◌≡◌ {A = Option FlatDecl} None (first_with_path c.args.self.now c.args.path.now)
+none c =
+    let absent : first_place c.args.self.now c.args.path.now ≡ None = rw (← c.self.view_is) (sym (c.self.invariant.1 c.args.path.now) ∙ sym c.in-None.ensures.value) in
+    sym (none_found (λ (d : FlatDecl). same_path d.name.path c.args.path.now) c.args.self.now absent)
+
+pub returns-in-Some-clause-declaration : goal.returns-in-Some-clause-declaration
+returns-in-Some-clause-declaration c = c.at.ensures.item ∙ found c
+
+pub returns-in-Some-clause-meaning : goal.returns-in-Some-clause-meaning
+returns-in-Some-clause-meaning c =
+    copied_read read_declaration c.at.result ∙ ap (option_map read_declaration) (c.at.ensures.item ∙ found c) ∙ first_read c.args.self.now c.args.path.now
+
+pub returns-in-None-clause-declaration : goal.returns-in-None-clause-declaration
+returns-in-None-clause-declaration c = none c
+
+pub returns-in-None-clause-meaning : goal.returns-in-None-clause-meaning
+returns-in-None-clause-meaning c = ap (option_map read_declaration) (none c) ∙ first_read c.args.self.now c.args.path.now
