@@ -70,7 +70,7 @@ fn giving<'a>(
     ensures { Links read_assigned result (passes.read_assign (read_setting setting.now) (earlier_targets earlier.now) (ConstAssign (trees.read_written target.now) (trees.read_expr value.now))) }
 {
     let path = &target.path;
-    let known = has_constant(alloc, setting, path)?;
+    let known = has_constant(setting, path);
     demand(
         alloc,
         setting,

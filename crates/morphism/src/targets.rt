@@ -14,7 +14,7 @@ ghost use Rattle.morphism.specs.Steps.{AreTabled, earlier_targets};
 
 use crate::Setting;
 use indexmap::IndexSet;
-use lf_terms::{FlatSig, Memory, Name, Path, QName};
+use lf_terms::{FlatSig, Memory, Name, Path};
 use mmt_syntax::Assign;
 use morphism_words::{Link, structures_link};
 use std::alloc::Global;
@@ -99,42 +99,20 @@ fn is_beginning(path: &[Name], other: &[Name]) -> bool
 }
 
 /// Whether the domain has an own constant at a path.
-pub(crate) fn has_constant(
-    alloc: Global,
-    setting: &Setting<'_>,
-    path: &Path,
-) -> Result<bool, Memory>
-    ensures { IfOk result (λ has. has ≡ is_some (own_at (own_part (read_setting setting.now).environment setting.now.domain.now) path.now)) }
+pub(crate) fn has_constant(setting: &Setting<'_>, path: &Path) -> bool
+    ensures { result ≡ is_some (own_at (own_part (read_setting setting.now).environment setting.now.domain.now) path.now) }
 {
     match setting.scope.faces.theory(setting.domain) {
-        Some(face) => declares(alloc, &face.own, setting.domain, path),
-        None => Ok(false),
+        Some(face) => declares(&face.own, path),
+        None => false,
     }
 }
 
-/// Whether an own part has a constant at a path. In coherent faces its constants have the name of the theory, so the table
-/// of names finds them, and the declarations are gone through for a path alone that is not there.
-fn declares(alloc: Global, own: &FlatSig, theory: &Name, path: &Path) -> Result<bool, Memory>
-    ensures { IfOk result (λ has. has ≡ is_some (own_at (read_signature own.now) path.now)) }
-{
-    let name = QName {
-        theory: theory.copy(alloc)?,
-        path: path.copy(alloc)?,
-    };
-    Ok(own.get(&name).is_some() || has_path(own, path))
-}
-
-fn has_path(own: &FlatSig, path: &Path) -> bool
+/// Whether an own part has a constant at a path.
+fn declares(own: &FlatSig, path: &Path) -> bool
     ensures { result ≡ is_some (own_at (read_signature own.now) path.now) }
 {
-    for index in 0..own.len() {
-        if let Some(decl) = own.at(index) {
-            if decl.name.path == *path {
-                return true;
-            }
-        }
-    }
-    false
+    own.first_at(path.as_slice()).is_some()
 }
 
 /// The own link of a structure of the domain, or of a structure of the domain of such a one, and so on. None exactly where
