@@ -83,9 +83,10 @@ image_row_send : IsSend image.the_row
 image_row_send = recorded_send (image.the_field).row _ _ (image.the_type).to_one image_send
 
 signature_inside_send : IsSend signature_inside.the_row
-signature_inside_send = recorded_send (signature_inside.the_field).row _ _ (signature_inside.the_type).to_one (struct_send (shape signature_inside.the_type)
-    (tables.the_send constant.the_row declaration.the_row (hashers.the_row hasher.the_row) heap.the_row hasher.the_row _ _ _ _ ghosts constants.the_send declaration_row_send (search sendable depth 20) send frees,
-    (tables.the_send path.the_row usize (hashers.the_row hasher.the_row) heap.the_row hasher.the_row _ _ _ _ ghosts paths.the_send (search sendable) (search sendable depth 20) send frees, tt)))
+signature_inside_send = recorded_send (signature_inside.the_field).row _ _ (signature_inside.the_type).to_one (struct_send (shape signature_inside.the_type) (
+  tables.the_send constant.the_row declaration.the_row (hashers.the_row hasher.the_row) heap.the_row hasher.the_row _ _ _ _ ghosts constants.the_send declaration_row_send (search sendable depth 20) send frees,
+  (tables.the_send path.the_row usize (hashers.the_row hasher.the_row) heap.the_row hasher.the_row _ _ _ _ ghosts paths.the_send (search sendable) (search sendable depth 20) send frees, tt),
+))
 
 pub signature_send : IsSend signature.the_row
 signature_send = view_send signature_inside.the_row _ _ _ _ signature_inside_send
@@ -158,9 +159,10 @@ image_row_sync : IsSync image.the_row
 image_row_sync = recorded_sync (image.the_field).row _ _ (image.the_type).to_one image_sync
 
 signature_inside_sync : IsSync signature_inside.the_row
-signature_inside_sync = recorded_sync (signature_inside.the_field).row _ _ (signature_inside.the_type).to_one (struct_sync (shape signature_inside.the_type)
-    (tables.the_sync constant.the_row declaration.the_row (hashers.the_row hasher.the_row) heap.the_row hasher.the_row _ _ _ _ ghosts constants.the_sync declaration_row_sync (search sendable depth 20) sync,
-    (tables.the_sync path.the_row usize (hashers.the_row hasher.the_row) heap.the_row hasher.the_row _ _ _ _ ghosts paths.the_sync (search sendable) (search sendable depth 20) sync, tt)))
+signature_inside_sync = recorded_sync (signature_inside.the_field).row _ _ (signature_inside.the_type).to_one (struct_sync (shape signature_inside.the_type) (
+  tables.the_sync constant.the_row declaration.the_row (hashers.the_row hasher.the_row) heap.the_row hasher.the_row _ _ _ _ ghosts constants.the_sync declaration_row_sync (search sendable depth 20) sync,
+  (tables.the_sync path.the_row usize (hashers.the_row hasher.the_row) heap.the_row hasher.the_row _ _ _ _ ghosts paths.the_sync (search sendable) (search sendable depth 20) sync, tt),
+))
 
 pub signature_sync : IsSync signature.the_row
 signature_sync = view_sync signature_inside.the_row _ _ _ _ signature_inside_sync
