@@ -52,11 +52,7 @@ impl<'a> Reader<'a> {
         ensures within { OnOk result (length (left self.new) ≤ length (left self.old)) }
     {
         match self.next.sign {
-            Sign::Name => {
-                self.identifier(stack)?;
-                Ok(None)
-            }
-            Sign::Path => {
+            Sign::Name | Sign::Path => {
                 self.identifier(stack)?;
                 Ok(None)
             }
