@@ -2,7 +2,7 @@
 use Rattle.std.proofs.Common.{◌≡◌, ℕ, zero, suc, ◌+◌, ◌<◌, ◌≤◌, Bool, true, false, not, cond, List, [], ◌∷◌, ◌++◌, length-append, length, filter, take, drop, get_or, set, slice_get, count_by, Some, ◌⊎◌, inl, inr, ⊎_elim, refl, sym, ap, ◌∙◌, arith}
 use Rattle.std.proofs.lemmas.List.Sums.{sum_by-set}
 use Rattle.std.proofs.lemmas.Option.{get_or_from_slice_get, slice_get_within, slice_get-get_or}
-use Rattle.list_laws.proofs.Places.{get_more, take_more, drop_here}
+use Rattle.list_laws.proofs.Places.{get_more, take_more}
 
 module _ {X : Type 0} where
   pub set_long : (xs : List X) (i : ℕ) (v : X) → length (set xs i v) ≡ length xs

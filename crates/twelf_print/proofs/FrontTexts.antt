@@ -12,8 +12,7 @@ use Rattle.print_meaning.specs.PrintedModules.{morph_items, assign_items, value_
 use Rattle.print_laws.proofs.LaidOut.{text_append}
 use Rattle.twelf_print.specs.Fronts.{spaced, more_words, words_text, assign_front, constant_text, structure_text, decl_front, module_front}
 use Rattle.mmt_syntax.proofs.Nodes.{next_taken}
-use Rattle.twelf_print.proofs.Texts.{written_then}
-use Rattle.list_laws.proofs.Lists.{map_last}
+use Rattle.list_laws.proofs.Lists.{map_last, written_then}
 
 -- ---- words
 

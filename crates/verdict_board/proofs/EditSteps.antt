@@ -7,7 +7,7 @@ use Rattle.name_laws.proofs.Order.{same_sound, ascending_filtered}
 use Rattle.name_table.proofs.Fronts.{ascending_front}
 use Rattle.list_laws.proofs.Places.{take_more}
 use Rattle.log_meaning.specs.Log as logs
-use Rattle.log_meaning.specs.Log.{Library, edited, text_of, is_present, names_of}
+use Rattle.log_meaning.specs.Log.{Library, edited, is_present, names_of}
 use Rattle.walk_meaning.specs.Walks.{Dependencies, is_ungrounded, is_grounded, ungrounded_names}
 use Rattle.walk_meaning.specs.Graphs.{Graph, HoldsDependencies, graph_grounded}
 use Rattle.walk_laws.proofs.Graphs.{edited_holds, graph_grounds}

@@ -1,9 +1,7 @@
-use Rattle.std.proofs.Common.{◌≡◌, ◌∷◌, ◌++◌, [], ◌+◌, suc, take, subst, sym, ap, ◌∙◌, arith, Some, slice_get, length}
+use Rattle.std.proofs.Common.{◌≡◌, ◌∷◌, ◌++◌, [], ◌+◌, suc, take, sym, ap, ◌∙◌, arith, List}
 use Rattle.name_meaning.specs.Names.{Name}
-use Rattle.name_meaning.specs.Rows.{IsTable}
-use Rattle.std.proofs.Common.{List}
 use Rattle.name_table.proofs.Fronts.{table_more}
-use Rattle.list_laws.proofs.Places.{take_more, take_length}
+use Rattle.list_laws.proofs.Places.{take_more}
 use Rattle.module_graph.proofs.graph.Graph.copy.Goals as goal
 
 pub push-requires : goal.push-requires
