@@ -164,7 +164,7 @@ module _ (H : History) (inputs : List Input) where
 
   pub changed_next : (i : ℕ) (x : Input) → slice_get inputs i ≡ Some x → is_unchanged H x ≡ true → NoneChanged i → NoneChanged (suc i)
   changed_next i x h u f j y w g = ⊎_elim (λ less. f j y less g) (λ same. subst (λ z. is_unchanged H z ≡ true) (same_Some _ _ (sym h ∙ ap (slice_get inputs) (sym same) ∙ g)) u) (order j i w)
-
+    where
       order : (a b : ℕ) → a < suc b → (a < b) ⊎ (a ≡ b)
       order a b w = grind arith
 

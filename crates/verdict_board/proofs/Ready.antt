@@ -106,7 +106,7 @@ module _ {Answer Meaning : Type 0} (subject : Subject Meaning) (meaning : Answer
         (λ same. let e : n ≡ m = same_Some _ _ (sym (named_at i n stage h) ∙ ap (slice_get (row_names stages)) (sym same) ∙ g) in
         subst (λ z. is_ready D H z ≡ false) e (stage_ready n stage (k.staged n stage (row_at n stage stages i t h)) o ∙ q))
         (order j i w)
-
+      where
         order : (a b : ℕ) → a < suc b → (a < b) ⊎ (a ≡ b)
         order a b w = grind arith
 
