@@ -2,9 +2,13 @@
 ghost use Rattle.std.specs.Prelude.{IfOk};
 ghost use Rattle.lf_meaning.specs.Terms as terms;
 ghost use Rattle.lf_meaning.specs.Signatures as signatures;
+ghost use Rattle.lf_meaning.specs.Judgements.{Checks, Fits, IsClass, IsContext, IsFamily, IsKind};
 ghost use Rattle.expansion_meaning.specs.Expansion.{expand_family, expand_kind, expand_object};
+ghost use Rattle.expansion_meaning.specs.Locals.{context_of};
 ghost use Rattle.expansion_meaning.specs.Values.{expand_class, expand_value};
 ghost use Rattle.expansion_meaning.specs.Stands.{StandsClass, StandsFamily, StandsKind, StandsObject, StandsValue};
+ghost use Rattle.holding_laws.specs.ExpansionHolds.{scope_signature};
+ghost use Rattle.expansion_typing.specs.TypingOfExpansion.{IsTypedScope};
 ghost use Rattle.term_trees.specs.Readings.{read_class, read_family, read_kind, read_object, read_value};
 ghost use Rattle.mmt_syntax.specs.Readings.{read_expr};
 ghost use Rattle.names.specs.Readings.{read_locals, read_scope};
@@ -21,8 +25,9 @@ use names::{Scope, Vars};
 use std::alloc::Global;
 
 /// The kind that an expression stands for: `type`, or a Π of a family and a kind. Ok exactly where it stands for one,
-/// and with that; else `Broken` has the first rule that is broken, at the part of the text that breaks it. All calls of
-/// this crate recurse as deep as the expression is nested, and as the terms that they meet.
+/// and with that; else `Broken` has the first rule that is broken, at the part of the text that breaks it. Where the scope
+/// and the variables are well typed, so is the kind. All calls of this crate recurse as deep as the expression is nested,
+/// and as the terms that they meet.
 pub fn elab_kind(
     alloc: Global,
     scope: &Scope<'_>,
@@ -32,6 +37,7 @@ pub fn elab_kind(
     ensures answer { Expands read_kind result (expand_kind (read_scope scope.now) (read_locals vars.now) (read_expr expr.now)) }
     ensures stands { IfOk result (λ kind. StandsKind (read_scope scope.now) (read_locals vars.now) (read_expr expr.now) (read_kind kind)) }
     ensures only { (kind : terms.Kind) → StandsKind (read_scope scope.now) (read_locals vars.now) (read_expr expr.now) kind → BreaksNothing result }
+    ensures typed { IfOk result (λ kind. IsTypedScope (read_scope scope.now) → IsContext (scope_signature (read_scope scope.now)) (context_of (read_locals vars.now)) → IsKind (scope_signature (read_scope scope.now)) (context_of (read_locals vars.now)) (read_kind kind)) }
 {
     kind(alloc, &Context::new(scope, vars)?, expr)
 }
@@ -46,6 +52,7 @@ pub fn elab_fam(
     ensures answer { Expands read_family result (expand_family (read_scope scope.now) (read_locals vars.now) (read_expr expr.now)) }
     ensures stands { IfOk result (λ family. StandsFamily (read_scope scope.now) (read_locals vars.now) (read_expr expr.now) (read_family family)) }
     ensures only { (family : terms.Family) → StandsFamily (read_scope scope.now) (read_locals vars.now) (read_expr expr.now) family → BreaksNothing result }
+    ensures typed { IfOk result (λ family. IsTypedScope (read_scope scope.now) → IsContext (scope_signature (read_scope scope.now)) (context_of (read_locals vars.now)) → IsFamily (scope_signature (read_scope scope.now)) (context_of (read_locals vars.now)) (read_family family)) }
 {
     family(alloc, &Context::new(scope, vars)?, expr)
 }
@@ -61,6 +68,7 @@ pub fn elab_obj(
     ensures answer { Expands read_object result (expand_object (read_scope scope.now) (read_locals vars.now) (read_expr expr.now) (read_family fam.now)) }
     ensures stands { IfOk result (λ object. StandsObject (read_scope scope.now) (read_locals vars.now) (read_expr expr.now) (read_family fam.now) (read_object object)) }
     ensures only { (object : terms.Object) → StandsObject (read_scope scope.now) (read_locals vars.now) (read_expr expr.now) (read_family fam.now) object → BreaksNothing result }
+    ensures typed { IfOk result (λ object. IsTypedScope (read_scope scope.now) → IsContext (scope_signature (read_scope scope.now)) (context_of (read_locals vars.now)) → IsFamily (scope_signature (read_scope scope.now)) (context_of (read_locals vars.now)) (read_family fam.now) → Checks (scope_signature (read_scope scope.now)) (context_of (read_locals vars.now)) (read_object object) (read_family fam.now)) }
 {
     object(alloc, &Context::new(scope, vars)?, expr, fam)
 }
@@ -71,6 +79,7 @@ pub fn elab_class(alloc: Global, scope: &Scope<'_>, expr: &Expr) -> Result<Class
     ensures answer { Expands read_class result (expand_class (read_scope scope.now) (read_expr expr.now)) }
     ensures stands { IfOk result (λ class. StandsClass (read_scope scope.now) (read_expr expr.now) (read_class class)) }
     ensures only { (class : signatures.Class) → StandsClass (read_scope scope.now) (read_expr expr.now) class → BreaksNothing result }
+    ensures typed { IfOk result (λ class. IsTypedScope (read_scope scope.now) → IsClass (scope_signature (read_scope scope.now)) (read_class class)) }
 {
     let no_vars = Vars::new(alloc);
     class(alloc, &Context::new(scope, &no_vars)?, expr)
@@ -87,6 +96,7 @@ pub fn elab_value(
     ensures answer { Expands read_value result (expand_value (read_scope scope.now) (read_expr expr.now) (read_class class.now)) }
     ensures stands { IfOk result (λ value. StandsValue (read_scope scope.now) (read_expr expr.now) (read_class class.now) (read_value value)) }
     ensures only { (value : signatures.Value) → StandsValue (read_scope scope.now) (read_expr expr.now) (read_class class.now) value → BreaksNothing result }
+    ensures typed { IfOk result (λ value. IsTypedScope (read_scope scope.now) → IsClass (scope_signature (read_scope scope.now)) (read_class class.now) → Fits (scope_signature (read_scope scope.now)) (read_value value) (read_class class.now)) }
 {
     let no_vars = Vars::new(alloc);
     value(alloc, &Context::new(scope, &no_vars)?, expr, class)

@@ -4,3 +4,4 @@ pub mod ModulesTyped
 pub mod TypingTransfers
 pub mod LibrariesTyped
 pub mod BuildingTyped
+pub mod MapsCarry

@@ -184,7 +184,7 @@ closed_are_typed links library names closed = closed_typed links library names c
 
 -- ---- what follows of flat signatures, views and structures
 
-flat_typed : (environment : Environment) → IsTypedEnvironment environment → (name : Name) → IsSignature (flat_of environment name)
+pub flat_typed : (environment : Environment) → IsTypedEnvironment environment → (name : Name) → IsSignature (flat_of environment name)
 flat_typed environment typed name = by (theory_of environment name) refl
   where
     by : (o : Option TheoryFace) → theory_of environment name ≡ o → IsSignature (own_parts environment (includes_of o) ++ own_of o)

@@ -1,3 +1,4 @@
 pub mod FaceTypingLaws
 pub mod JudgedTyping
 pub mod BuildingTyping
+pub mod CarryingMaps

@@ -4,6 +4,7 @@ ghost use Rattle.row_typing.specs.TypedLinks.{CoherentMapsAreProper};
 ghost use Rattle.face_typing.specs.FaceTypingLaws.{FacesAreTyped, GroundedKnowTyped, ClosedAreTyped, KnownViewsTranslate, KnownStructuresTranslate, KnownViewsCarryTyping, KnownStructuresCarryTyping, TheoriesFlatten, ViewsCarryTyping, StructuresCarryTyping};
 ghost use Rattle.face_typing.specs.BuildingTyping.{BuiltScopesAreTyped, BuiltTheoriesAreTyped, EmptyIsTyped, InclusionsKeepTyped, ConstantsKeepTyped, StructuresKeepTyped, DeclarationsKeepTyped, AllDeclarationsKeepTyped, ViewsAreTyped};
 ghost use Rattle.face_typing.specs.JudgedTyping.{JudgedTheoriesAreTyped, JudgedViewsAreTyped};
+ghost use Rattle.face_typing.specs.CarryingMaps.{TypedTheoriesFlatten, TypedViewsCarry};
 
 /// In each library the faces of accepted modules are well typed; so an accepted theory flattens to a well-typed signature, and
 /// an accepted view, and each structure, carries every typing judgement of its domain to one of its codomain.
@@ -53,4 +54,11 @@ pub fn law_typed_declarations()
 pub fn law_typed_verdicts()
     ensures theories { JudgedTheoriesAreTyped }
     ensures views { JudgedViewsAreTyped }
+{}
+
+/// Where all that is known is well typed, a theory that is coherent and well typed over it flattens to a well-typed signature, and
+/// the map of each of its structures carries typing to it; so does the map of such a view from its domain to its codomain.
+pub fn law_carrying_faces()
+    ensures theories { TypedTheoriesFlatten }
+    ensures views { TypedViewsCarry }
 {}

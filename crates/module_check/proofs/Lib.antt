@@ -7,3 +7,4 @@ pub mod Cyclic
 pub mod LibraryGraph
 pub mod FromTexts
 pub mod LibraryFaces
+mod VerdictsTyped

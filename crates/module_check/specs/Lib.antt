@@ -4,3 +4,4 @@ pub mod Names
 pub mod Mentions
 pub mod Lawful
 pub mod Known
+pub mod TypedVerdicts

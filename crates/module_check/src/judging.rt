@@ -5,6 +5,7 @@ ghost use Rattle.log_meaning.specs.Log.{Library};
 ghost use Rattle.verdict_meaning.specs.Rounds.{modules, verdict_of};
 ghost use Rattle.mmt_interface.specs.Readings.{read_verdict};
 ghost use Rattle.module_graph.specs.Subjects.{IsGiven, read_answers};
+ghost use Rattle.module_check.specs.TypedVerdicts.{IsTypedVerdict};
 
 use crate::answered::faces_of;
 use crate::verdicts::verdict;
@@ -16,7 +17,8 @@ use std::sync::ledger::Ledger;
 
 /// The verdict on a module with this name and text, of at most 2^20 bytes, in every library in which it is grounded and these
 /// are the verdicts of what it reaches, the name itself left out; None stands for an absent module. There is such a library. It
-/// counts one step where it answers.
+/// counts one step where it answers. What it accepts is well typed in each such library: a theory flattens to a well-typed
+/// signature, to which each of its structures carries typing, and a view carries typing from its domain to its codomain.
 pub fn judge<L: Ledger>(
     alloc: Global,
     name: &Name,
@@ -29,6 +31,7 @@ pub fn judge<L: Ledger>(
     ensures answer { IfOk result (λ verdict. (library : Library) → IsGiven modules name.now text.now (read_answers read_verdict answers.now) library → verdict_of library name.now ≡ Some (read_verdict verdict)) }
     ensures tick { OnOk result (steps.new ≡ steps.old + 1) }
     ensures no_tick { OnErr result (steps.new ≡ steps.old) }
+    ensures typed { IfOk result (λ verdict. (library : Library) → IsGiven modules name.now text.now (read_answers read_verdict answers.now) library → IsTypedVerdict library (read_verdict verdict)) }
 {
     let verdict = judged(alloc, name, text, answers)?;
     steps.tick();

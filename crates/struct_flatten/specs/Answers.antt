@@ -2,11 +2,13 @@
 use Rattle.std.specs.Prelude.{◌≡◌, Result, Ok, Err, ⊤}
 use Rattle.lf_meaning.specs.HeadMaps.{HeadMap}
 use Rattle.text_meaning.specs.Trees.{first_name}
-use Rattle.library_meaning.specs.Faces.{TheoryFace, Environment}
+use Rattle.library_meaning.specs.Faces.{TheoryFace, Environment, flat_of, flat_signature}
 use Rattle.link_meaning.specs.Refusals.{Outcome}
 use Rattle.link_meaning.specs.Assignments.{Setting}
 use Rattle.link_meaning.specs.Induced.{with_structure}
 use Rattle.verdict_meaning.specs.Modules.{structure_setting}
+use Rattle.row_typing.specs.TypedFaces.{IsTypedEnvironment, IsTypedTheory}
+use Rattle.face_typing.specs.CarryingMaps.{CarriesTyping}
 use Rattle.mmt_syntax.specs.Readings.{read_written}
 use Rattle.mmt_syntax.specs.declared.decl.StructDecl.{StructDecl}
 use Rattle.morphism.specs.Answers.{IsFirstRefusal}
@@ -25,3 +27,11 @@ HasStructure environment before decl along after = after ≡ with_structure befo
 abbrev pub Flattens : Environment → TheoryFace → StructDecl → TheoryFace → Result ⊤ LinkFault → Outcome HeadMap → Type 0
 Flattens environment before decl after (Ok done) outcome = (along : HeadMap) × (outcome ≡ Ok along) × HasStructure environment before decl along after
 Flattens environment before decl after (Err fault) outcome = IsFirstRefusal fault outcome
+
+-- Where all that is known of others is well typed, and the theory was, so is the theory with the structure, the map of which
+-- carries typing from its domain to the theory.
+abbrev pub KeepsTyped : Environment → TheoryFace → StructDecl → TheoryFace → Type 0
+KeepsTyped environment before decl after =
+    IsTypedEnvironment environment → IsTypedTheory environment before
+    → IsTypedTheory environment after
+    × (along : HeadMap) × HasStructure environment before decl along after × CarriesTyping (flat_of environment (first_name decl.domain.path)) (flat_signature environment after) along

@@ -11,7 +11,7 @@ ghost use Rattle.mmt_syntax.specs.Readings.{read_assigns};
 ghost use Rattle.mmt_interface.specs.CoherentFaces.{AreCoherent, IsCoherentHere};
 ghost use Rattle.mmt_interface.specs.Readings.{environment_of, read_structure, read_theory};
 ghost use Rattle.morphism.specs.Answers.{Links, RefusesNothing};
-ghost use Rattle.struct_flatten.specs.Answers.{setting_of, Flattens, HasStructure};
+ghost use Rattle.struct_flatten.specs.Answers.{setting_of, Flattens, HasStructure, KeepsTyped};
 ghost use Rattle.struct_flatten.specs.Steps.{with_face, IsBegunFrom};
 
 use crate::induced::add_induced;
@@ -26,7 +26,8 @@ use std::alloc::Global;
 /// Adds a structure to the theory that is being built: one induced constant for each own constant of its domain, in order,
 /// and the structure's face with its map. The faces are coherent, and so is the theory so far; the domain is an accepted
 /// theory, and the name is unused. Ok exactly where a map meets the equations of the link, and with that one; else `Broken`
-/// is the first test that is false, and the theory stays as it is, as for want of memory.
+/// is the first test that is false, and the theory stays as it is, as for want of memory. Where all that the faces tell is
+/// well typed, and the theory is so far, it stays so, and the map carries typing from the domain to it.
 pub fn flatten(
     alloc: Global,
     faces: &Faces,
@@ -41,6 +42,7 @@ pub fn flatten(
     ensures map { OnOk result ((along : MeantMap) × IsMapOfLink (setting_of (environment_of faces.now) (read_theory here.old) decl.now) (read_assigns decl.now.assigns) along × HasStructure (environment_of faces.now) (read_theory here.old) decl.now along (read_theory here.new)) }
     ensures only { (along : MeantMap) → IsMapOfLink (setting_of (environment_of faces.now) (read_theory here.old) decl.now) (read_assigns decl.now.assigns) along → RefusesNothing result }
     ensures unchanged { OnErr result (here.new ≡ here.old) }
+    ensures typed { OnOk result (KeepsTyped (environment_of faces.now) (read_theory here.old) decl.now (read_theory here.new)) }
 {
     let map = map_of(alloc, faces, &*here, decl)?;
     let face = StructFace {

@@ -6,6 +6,8 @@ ghost use Rattle.library_meaning.specs.Faces.{theory_of};
 ghost use Rattle.link_meaning.specs.LinkMaps.{IsMapOfLink};
 ghost use Rattle.verdict_meaning.specs.Modules as modules;
 ghost use Rattle.link_meaning.specs.Passes as passes;
+ghost use Rattle.row_typing.specs.TypedFaces.{IsTypedEnvironment};
+ghost use Rattle.face_typing.specs.CarryingMaps.{ViewCarriesTyping};
 ghost use Rattle.term_trees.specs.Readings.{read_map};
 ghost use Rattle.mmt_syntax.specs.Readings.{read_assigns, read_written};
 ghost use Rattle.mmt_interface.specs.CoherentFaces.{AreCoherent};
@@ -22,7 +24,8 @@ use names::Scope;
 use std::alloc::Global;
 
 /// The face of a view whose ends are accepted theories, over coherent faces. Ok exactly where a map meets the equations of
-/// the link, and with that one; else `Broken` is the first test that is false.
+/// the link, and with that one; else `Broken` is the first test that is false. Where all that the faces tell is well typed,
+/// the map carries typing from the domain to the codomain.
 pub fn check_view(alloc: Global, faces: &Faces, view: &ViewDecl) -> Result<ViewFace, LinkFault>
     requires coherent { AreCoherent faces.now }
     requires domain { IsSome (theory_of (environment_of faces.now) (first_name view.now.domain.path)) }
@@ -30,6 +33,7 @@ pub fn check_view(alloc: Global, faces: &Faces, view: &ViewDecl) -> Result<ViewF
     ensures answer { Links read_view result (modules.checked_view (environment_of faces.now) (read_written view.now.name) (read_written view.now.domain) (read_written view.now.codomain) (read_assigns view.now.assigns)) }
     ensures map { IfOk result (λ face. (along : MeantMap) × IsMapOfLink (setting_of (environment_of faces.now) view.now) (read_assigns view.now.assigns) along × (read_view face ≡ face_with view.now along)) }
     ensures only { (along : MeantMap) → IsMapOfLink (setting_of (environment_of faces.now) view.now) (read_assigns view.now.assigns) along → RefusesNothing result }
+    ensures typed { IfOk result (λ face. IsTypedEnvironment (environment_of faces.now) → ViewCarriesTyping (environment_of faces.now) (read_view face)) }
 {
     let map = map_of(alloc, faces, view)?;
     Ok(ViewFace {

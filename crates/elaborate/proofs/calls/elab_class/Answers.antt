@@ -1,7 +1,11 @@
 use Rattle.std.proofs.Common.{ap, ap₂, subst, ◌∙◌}
+use Rattle.lf_meaning.specs.Judgements.{IsClass}
 use Rattle.expansion_meaning.specs.Values.{expand_class}
 use Rattle.expansion_meaning.specs.Stands.{StandsClass}
 use Rattle.expansion_laws.proofs.ValuesStand.{class_sound, class_complete}
+use Rattle.holding_laws.specs.ExpansionHolds.{scope_signature}
+use Rattle.expansion_typing.specs.TypingOfExpansion.{IsTypedScope}
+use Rattle.expansion_typing.proofs.Expanding.{standing_class_is_class}
 use Rattle.term_trees.specs.Readings.{read_class}
 use Rattle.mmt_syntax.specs.Readings.{read_expr}
 use Rattle.names.specs.Readings.{read_locals, read_scope}
@@ -33,3 +37,13 @@ returns-clause-only c =
     let same = ap₂ (λ s l. class_answer s l (read_expr c.args.expr.now)) c.in_ok-new.ensures.scope locals ∙ class_alone scope (read_expr c.args.expr.now) in
     let answered = subst (Expands read_class c.class.result) same c.class.ensures in
     only_by read_class (StandsClass scope (read_expr c.args.expr.now)) (expand_class scope (read_expr c.args.expr.now)) (class_complete scope (read_expr c.args.expr.now)) c.class.result answered
+
+pub returns-clause-typed : goal.returns-clause-typed
+returns-clause-typed c =
+    let scope = read_scope c.args.scope.now in
+    let expression = read_expr c.args.expr.now in
+    let locals = c.in_ok-new.ensures.locals ∙ ap read_locals c.new-no_vars.ensures in
+    let same = ap₂ (λ s l. class_answer s l expression) c.in_ok-new.ensures.scope locals ∙ class_alone scope expression in
+    let answered = subst (Expands read_class c.class.result) same c.class.ensures in
+    stands_by read_class (λ class. IsTypedScope scope → IsClass (scope_signature scope) class) (expand_class scope expression)
+    (λ class is typed. standing_class_is_class scope expression class typed (class_sound scope expression class is)) c.class.result answered

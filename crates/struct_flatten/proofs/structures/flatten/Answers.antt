@@ -10,6 +10,7 @@ use Rattle.mmt_interface.specs.Readings.{environment_of, read_theory}
 use Rattle.link_passes.proofs.Chained.{refuses_nothing}
 use Rattle.struct_flatten.specs.Answers.{setting_of}
 use Rattle.struct_flatten.specs.Steps.{with_face}
+use Rattle.struct_flatten.proofs.TypedStructures.{structure_keeps_typed}
 use Rattle.struct_flatten.proofs.structures.flatten.Goals as goal
 
 pub returns-in_err-map-clause-only : goal.returns-in_err-map-clause-only
@@ -32,3 +33,11 @@ returns-clause-map c =
       (link_map_meets_equations setting assigns along settled).0 c.in_ok-map.ensures,
       c.in_ok-add_structure.ensures.ok ∙ ap₂ (λ n d. with_face environment here (record { name = n; domain = d; map = along })) (c.in_ok-copy.ensures ∙ c.first_name.ensures) (c.in_ok-copy-2.ensures ∙ c.first_name-2.ensures),
     )
+
+pub returns-clause-typed : goal.returns-clause-typed
+returns-clause-typed c =
+    let environment = environment_of c.args.faces.now in
+    let here = read_theory c.args.here.now in
+    let along = read_map c.in_ok-map.map in
+    structure_keeps_typed c.args.faces.now c.args.here.now c.args.decl.now along _ c.requires.coherent c.requires.here c.requires.domain c.requires.unused c.in_ok-map.ensures
+    (c.in_ok-add_structure.ensures.ok ∙ ap₂ (λ n d. with_face environment here (record { name = n; domain = d; map = along })) (c.in_ok-copy.ensures ∙ c.first_name.ensures) (c.in_ok-copy-2.ensures ∙ c.first_name-2.ensures))

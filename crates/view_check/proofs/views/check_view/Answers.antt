@@ -1,4 +1,4 @@
-use Rattle.std.proofs.Common.{◌∙◌}
+use Rattle.std.proofs.Common.{◌≡◌, sym, subst, ◌∙◌}
 use Rattle.std.proofs.lemmas.Result.{err_from_is_err_and}
 use Rattle.link_meaning.specs.LinkMaps.{IsSettled}
 use Rattle.link_meaning.specs.Passes.{link_map}
@@ -7,10 +7,12 @@ use Rattle.library_meaning.specs.Faces.{ViewFace}
 use Rattle.name_meaning.specs.Names.{Name}
 use Rattle.term_trees.specs.Readings.{read_map}
 use Rattle.mmt_syntax.specs.Readings.{read_assigns}
+use Rattle.face_typing.specs.CarryingMaps.{ViewCarriesTyping}
 use Rattle.mmt_interface.specs.Readings.{environment_of}
 use Rattle.mmt_interface.specs.declared.face.ViewFace as code
 use Rattle.link_passes.proofs.Chained.{refuses_nothing}
 use Rattle.view_check.specs.Answers.{setting_of}
+use Rattle.view_check.proofs.TypedViews.{linked_view_carries}
 use Rattle.view_check.proofs.views.check_view.Goals as goal
 
 pub returns-in_err-map-clause-only : goal.returns-in_err-map-clause-only
@@ -32,3 +34,11 @@ returns-clause-map c =
       (link_map_meets_equations setting assigns along settled).0 c.in_ok-map.ensures,
       (λ i. named ((c.in_ok-copy.ensures ∙ c.first_name.ensures) i) ((c.in_ok-copy-2.ensures ∙ c.first_name-2.ensures) i) ((c.in_ok-copy-3.ensures ∙ c.first_name-3.ensures) i)),
     )
+
+pub returns-clause-typed : goal.returns-clause-typed
+returns-clause-typed c = λ known.
+    let environment = environment_of c.args.faces.now in
+    let along = read_map c.in_ok-map.map in
+    let named : Name → Name → Name → ViewFace = λ n d e. record { name = n; domain = d; codomain = e; map = along } in
+    let is = λ i. named ((c.in_ok-copy.ensures ∙ c.first_name.ensures) i) ((c.in_ok-copy-2.ensures ∙ c.first_name-2.ensures) i) ((c.in_ok-copy-3.ensures ∙ c.first_name-3.ensures) i) in
+    subst (ViewCarriesTyping environment) (sym is) (linked_view_carries environment c.args.view.now along c.requires.coherent.known c.requires.domain c.requires.codomain c.in_ok-map.ensures known)
