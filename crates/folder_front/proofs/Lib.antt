@@ -4,7 +4,7 @@ mod LoadedModules
 mod Lines
 mod Parts
 mod Outputs
-mod Told
+pub mod Told
 mod Results
 mod Writing
 mod FaultLines

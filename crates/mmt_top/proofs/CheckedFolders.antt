@@ -17,6 +17,7 @@ use Rattle.judged_meaning.specs.Outputs.{check_output}
 use Rattle.worker_crew.specs.Leading.{WasLed}
 use Rattle.board_front.specs.Staying.{Stays}
 use Rattle.folder_front.specs.Checked.{BacksWritten, Begins, FolderEnds, IsFolderLed, told_within}
+use Rattle.folder_front.proofs.Told.{none_backed}
 use Rattle.folder_front.proofs.Led.{led_later}
 use Rattle.run_status.specs.declared.status.Status.{Status}
 use Rattle.run_status.specs.declared.status.Status.TheVariants.{Memory}
@@ -35,9 +36,6 @@ told_nothing : (parts : List Part) → told_within 0 parts ≡ []
 unfolding told_within
 told_nothing [] = refl
 told_nothing (part ∷ parts) = refl
-
-none_backed : (history : History) → AreBacked dependencies history []
-none_backed history place telling here = absurd cc
 
 no_bytes : (n : ℕ) → n - n ≡ 0
 no_bytes n = omega arith

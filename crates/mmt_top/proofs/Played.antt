@@ -18,7 +18,8 @@ use Rattle.install_laws.specs.ScriptBacking.{StandsAt}
 use Rattle.judged_meaning.specs.JudgingByRules.{rules}
 use Rattle.board_front.specs.Staying.{GoesOn, Stays}
 use Rattle.mmt_top.specs.Plays.{Plays, PlaysAll, MayPlay}
-use Rattle.mmt_top.specs.Session.{Begins, EditsAre, EndsAs, Leaves, SessionEnds, StoodWithin, bytes_of}
+use Rattle.folder_front.specs.Checked.{Begins}
+use Rattle.mmt_top.specs.Session.{EditsAre, EndsAs, Leaves, SessionEnds, StoodWithin, bytes_of}
 use Rattle.run_status.specs.declared.status.Status.{Status}
 use Rattle.run_status.specs.declared.status.Status.TheVariants.{Done, Refused, Usage, ReadFault, WriteFault, Memory, ScriptFault}
 use Rattle.mmt_top.proofs.Commands.{parted, through_append, commands_append, fault_append, spoken_append, output_append}

@@ -19,7 +19,8 @@ use Rattle.board_front.specs.Staying.{GoesOn, Stays}
 use Rattle.script_reader.specs.Reading.{Reading, to_come}
 use Rattle.run_status.specs.declared.status.Status.{Status}
 use Rattle.run_status.specs.declared.status.Status.TheVariants.{Done, Memory}
-use Rattle.mmt_top.specs.Session.{BacksWritten, Begins, EditsAre, EndsAs, Leaves, SessionEnds, SessionGoesOn, TurnGoesOn, TurnTells, items_to_come}
+use Rattle.folder_front.specs.Checked.{Begins}
+use Rattle.mmt_top.specs.Session.{BacksWritten, EditsAre, EndsAs, Leaves, SessionEnds, SessionGoesOn, TurnGoesOn, TurnTells, items_to_come}
 use Rattle.mmt_top.proofs.Commands.{spoken_append, spoken_one}
 use Rattle.mmt_top.proofs.Played.{begins_through, ends_behind, leaves_later, memory_fails, plays_more, plays_none}
 use Rattle.script_reader.proofs.TextSoFar.{if_some_map}

@@ -22,6 +22,7 @@ use Rattle.script_reader.specs.Reading.{Reading}
 use Rattle.script_reader.specs.declared.fault.ScriptFault.{ScriptFault as Fault}
 use Rattle.script_reader.specs.declared.fault.ScriptFault.TheVariants.{Bad, Unended, Failed, Spent, Memory as OutOfMemory}
 use Rattle.run_status.specs.Flushed.{FlushesAt}
+use Rattle.folder_front.specs.Checked.{Begins}
 use Rattle.mmt_top.specs.Plays.{Plays, PlaysAll}
 use Rattle.run_status.specs.declared.status.Status.{Status}
 use Rattle.run_status.specs.declared.status.Status.TheVariants.{Done, Refused, Usage, ReadFault, WriteFault, Memory, ScriptFault}
@@ -51,11 +52,6 @@ IsSessionStatus ReadFault = Unit {0}
 IsSessionStatus WriteFault = Unit {0}
 IsSessionStatus Memory = Unit {0}
 IsSessionStatus ScriptFault = Unit {0}
-
--- The first log begins the second.
-pub record Begins (log whole : Log) : Type 0 where
-  pub rest : Log
-  pub goes_on : whole ≡ log ++ rest
 
 -- The edits of a board after a session, where the script makes these: at Done and at a script fault these, at a fault of the outside
 -- and for want of memory the first of them.
