@@ -3,6 +3,6 @@ mod BetweenEdits
 mod DoneEdits
 mod FirstLibraries
 mod GeneratedTexts
-mod GivenEdits
+pub mod GivenEdits
 pub mod LaterHistories
 mod Tallies

@@ -1,13 +1,12 @@
 -- Which assignment reaches a constant: beginnings and rests of paths.
 use Rattle.std.proofs.Common.{◌≡◌, ◌≢◌, ℕ, ◌+◌, ◌-◌, ◌<◌, ◌≤◌, Bool, true, false, List, [], ◌∷◌, ◌++◌, map, take, drop, length, get_or, Option, Some, None, ◌&&◌, refl, sym, ap, ◌∙◌, arith}
-use Rattle.std.proofs.lemmas.List.{drop_more, drop_all}
+use Rattle.std.proofs.lemmas.List.{drop_more, drop_all, take_all}
 use lib.Pointwise.{pointwise}
 use Rattle.name_meaning.specs.Names.{Name, Path, same_name}
 use Rattle.name_laws.proofs.Order.{same_itself, same_sound}
 use Rattle.name_laws.proofs.Contained.{same_other_way}
 use Rattle.link_meaning.specs.Assignments.{Assigned, Covering, Sharing, Giving, is_beginning}
 use Rattle.link_meaning.specs.Passes.{ByNone, rest_behind, reached_by, equal_paths}
-use Rattle.names.proofs.Qualified.{behind_first}
 use Rattle.link_passes.specs.Reaching.{reached_through}
 
 -- Two paths are equal where each is a beginning of the other.
@@ -61,7 +60,7 @@ pub rest_read : (beginning path rest : Path) (first : Name) → path ≡ beginni
     → Some (first ∷ take (length rest - 1) (drop 1 rest)) ≡ rest_behind beginning path
 rest_read beginning path [] first e within here = absurd (omega (arith, within))
 rest_read beginning path (name ∷ rest) first e within here =
-    ap Some (ap (λ n. n ∷ take (length (name ∷ rest) - 1) rest) here ∙ ap (λ names. name ∷ names) (behind_first (name ∷ rest)))
+    ap Some (ap (λ n. n ∷ take (length (name ∷ rest) - 1) rest) here ∙ ap (λ names. name ∷ names) (take_all (length (name ∷ rest) - 1) rest (omega arith)))
     ∙ sym (ap (rest_behind beginning) e ∙ rest_there beginning (name ∷ rest))
 
 pub rest_empty : (beginning path rest : Path) → path ≡ beginning ++ rest → length rest < 1 → None ≡ rest_behind beginning path
