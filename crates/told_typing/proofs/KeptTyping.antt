@@ -2,17 +2,21 @@
 use Rattle.std.specs.Prelude.{ℕ, take}
 use Rattle.name_meaning.specs.Names.{Name}
 use Rattle.log_meaning.specs.Log.{Library, library_of}
+use Rattle.verdict_meaning.specs.Rounds.{told_by}
+use Rattle.coherence_laws.proofs.LibrariesHold.{library_coherent}
 use Rattle.link_typing.proofs.LinksTyped.{links_are_typed}
-use Rattle.face_typing.proofs.LibrariesTyped.{faces_are_typed, structures_carry_typing, theories_flatten, views_carry_typing}
+use Rattle.face_typing.proofs.LibrariesTyped.{faces_are_typed}
+use Rattle.face_typing.proofs.MapsCarry.{typed_theories_flatten, typed_views_carry}
 use Rattle.told_typing.specs.ToldTyping.{AllAreTyped, KeepsTyping}
 
 pub keeps_typing : (library : Library) (name : Name) → KeepsTyping library name
-keeps_typing library name = record {
-  theory = λ face is. theories_flatten (faces_are_typed links_are_typed) library name face is;
-  structure = λ face place structure context object family is at typing.
-      structures_carry_typing (faces_are_typed links_are_typed) library name face place structure context object family is at typing;
-  view = λ face context object family is typing. views_carry_typing (faces_are_typed links_are_typed) library name face context object family is typing;
-}
+keeps_typing library name =
+    let known = faces_are_typed links_are_typed library in
+    let coherent = library_coherent library in
+    record {
+      theory = λ face is. typed_theories_flatten (told_by library) name face known (coherent.theories name face is) (known.theories name face is);
+      view = λ face is. typed_views_carry (told_by library) name face known (coherent.views name face is) (known.views name face is);
+    }
 
 pub all_are_typed : AllAreTyped
 all_are_typed log tellings place telling at = keeps_typing (library_of (take telling.version log)) telling.name

@@ -3,8 +3,8 @@
 ghost use Rattle.told_typing.specs.ToldTyping.{AllAreTyped};
 
 /// Whatever is told of modules at versions of a log: in the library of the version an accepted theory flattens to a well-typed
-/// signature and each of its structures carries typing judgements to it, and an accepted view carries each typing judgement of its
-/// domain to one of its codomain.
+/// signature, and the map of each of its structures is typed and carries typing judgements to it; the map of an accepted view is
+/// typed, and carries each typing judgement of its domain to one of its codomain.
 pub fn law_told_typing()
     ensures { AllAreTyped }
 {}
