@@ -3,6 +3,7 @@ use Rattle.std.proofs.lemmas.Result.{err_from_is_err_and}
 use Rattle.link_meaning.specs.LinkMaps.{IsSettled}
 use Rattle.link_meaning.specs.Passes.{link_map}
 use Rattle.link_laws.proofs.Linked.{link_map_meets_equations}
+use Rattle.lf_meaning.specs.HeadMaps.{HeadMap}
 use Rattle.library_meaning.specs.Faces.{ViewFace}
 use Rattle.name_meaning.specs.Names.{Name}
 use Rattle.term_trees.specs.Readings.{read_map}
@@ -35,10 +36,14 @@ returns-clause-map c =
       (λ i. named ((c.in_ok-copy.ensures ∙ c.first_name.ensures) i) ((c.in_ok-copy-2.ensures ∙ c.first_name-2.ensures) i) ((c.in_ok-copy-3.ensures ∙ c.first_name-3.ensures) i)),
     )
 
+faces_same : (along : HeadMap) {n m d e f g : Name} → n ≡ m → d ≡ e → f ≡ g
+    → ◌≡◌ {A = ViewFace} (record { name = n; domain = d; codomain = f; map = along }) (record { name = m; domain = e; codomain = g; map = along })
+faces_same along p q r = λ i. record { name = p i; domain = q i; codomain = r i; map = along }
+
 pub returns-clause-typed : goal.returns-clause-typed
 returns-clause-typed c = λ known.
     let environment = environment_of c.args.faces.now in
     let along = read_map c.in_ok-map.map in
-    let named : Name → Name → Name → ViewFace = λ n d e. record { name = n; domain = d; codomain = e; map = along } in
-    let is = λ i. named ((c.in_ok-copy.ensures ∙ c.first_name.ensures) i) ((c.in_ok-copy-2.ensures ∙ c.first_name-2.ensures) i) ((c.in_ok-copy-3.ensures ∙ c.first_name-3.ensures) i) in
-    subst (ViewCarriesTyping environment) (sym is) (linked_view_carries environment c.args.view.now along c.requires.coherent.known c.requires.domain c.requires.codomain c.in_ok-map.ensures known)
+    subst (ViewCarriesTyping environment)
+    (sym (faces_same along (c.in_ok-copy.ensures ∙ c.first_name.ensures) (c.in_ok-copy-2.ensures ∙ c.first_name-2.ensures) (c.in_ok-copy-3.ensures ∙ c.first_name-3.ensures)))
+    (linked_view_carries environment c.args.view.now along c.requires.coherent.known c.requires.domain c.requires.codomain c.in_ok-map.ensures known)
