@@ -15,29 +15,27 @@ fn words(alloc: Global, folder: &str) -> Result<Vec<String>, AllocError> {
     Ok(all)
 }
 
-/// Checks a folder, and answers how that ended.
-fn check(rt: &HostRuntime, folder: &str) -> Status {
-    let Ok(words) = words(rt.alloc(), folder) else {
-        return Status::Memory;
-    };
-    let mut source = StdSource::new(*rt);
-    let mut sink = StdSink::new(*rt);
-    let mut folders = DiskFolder::new(*rt);
-    run(
-        rt,
-        rt.alloc(),
-        &words,
-        &mut source,
-        &mut sink,
-        &mut folders,
-        &OpenGate,
-    )
-}
-
 fn main(rt: HostRuntime) -> ExitCode {
-    let library = check(&rt, "library");
-    if library != Status::Done {
-        return ExitCode::from(library.number());
+    let mut source = StdSource::new(rt);
+    let mut sink = StdSink::new(rt);
+    let mut folders = DiskFolder::new(rt);
+    let mut status = Status::Done;
+    for folder in ["library", "library_mistakes"] {
+        if status != Status::Done {
+            break;
+        }
+        status = match words(rt.alloc(), folder) {
+            Ok(words) => run(
+                &rt,
+                rt.alloc(),
+                &words,
+                &mut source,
+                &mut sink,
+                &mut folders,
+                &OpenGate,
+            ),
+            Err(_) => Status::Memory,
+        };
     }
-    ExitCode::from(check(&rt, "library_mistakes").number())
+    ExitCode::from(status.number())
 }
