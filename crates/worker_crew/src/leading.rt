@@ -32,7 +32,8 @@ struct Hall<'a, R, S: Subject, G> {
     gate: &'a G,
 }
 
-/// The front leads and the crew works, each in a thread of its own where one can be made, until both are done.
+/// The front leads and the crew works, each in a thread of its own where one can be made, until both are done. Where none can be made
+/// the front comes first: it ends by itself, and closes the board, for which the crew waits.
 fn lead_beside<
     R: Threads + Wait + Sync,
     S: Subject,
@@ -77,7 +78,7 @@ fn lead_beside<
             crew,
         )
     };
-    let (end, ()) = join_mut(rt, &mut leading, &mut working);
+    let ((), end) = join_mut(rt, &mut working, &mut leading);
     end
 }
 
