@@ -1,4 +1,4 @@
-"""Writes a script for `mmt play --workers 0`: `make_script.py SHAPE NUMBER FILE`.
+"""Writes a script for `mmt play`: `make_script.py SHAPE NUMBER FILE`. Of the shape `folder` FILE is a folder for `mmt check`.
 
 chain    NUMBER theories, each of which includes the last and has a structure of it
 plain    NUMBER theories, each of which includes the last and has a constant
@@ -11,7 +11,13 @@ even     a declaration with a value of NUMBER nodes whose halves are even
 heavy    NUMBER theories of 1,000 declarations with a value of eleven nodes, which need nothing of each other, and a check
 judged   a small algebra, and NUMBER theories with a hundred structures of it, which need nothing of each other, and a check
 edited   NUMBER theories, each of which includes one of those before it, and as many edits, each with a report of a theory behind it
+applied  a theory of NUMBER declarations with a value of 400 applications, one in the other
+towers   NUMBER theories, each of which has a structure of the last
+copied   NUMBER copies of a small hierarchy of algebras, each with a view into a theory of its own, and a check
+levels   300 theories, each of which includes the last, and NUMBER edits of the first, the middle and the last one, each with a check
+folder   NUMBER files of a megabyte
 """
+import pathlib
 import random
 import sys
 
@@ -31,7 +37,7 @@ def theory(name, body):
 def linked(count, body):
     yield theory("T0", "a : type.")
     for i in range(1, count):
-        yield theory(f"T{i}", body.format(last=f"T{i - 1}"))
+        yield theory(f"T{i}", body.format(last=f"T{i - 1}", path="." + "s." * (i - 1)))
 
 
 def even(nodes):
@@ -68,6 +74,11 @@ def modules(shape, count):
             yield theory("M", front + HEAD + values(count))
         case "even":
             yield theory("M", HEAD + f"d : a = {even(count)}.")
+        case "applied":
+            value = "f (" * 399 + "f z" + ")" * 399
+            yield theory("M", HEAD + "".join(f"c{i} : a = {value}.\n" for i in range(count)))
+        case "towers":
+            yield from linked(count, "%struct s : {last}. c : s{path}a.")
 
 
 def heavy(count):
@@ -103,6 +114,59 @@ def edited(count):
     yield "check\nlog\n"
 
 
+def hierarchy(i):
+    """A hierarchy of algebras whose names end in this number, and a view of its top."""
+    at = "sg.mag.set."
+    yield theory(f"Set{i}", "el : type. eq : el -> el -> type. refl : {x:el} eq x x.")
+    yield theory(f"Magma{i}", f"%struct set : Set{i}. op : set.el -> set.el -> set.el.")
+    yield theory(
+        f"Semigroup{i}",
+        f"%struct mag : Magma{i}. "
+        "assoc : {x:mag.set.el} {y:mag.set.el} {z:mag.set.el} "
+        "mag.set.eq (mag.op (mag.op x y) z) (mag.op x (mag.op y z)).",
+    )
+    yield theory(f"Monoid{i}", f"%struct sg : Semigroup{i}. e : {at}el. left : {{x:{at}el}} {at}eq (sg.mag.op e x) x.")
+    yield theory(
+        f"Model{i}",
+        "t : type. q : t -> t -> type. r : {x:t} q x x. k : t -> t -> t. u : t. l : {x:t} q (k u x) x. "
+        "a : {x:t} {y:t} {z:t} q (k (k x y) z) (k x (k y z)).",
+    )
+    body = f"{at}el := t. {at}eq := q. {at}refl := r. sg.mag.op := k. sg.assoc := a. e := u. left := l."
+    yield f"View{i}", f"%view View{i} : Monoid{i} -> Model{i} = {{ {body} }}."
+
+
+def copied(count):
+    for i in range(count):
+        for name, text in hierarchy(i):
+            yield put(name, text)
+    yield "check\n"
+
+
+def levels(count):
+    for name, text in linked(300, "%include {last}. c : a."):
+        yield put(name, text)
+    yield "check\n"
+    for i in range(count):
+        at = (0, 150, 299)[i % 3]
+        front = f"%include T{at - 1}. c : a. " if at else "a : type. "
+        yield put(*theory(f"T{at}", front + f"d{i} : a."))
+        yield "check\n"
+
+
+def folder(count, path):
+    """Files of a megabyte with theories of a few hundred declarations."""
+    path.mkdir(parents=True, exist_ok=True)
+    for i in range(count):
+        modules = []
+        size = number = 0
+        while size < 1_000_000:
+            name, text = theory(f"F{i}x{number}", HEAD + values(500))
+            modules.append(text + "\n")
+            size += len(text) + 1
+            number += 1
+        (path / f"f{i}.elf").write_text("".join(modules))
+
+
 def put(name, text):
     return f"put {name}\n{text}\n%%end\n"
 
@@ -115,6 +179,10 @@ def pieces(shape, count):
             yield from judged(count)
         case "edited":
             yield from edited(count)
+        case "copied":
+            yield from copied(count)
+        case "levels":
+            yield from levels(count)
         case _:
             name = ""
             for name, text in modules(shape, count):
@@ -124,6 +192,9 @@ def pieces(shape, count):
 
 def main():
     shape, count, file = sys.argv[1], int(sys.argv[2]), sys.argv[3]
+    if shape == "folder":
+        folder(count, pathlib.Path(file))
+        return
     with open(file, "w") as script:
         script.writelines(pieces(shape, count))
 

@@ -9,6 +9,7 @@ mod path;
 mod qname;
 mod sequence;
 mod shared;
+mod short;
 mod span;
 mod steps;
 

@@ -1,5 +1,6 @@
-//! Names: identifiers whose bytes are shared, so that a copy costs the same for a name of any length.
-ghost use Rattle.std.specs.Prelude.{◌≡◌, ◌↔◌, IfOk, OnOk, IsErrOf, IsTrue, not, nat_eq, refl, Some};
+//! Names: identifiers. The bytes of a short one stand in the name itself, and those of a longer one are shared, so that a
+//! copy costs the same for a name of any length.
+ghost use Rattle.std.specs.Prelude.{◌≡◌, ◌↔◌, ◌<◌, IfOk, IfSome, OnOk, IsErrOf, IsNone, IsTrue, length, not, nat_eq, refl, Some};
 ghost use Rattle.std.specs.Ordering.{nat_cmp};
 ghost use Rattle.std.specs.Hash as fed;
 ghost use Rattle.std.specs.Cmp.{partial_equiv_from_equiv};
@@ -9,6 +10,7 @@ ghost use Rattle.name_meaning.specs.Identifiers.{is_identifier};
 ghost use Rattle.base_types.specs.declared.name.NameFault.TheVariants.{NotAName, Memory as WantOfMemory};
 
 use crate::Memory;
+use crate::short::Short;
 use identifiers::is_identifier;
 use std::alloc::{AllocError, Global};
 use std::cmp::Ordering;
@@ -42,8 +44,7 @@ pub struct Name {
 
 #[derive(Debug, Drop)]
 enum Text {
-    /// The name `x`, which takes no memory. It fills the places of a `SmallVec` that hold no name yet.
-    Filler,
+    Short(Short),
     Shared(ArcStr),
 }
 
@@ -69,9 +70,26 @@ impl Name {
         if !is_identifier(text.as_bytes()) {
             return Err(NameFault::NotAName);
         }
-        Ok(Name {
-            text: Text::Shared(ArcStr::from_str(alloc, text)?),
-        })
+        let text = match Short::new(text) {
+            Some(short) => Text::Short(short),
+            None => Text::Shared(ArcStr::from_str(alloc, text)?),
+        };
+        Ok(Name { text })
+    }
+
+    /// The name with the bytes of an identifier that is short enough to stand in the name itself, which takes no memory.
+    /// None exactly where it has more than 14 bytes.
+    pub fn short(text: &str) -> Option<Name>
+        requires { IsTrue (is_identifier text.now) }
+        ensures name { IfSome result (λ name. name ≡ text.now) }
+        ensures none { IsNone result ↔ (14 < length text.now) }
+    {
+        match Short::new(text) {
+            Some(short) => Some(Name {
+                text: Text::Short(short),
+            }),
+            None => None,
+        }
     }
 
     /// The text of the name.
@@ -80,17 +98,27 @@ impl Name {
         ensures identifier { IsTrue (is_identifier self.now) }
     {
         match &self.text {
-            Text::Filler => "x",
+            Text::Short(text) => text.as_str(),
             Text::Shared(text) => text.as_str(),
         }
     }
 
-    /// An equal name, over the same bytes.
+    /// The bytes of the name. They need no test of UTF-8, as the text of a short name does.
+    fn as_bytes(&self) -> &[u8]
+        ensures { result.now ≡ self.now }
+    {
+        match &self.text {
+            Text::Short(text) => text.as_bytes(),
+            Text::Shared(text) => text.as_str().as_bytes(),
+        }
+    }
+
+    /// An equal name. It takes no memory.
     pub fn copy(&self, _alloc: Global) -> Result<Name, Memory>
         ensures { IfOk result (λ name. name ≡ self.now) }
     {
         let text = match &self.text {
-            Text::Filler => Text::Filler,
+            Text::Short(text) => Text::Short(text.copy()),
             Text::Shared(text) => Text::Shared(text.clone()?),
         };
         Ok(Name { text })
@@ -98,8 +126,11 @@ impl Name {
 }
 
 impl MadeWith<Global> for Name {
+    /// The name `x`. It fills the places of a `SmallVec` that hold no name yet.
     fn made_with(_alloc: Global) -> Name {
-        Name { text: Text::Filler }
+        Name {
+            text: Text::Short(Short::filler()),
+        }
     }
 }
 
@@ -109,7 +140,7 @@ impl PartialEq for Name {
     ghost laws = { partial_equiv_from_equiv nat_list_eq_equiv };
 
     fn eq(&self, other: &Self) -> bool {
-        self.as_str() == other.as_str()
+        self.as_bytes() == other.as_bytes()
     }
 }
 
@@ -137,7 +168,7 @@ impl Ord for Name {
     ghost matches_eq = { texts_ties };
 
     fn cmp(&self, other: &Self) -> Ordering {
-        self.as_str().cmp(other.as_str())
+        self.as_bytes().cmp(other.as_bytes())
     }
 }
 

@@ -22,7 +22,7 @@ use Rattle.judged_meaning.specs.Carrying.{Carriage, CarriedTo, NoSuchView, IllBy
 use Rattle.judged_meaning.specs.JudgingByRules.{judged_by, judged_if, printed_carriage, rules}
 use Rattle.carried_typing.specs.CarriedTyping.{HaveReachOf}
 use Rattle.reach_printing_laws.proofs.PrintedInReach.{faces_print_theories, faces_print_views}
-use Rattle.reach_printing_laws.proofs.CarriedAlike.{faces_carry_the_same}
+use Rattle.reach_printing_laws.proofs.CarriedAlike.{faces_carry_the_same, view_known}
 use Rattle.mmt_interface.specs.CoherentFaces.{AreCoherent}
 use Rattle.mmt_interface.specs.Readings.{environment_of, read_theory, read_verdict, read_view}
 use Rattle.mmt_interface.specs.declared.verdict.Interface.TheVariants.{Theory, View}
@@ -35,12 +35,6 @@ use Rattle.board_front.specs.Told.{IsToldOf, unaccepted}
 use Rattle.board_front.proofs.Printed.{rules_tell}
 use Rattle.verdict_board.specs.declared.replies.Told as told_by_board
 use Rattle.verdict_board.specs.declared.replies.Told.TheVariants as replies
-
-view_known : (known : Known) (face : ViewFace) → view_face known ≡ Some face → known ≡ IsView face
-view_known IsAbsent face h = absurd (cc)
-view_known IsRefused face h = absurd (cc)
-view_known (IsTheory theory) face h = absurd (cc)
-view_known (IsView own) face h = let e : own ≡ face = cc in ap IsView e
 
 -- What is carried is carried along a view.
 pub carried_view : (environment : Environment) (name : Name) (text : Text) (object : Object) (family : Family) → carry environment name text ≡ CarriedTo object family

@@ -9,4 +9,5 @@ pub mod Histories
 pub mod Printed
 pub mod ReachedFaces
 pub mod Standing
+pub mod Subject
 pub mod Tellings

@@ -2,6 +2,8 @@
 #![tactic(auto)]
 
 #[cfg(test)]
+mod answers_tests;
+#[cfg(test)]
 mod graph_tests;
 #[cfg(test)]
 mod log_tests;

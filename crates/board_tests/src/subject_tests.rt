@@ -1,4 +1,4 @@
-//! The law of a subject can be met, and answers are kept in order.
+//! The law of a subject can be met.
 use crate::sizes::Sizes;
 use lf_terms::Name;
 use module_graph::Subject;

@@ -5,11 +5,10 @@ ghost use Rattle.board_seats.specs.Seats.{Keeps};
 ghost use Rattle.board_front.specs.Staying.{IsAtFront, IsFront};
 ghost use Rattle.folder_front.specs.Edits.{MadeFirst};
 
-use board_front::make_edit;
+use board_front::{Mmt, make_edit};
 use board_seats::{BoardPass, SharedBoard};
 use edit_log::Log;
 use lf_terms::Memory;
-use module_check::Mmt;
 use std::alloc::Global;
 use std::sync::Wait;
 

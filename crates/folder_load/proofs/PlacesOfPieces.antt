@@ -4,11 +4,10 @@ use Rattle.std.proofs.lemmas.Str.{utf8_valid_len_le}
 use Rattle.text_meaning.specs.Tokens.{Token, sign, EndSign, DotSign}
 use Rattle.text_meaning.specs.Cut.{Lexed, Tokens, NotUtf8, OpenComment, IsLexed}
 use Rattle.text_meaning.specs.Grammar.{simple, join}
-use Rattle.text_meaning.specs.Reading.{with_end}
 use Rattle.text_meaning.specs.Splitting.{Piece, Division, Pieces, SyntaxFault, UnsupportedFault, before_division, Divides, no_more, other_percent, no_module, no_name, never_closed, no_dot, piece, IsDivision, FileDivides}
-use Rattle.token_laws.specs.SpanLaws.{InOrder}
 use Rattle.token_laws.proofs.Spans.{tokens_stand_well, open_within}
 use Rattle.place_laws.proofs.Derived.{Rises, rises_forward, parted}
+use Rattle.place_laws.proofs.ReadingPlaces.{ended}
 use Rattle.folder_load.specs.Ahead.{PieceStands, PiecesStand}
 
 -- The pieces stand within so many bytes, and so does the place of a fault.
@@ -47,11 +46,6 @@ divides_stand (piece body rest d {w = w} {s = s} {n = n} {o = o} h k divides) fr
     before_stands bytes (record { name = simple s n; span = join w.span d }) o
     (record { name = omega (arith, c, passed, e, f, end); forward = omega (arith, a, b, c, passed, e, f); within = omega (arith, end) })
     (divides_stand divides d.to bytes (p.back).2)
-
--- the tokens of a text rise, and so does the end of the input behind them
-ended : (from : ℕ) (ts : List Token) (end bytes : ℕ) → InOrder from ts end → end ≤ bytes → Rises from (with_end ts end) bytes
-ended from [] end bytes h g = (h, omega arith, g)
-ended from (t ∷ ts) end bytes h g = (h.0, (let l = h.1 in omega (arith, l)), ended t.span.to ts end bytes h.2 g)
 
 lexed_stands : (text : List ℕ) (lexed : Lexed) (division : Division) → IsLexed text lexed → IsDivision lexed division → DivisionStands (length text) division
 lexed_stands text (Tokens ts end) division l h =

@@ -10,12 +10,11 @@ ghost use Rattle.generator_front.specs.Generated.{Ends, HasBegun, IsBegun, IsDon
 
 use crate::counts::Counts;
 use crate::verdicts::verdicts;
-use board_front::make_edit;
+use board_front::{Mmt, make_edit};
 use board_seats::{BoardPass, SharedBoard};
 use edit_log::Log;
 use lf_terms::Memory;
 use mmt_outside::Gate;
-use module_check::Mmt;
 use script_reader::Gen;
 use std::alloc::Global;
 use std::sync::Wait;

@@ -8,12 +8,11 @@ ghost use Rattle.board_front.specs.Staying.{IsAtFront, IsFront, Stays};
 ghost use Rattle.generator_front.specs.Generated.{AreCountsOf};
 
 use crate::counts::Counts;
-use board_front::told;
+use board_front::{Mmt, told};
 use board_seats::{BoardPass, SharedBoard};
 use edit_log::Log;
 use lf_terms::Memory;
 use mmt_outside::Gate;
-use module_check::Mmt;
 use std::alloc::Global;
 use std::sync::Wait;
 

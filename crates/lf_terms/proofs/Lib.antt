@@ -1,5 +1,6 @@
 pub mod KeyedEntries
 pub mod SameName
+pub mod SharedPairs
 pub mod FirstPlaces
 pub mod FlatTables
 pub mod Lookup

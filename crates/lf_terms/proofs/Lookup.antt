@@ -1,6 +1,6 @@
 -- Look-up by name in the tables.
-use Rattle.std.proofs.Common.{◌≡◌, ℕ, Bool, true, false, cond, List, [], ◌∷◌, map, Bor, Option, Some, None, is_some, refl, sym, ap, ◌∙◌}
-use Rattle.std.specs.Prelude.{slice_get, position, nat_lt, length, MatchOption, ◌≤◌}
+use Rattle.std.proofs.Common.{◌≡◌, ℕ, zero, suc, Bool, true, false, cond, List, [], ◌∷◌, map, Bor, arith, Option, Some, None, is_some, refl, sym, ap, ◌∙◌}
+use Rattle.std.specs.Prelude.{slice_get, position, nat_lt, length, MatchOption, IsNone, ◌≤◌}
 use Rattle.std.proofs.lemmas.List.Folds.{find_at}
 use Rattle.std.proofs.lemmas.Bool.{ltb-false}
 use Rattle.std.proofs.lemmas.Option.{slice_get-map, slice_get_past}
@@ -13,7 +13,7 @@ use Rattle.name_meaning.specs.Names.{Path}
 use Rattle.lf_meaning.specs.Signatures.{declaration_of, same_constant, Declaration}
 use Rattle.list_laws.proofs.Options.{mapped_by}
 use Rattle.lf_terms.proofs.KeyedEntries.{found_by_key}
-use Rattle.term_trees.specs.Readings.{read_constant, read_declaration, read_signature, read_image, read_map}
+use Rattle.term_trees.specs.Readings.{read_constant, read_declaration, read_signature, read_image, read_map, read_mapping}
 use Rattle.lf_terms.proofs.SameName.{same_qname, same_qname_equiv}
 use Rattle.lf_terms.specs.Tables.{declared, declared_names, first_with_path, image_of, place_of, same_path, HasDistinctNames}
 use Rattle.base_types.specs.declared.qname.QName.{QName}
@@ -112,3 +112,28 @@ IsPlaceOf decls q place = MatchOption place (declaration_of (read_signature decl
 pub place_read : (decls : List FlatDecl) (q : QName) (place : Option ℕ) → place ≡ place_of decls q → IsPlaceOf decls q place
 place_read decls q None h = sym (declared_read decls q) ∙ ap (option_map read_declaration) (none_found (λ (d : FlatDecl). same_qname q d.name) decls (sym h))
 place_read decls q (Some i) h = slice_get-map read_declaration decls i ∙ ap (option_map read_declaration) (sym (found_there (λ (d : FlatDecl). same_qname q d.name) decls i (sym h))) ∙ declared_read decls q
+
+-- ---- what stands at an index
+
+pub nothing_behind : {A : Type 0} (xs : List A) (i : ℕ) → slice_get xs i ≡ None → length xs ≤ i
+nothing_behind [] i h = omega arith
+nothing_behind (x ∷ xs) zero h = absurd (cc)
+nothing_behind (x ∷ xs) (suc i) h = let e = nothing_behind xs i h in omega (arith, e)
+
+abbrev Found : Type 0
+Found = Option (Bor QName × Bor Image)
+
+abbrev pub pair_of : Found → Option (QName × Image)
+pair_of = option_map (λ (pair : Bor QName × Bor Image). (pair.0.now, pair.1.now))
+
+pub none_at : (images : List (QName × Image)) (i : ℕ) (found : Found) → pair_of found ≡ slice_get images i → (IsNone found → length images ≤ i) × (length images ≤ i → IsNone found)
+none_at images i None h = (λ e. nothing_behind images i (sym h), λ l. refl)
+none_at images i (Some pair) h = (λ e. absurd (cc), λ l. absurd (let e = h ∙ slice_get_past images i l in cc))
+
+pub mapping_at : (images : List (QName × Image)) (i : ℕ) (found : Found) → pair_of found ≡ slice_get images i
+    → option_map (λ (pair : Bor QName × Bor Image). read_mapping (pair.0.now, pair.1.now)) found ≡ slice_get (read_map images) i
+mapping_at images i found h = fused found ∙ ap (option_map read_mapping) h ∙ sym (slice_get-map read_mapping images i)
+  where
+    fused : (o : Found) → option_map (λ (pair : Bor QName × Bor Image). read_mapping (pair.0.now, pair.1.now)) o ≡ option_map read_mapping (pair_of o)
+    fused None = refl
+    fused (Some pair) = refl

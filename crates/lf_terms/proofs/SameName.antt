@@ -25,3 +25,10 @@ same_qname_equiv = record {
   symm = λ q r. both_ways (same_qname q r) (same_qname r q) (same_turned (read_constant q) (read_constant r)) (same_turned (read_constant r) (read_constant q));
   congr = λ q r s h. ap (λ x. same_qname x s) (same_qname_sound q r h);
 }
+
+pub same_constant_equiv : IsEquivalence same_constant
+same_constant_equiv = record {
+  refl = same_constant_itself;
+  symm = λ c d. both_ways (same_constant c d) (same_constant d c) (same_turned c d) (same_turned d c);
+  congr = λ c d e h. ap (λ x. same_constant x e) (same_constant_sound c d h);
+}

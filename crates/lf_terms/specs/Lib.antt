@@ -1,1 +1,3 @@
+pub mod Identities
+pub mod Parts
 pub mod Tables

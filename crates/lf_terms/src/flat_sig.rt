@@ -1,19 +1,22 @@
 //! Flat signatures: declarations in order, with a table of their names and one of their paths.
-ghost use Rattle.std.specs.Prelude.{◌≡◌, ◌↔◌, ◌≤◌, ◌-◌, ◌∷◌, ◌++◌, [], length, slice_get, take, IfErr, IsErrOf, IsSome, None, MatchOption, OnErr, OnOk, IsNone};
+ghost use Rattle.std.specs.Prelude.{◌≡◌, ◌↔◌, ◌≤◌, ◌-◌, ◌∷◌, ◌++◌, [], length, slice_get, take, IfErr, IfOk, IfSome, IsErrOf, IsSome, None, MatchOption, OnErr, OnOk, IsNone, true};
 ghost use Rattle.std.specs.List.{find};
 ghost use Rattle.std.specs.Map.{lookup};
 ghost use Rattle.std.specs.Option.{option_copied, option_map};
 ghost use Rattle.lf_meaning.specs.Signatures.{declaration_of, same_constant, Declaration};
-ghost use Rattle.term_trees.specs.Readings.{read_constant, read_declaration, read_signature};
+ghost use Rattle.library_meaning.specs.Words.{identity_map, identity_mapping, own_value};
+ghost use Rattle.term_trees.specs.Readings.{read_constant, read_declaration, read_map, read_signature, read_value};
+ghost use Rattle.lf_terms.specs.Identities.{AreIdentity};
 ghost use Rattle.lf_terms.specs.Tables.{declared, first_with_path, handed_back, place_of, same_path, HasDistinctNames};
 ghost use Rattle.lf_terms.specs.declared.flat_sig.PushFault.TheVariants.{Twice};
 
+use crate::map_part::MapPart;
 use crate::path_names::PathNames;
-use base_types::{Name, Path, QName};
+use base_types::{Arc, Memory, Name, Path, QName};
 use indexmap::IndexMap;
 use std::alloc::Global;
 use std::marker::Model;
-use term_trees::FlatDecl;
+use term_trees::{FlatDecl, Image, Value};
 
 /// Declarations of different names, seen as the list of them, in the order in which they came.
 #[derive(Debug, Drop)]
@@ -22,6 +25,8 @@ pub struct FlatSig {
     decls: IndexMap<QName, FlatDecl>,
     /// The index of the first declaration of each path.
     by_path: IndexMap<Path, usize>,
+    /// The images that the identity gives to these declarations, if they were made since the last of them came or went.
+    identity: Option<Arc<MapPart>>,
 }
 
 impl Model for FlatSig {
@@ -31,6 +36,7 @@ impl Model for FlatSig {
     ghost use Rattle.term_trees.specs.declared.flat_decl.FlatDecl.{FlatDecl};
     ghost use Rattle.term_trees.specs.contracts.flat_decl.FlatDecl as e;
     ghost use Rattle.lf_terms.specs.Tables.{HasFirstPlaces};
+    ghost use Rattle.lf_terms.specs.Identities.{AreIdentity};
 
     ghost Value = { List FlatDecl };
 
@@ -38,7 +44,7 @@ impl Model for FlatSig {
 
     ghost view = { λ s. values_of s.decls.entries };
 
-    ghost invariant = { λ s. (keys_of s.decls.entries ≡ map (λ d. d.name) (values_of s.decls.entries)) × HasFirstPlaces s.by_path.entries (values_of s.decls.entries) };
+    ghost invariant = { λ s. ((keys_of s.decls.entries ≡ map (λ d. d.name) (values_of s.decls.entries)) × HasFirstPlaces s.by_path.entries (values_of s.decls.entries)) × AreIdentity s.identity (values_of s.decls.entries) };
 }
 
 /// Why a declaration was not added. It comes back with the reason.
@@ -58,6 +64,7 @@ impl FlatSig {
         FlatSig {
             decls: IndexMap::new(alloc),
             by_path: IndexMap::new(alloc),
+            identity: None,
         }
     }
 
@@ -85,6 +92,7 @@ impl FlatSig {
         ensures err { OnErr result (self.new ≡ self.old) }
         ensures back { IfErr result (λ back. back ≡ decl) }
     {
+        self.identity = None;
         if self.by_path.contains_key(&decl.name.path) {
             insert(&mut self.decls, decl)
         } else {
@@ -146,6 +154,7 @@ impl FlatSig {
     fn drop_last(&mut self)
         ensures { self.new ≡ take (length self.old - 1) self.old }
     {
+        self.identity = None;
         if let Some((name, decl)) = self.decls.pop() {
             drop(name);
             let path = &decl.name.path;
@@ -153,6 +162,42 @@ impl FlatSig {
                 self.by_path.swap_remove(path);
             }
         }
+    }
+
+    /// Makes the images that the identity gives to these declarations, so that maps can share them; where the declarations are of
+    /// more than one theory, none. They are let go when a declaration comes or goes.
+    pub fn finish(&mut self, alloc: Global) -> Result<(), Memory>
+        ensures { self.new ≡ self.old }
+    {
+        let made = self.identity_part(alloc)?;
+        self.identity = made;
+        Ok(())
+    }
+
+    /// The images that the identity gives to these declarations, if they were made.
+    pub fn identity(&self) -> Option<&Arc<MapPart>>
+        ensures { IfSome result (λ part. read_map part.now ≡ identity_map (read_signature self.now)) }
+    {
+        self.identity.as_ref()
+    }
+
+    /// These images, if the declarations are of one theory.
+    fn identity_part(&self, alloc: Global) -> Result<Option<Arc<MapPart>>, Memory>
+        ensures { IfOk result (λ made. AreIdentity made self.now) }
+    {
+        let Some(first) = self.at(0) else {
+            return Ok(None);
+        };
+        let mut part = MapPart::new(alloc, &first.name.theory)?;
+        for i in 0..self.len() {
+            if let Some(decl) = self.at(i) {
+                let added = push_own(alloc, &mut part, decl)?;
+                if !added {
+                    return Ok(None);
+                }
+            }
+        }
+        Ok(Some(Arc::new(alloc, part)?))
     }
 
     /// The number of declarations.
@@ -213,4 +258,23 @@ fn insert_first(
     insert(decls, decl)?;
     let _ = by_path.insert(path, index);
     Ok(())
+}
+
+/// Adds a declared constant with the image that the identity gives to it, and says so, where it is of the part's theory.
+fn push_own(alloc: Global, part: &mut MapPart, decl: &FlatDecl) -> Result<bool, Memory>
+    ensures { IfOk result (λ added. added ≡ true → read_map part.new ≡ read_map part.old ++ identity_mapping (read_declaration decl.now) ∷ []) }
+{
+    let value = own_value(alloc, decl)?;
+    let class = decl.class.copy(alloc)?;
+    part.push(decl.name.copy(alloc)?, Image { class, value })
+}
+
+/// The value that the identity gives to a declared constant.
+fn own_value(alloc: Global, decl: &FlatDecl) -> Result<Value, Memory>
+    ensures { IfOk result (λ value. read_value value ≡ own_value (read_declaration decl.now) (read_declaration decl.now).value) }
+{
+    match &decl.value {
+        Some(value) => value.copy(alloc),
+        None => Ok(Value::Same(decl.name.copy(alloc)?)),
+    }
 }

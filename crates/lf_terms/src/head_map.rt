@@ -1,36 +1,57 @@
 //! Maps from constants to their images, in order.
-ghost use Rattle.std.specs.Prelude.{◌≡◌, ◌↔◌, ◌≤◌, ◌∷◌, ◌++◌, [], length, slice_get, IfErr, IfOk, IsErrOf, IsNone, IsSome, OnErr, OnOk};
+ghost use Rattle.std.specs.Prelude.{◌≡◌, ◌↔◌, ◌≤◌, ◌∷◌, ◌++◌, [], length, slice_get, IfErr, IfOk, IsErrOf, IsNone, IsSome, OnErr, OnOk, if◌then◌else◌};
 ghost use Rattle.std.specs.Option.{option_copied, option_map};
 ghost use Rattle.lf_meaning.specs.HeadMaps as meant;
 ghost use Rattle.term_trees.specs.Readings.{read_constant, read_image, read_map, read_mapping};
+ghost use Rattle.lf_terms.specs.Parts.{image_in_part};
 ghost use Rattle.lf_terms.specs.Tables.{image_of, pair_handed_back, HasDistinctHeads};
 ghost use Rattle.lf_terms.specs.declared.head_map.MapFault.TheVariants.{Twice};
 
-use base_types::{Memory, QName};
+use crate::map_part::MapPart;
+use base_types::{Arc, Memory, Name, QName};
 use indexmap::IndexMap;
 use std::alloc::Global;
 use std::marker::Model;
 use term_trees::Image;
 
-/// Different constants with their images, seen as the list of the pairs, in the order in which they came.
+/// Different constants with their images, seen as the list of the pairs, in the order in which they came. The first of them may
+/// stand in parts, which other maps share.
 #[derive(Debug, Drop)]
 pub struct HeadMap {
-    images: IndexMap<QName, Image>,
+    /// The first pairs, in parts under the names of their theories.
+    parts: IndexMap<Name, Arc<MapPart>>,
+    /// The pairs behind these.
+    own: IndexMap<QName, Image>,
+    /// The number of all pairs.
+    count: usize,
 }
 
 impl Model for HeadMap {
-    ghost use Rattle.std.specs.Prelude.{List};
+    ghost use Rattle.std.specs.Prelude.{List, ◌++◌};
     ghost use Rattle.std.specs.Coded.{codes};
     ghost use Rattle.base_types.specs.declared.qname.QName.{QName};
     ghost use Rattle.term_trees.specs.declared.flat_decl.Image.{Image};
     ghost use Rattle.base_types.specs.contracts.qname.QName as q;
     ghost use Rattle.term_trees.specs.contracts.flat_decl.Image as e;
+    ghost use Rattle.lf_terms.specs.Parts.{pairs_of, HasParts};
 
     ghost Value = { List (QName × Image) };
 
     ghost coded = { Prim.hlevel (codes, q.the_row.coded, e.the_row.coded) };
 
-    ghost view = { λ m. m.images.entries };
+    ghost view = { λ m. pairs_of m.parts.entries ++ m.own.entries };
+
+    ghost invariant = { λ m. HasParts m.parts.entries m.own.entries m.count };
+}
+
+/// The image of a constant in the part of its theory.
+fn image_in_part<'a>(parts: &'a IndexMap<Name, Arc<MapPart>>, name: &QName) -> Option<&'a Image>
+    ensures { option_copied result ≡ image_in_part parts.now.entries name.now }
+{
+    match parts.get(&name.theory) {
+        Some(part) => part.get().get(name),
+        None => None,
+    }
 }
 
 /// Why a pair was not added. It comes back with the reason.
@@ -48,7 +69,9 @@ impl HeadMap {
         ensures { result ≡ [] }
     {
         HeadMap {
-            images: IndexMap::new(alloc),
+            parts: IndexMap::new(alloc),
+            own: IndexMap::new(alloc),
+            count: 0,
         }
     }
 
@@ -60,16 +83,64 @@ impl HeadMap {
         ensures twice { IsErrOf result (Twice name image) ↔ IsSome (image_of self.old name) }
         ensures back { IfErr result (λ fault. pair_handed_back fault ≡ (name, image)) }
     {
-        if self.images.contains_key(&name) {
+        if self.get(&name).is_some() {
             return Err(MapFault::Twice(name, image));
         }
-        match self.images.insert(name, image) {
+        let Some(count) = self.count.checked_add(1) else {
+            return Err(MapFault::Memory(name, image));
+        };
+        match self.own.insert(name, image) {
             Ok(previous) => {
                 drop(previous);
+                self.count = count;
                 Ok(())
             }
             Err(failed) => Err(MapFault::Memory(failed.value.0, failed.value.1)),
         }
+    }
+
+    /// Adds the pairs of a part at the end. Where all pairs before it stand in parts, and none of these is of its theory, the part
+    /// is shared, which takes no memory for its pairs; else they are copied. Want of memory too where a constant of it has an
+    /// image already.
+    pub fn push_part(&mut self, alloc: Global, part: &Arc<MapPart>) -> Result<(), Memory>
+        ensures { OnOk result (read_map self.new ≡ read_map self.old ++ read_map part.now) }
+    {
+        if self.share(alloc, part)? {
+            return Ok(());
+        }
+        self.push_copies(alloc, part.get())
+    }
+
+    /// Adds the pairs of a part at the end by sharing it, and says so, where that can be done.
+    fn share(&mut self, alloc: Global, part: &Arc<MapPart>) -> Result<bool, Memory>
+        ensures { IfOk result (λ shared. self.new ≡ (if shared then self.old ++ part.now else self.old)) }
+    {
+        let pairs = part.get();
+        let Some(count) = self.count.checked_add(pairs.len()) else {
+            return Ok(false);
+        };
+        let theory = pairs.theory();
+        if self.own.len() > 0 || self.parts.contains_key(theory) {
+            return Ok(false);
+        }
+        let key = theory.copy(alloc)?;
+        let shared = part.share()?;
+        let previous = self.parts.insert(key, shared)?;
+        drop(previous);
+        self.count = count;
+        Ok(true)
+    }
+
+    /// Adds copies of the pairs of a part.
+    fn push_copies(&mut self, alloc: Global, part: &MapPart) -> Result<(), Memory>
+        ensures { OnOk result (read_map self.new ≡ read_map self.old ++ read_map part.now) }
+    {
+        for i in 0..part.len() {
+            if let Some((name, image)) = part.at(i) {
+                self.push_copy(alloc, name, image)?;
+            }
+        }
+        Ok(())
     }
 
     /// The image of a constant. None exactly where the name is not there. It takes expected constant time, by a hash
@@ -78,7 +149,10 @@ impl HeadMap {
         ensures image { option_copied result ≡ image_of self.now name.now }
         ensures meaning { option_map (λ i. read_image i.now) result ≡ meant.image_of (read_map self.now) (read_constant name.now) }
     {
-        self.images.get(name)
+        match image_in_part(&self.parts, name) {
+            Some(image) => Some(image),
+            None => self.own.get(name),
+        }
     }
 
     /// The constant at an index, counted from 0, with its image. None exactly where the index is past the end.
@@ -87,7 +161,18 @@ impl HeadMap {
         ensures none { IsNone result ↔ (length self.now ≤ i) }
         ensures meaning { option_map (λ pair. read_mapping (pair.0.now, pair.1.now)) result ≡ slice_get (read_map self.now) i }
     {
-        self.images.get_index(i)
+        let mut left = i;
+        for index in 0..self.parts.len() {
+            if let Some((_, part)) = self.parts.get_index(index) {
+                let part = part.get();
+                let len = part.len();
+                if left < len {
+                    return part.at(left);
+                }
+                left -= len;
+            }
+        }
+        self.own.get_index(left)
     }
 
     /// The same constants, with copies of their images.
@@ -123,6 +208,6 @@ impl HeadMap {
         ensures len { result ≡ length self.now }
         ensures distinct { HasDistinctHeads self.now }
     {
-        self.images.len()
+        self.count
     }
 }

@@ -4,6 +4,7 @@
 
 mod flat_sig;
 mod head_map;
+mod map_part;
 mod path_names;
 
 pub use base_types::{
@@ -11,6 +12,7 @@ pub use base_types::{
 };
 pub use flat_sig::{FlatSig, PushFault};
 pub use head_map::{HeadMap, MapFault};
+pub use map_part::MapPart;
 pub use term_trees::{
     Class, Ctx, Fam, FlatDecl, Head, Image, Kind, Obj, Simple, Spine, Value, erase, same_class,
     same_fam, same_kind, same_obj, same_value, shift_fam, shift_kind, shift_obj,

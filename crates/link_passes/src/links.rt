@@ -11,7 +11,7 @@ use crate::images::add_own_images;
 use crate::sharing::shared_tests;
 use lf_terms::HeadMap;
 use mmt_syntax::Assigns;
-use morphism::{Assigned, LinkFault, Setting, covering_map, read_assigns};
+use morphism::{Assigned, LinkFault, Setting, read_assigns, settled_covering_map};
 use std::alloc::Global;
 
 /// The map of a link with these assignments, or the first refusal. The faces are coherent, and the domain is an accepted
@@ -38,7 +38,7 @@ fn assigned_map(
     requires { IsSettled (read_setting setting.now) }
     ensures { Links read_map result (passes.assigned_map (read_setting setting.now) (read_all_assigned assigned.now)) }
 {
-    let front = covering_map(alloc, setting, assigned)?;
+    let front = settled_covering_map(alloc, setting, assigned)?;
     later_passes(alloc, setting, assigned, front)
 }
 

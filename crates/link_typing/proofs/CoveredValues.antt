@@ -1,13 +1,13 @@
 -- The values that coverings give to included constants fit their translated classes.
-use Rattle.std.proofs.Common.{◌≡◌, ℕ, zero, suc, Bool, true, false, List, [], ◌∷◌, ◌++◌, take, slice_get, Option, Some, None, is_some, option_map, ◌&&◌, ◌||◌, inl, inr, ⊎_elim, refl, sym, ap, ap₂, ◌∙◌, subst, subst₂}
-use Rattle.std.proofs.lemmas.Bool.{or_cases, and_parts}
+use Rattle.std.proofs.Common.{◌≡◌, ℕ, Bool, true, false, List, [], ◌∷◌, ◌++◌, take, slice_get, Option, Some, None, is_some, option_map, ◌||◌, ⊎_elim, refl, sym, ap, ◌∙◌, subst, subst₂}
+use Rattle.std.proofs.lemmas.Bool.{or_cases}
 use Rattle.name_meaning.specs.Names.{Name, same_name}
 use Rattle.lf_meaning.specs.Terms.{Constant}
 use Rattle.lf_meaning.specs.Signatures.{Class, Value, Declaration, Signature, declaration_of, class_of}
 use Rattle.lf_meaning.specs.Judgements.{Fits, ValueFits, IsDeclaration, IsSignature}
 use Rattle.lf_typing.proofs.Declared.{declared_as}
 use Rattle.lf_typing.proofs.Growing.{signature_shrinks}
-use Rattle.list_laws.proofs.Members.{Member, in_append, append_left, append_right, in_flat_map, any_found, any_of, place_member, member_place}
+use Rattle.list_laws.proofs.Members.{Member, in_append, append_left, append_right, in_flat_map, place_member, member_place}
 use Rattle.name_laws.proofs.Order.{among_member, member_among, same_sound, same_itself}
 use Rattle.lf_meaning.specs.HeadMaps.{Image, HeadMap, image_of}
 use Rattle.translation_meaning.specs.Translation.{translate_class, translate_value}
@@ -22,7 +22,7 @@ use Rattle.library_meaning.specs.Coherence.{IsCoherentMap}
 use Rattle.library_meaning.specs.Words.{Link, own_value, identity_mapping, identity_map}
 use Rattle.text_meaning.specs.Tokens.{Span}
 use Rattle.link_meaning.specs.Assignments.{Setting, is_or_includes, included_theories, Assigned, Covering}
-use Rattle.link_meaning.specs.Coverings.{identity_covers, is_identity_covering, identity_on}
+use Rattle.link_meaning.specs.Coverings.{is_identity_covering, identity_on}
 use Rattle.link_meaning.specs.Passes.{is_own}
 use Rattle.link_meaning.specs.Equations.{IsCovering, ByIdentity, ByAssignment, CoveringsGive, HasValue, HasValueBy, MeetsEquations}
 use Rattle.link_laws.proofs.Linked.{own_named, own_by, includes_other, included_in, declarations_hold}
@@ -38,6 +38,7 @@ use Rattle.row_typing.proofs.Grown.{fits_more}
 use Rattle.row_typing.proofs.WordsTyped.{flat_typed}
 use Rattle.row_typing.proofs.SameValues.{SameAt, classes_same, values_same}
 use Rattle.row_typing.proofs.Identity.{identity_image, identity_typed}
+use Rattle.row_typing.proofs.SharedParts.{spreads}
 use Rattle.row_typing.proofs.ProperImages.{value_proper, images_proper}
 use Rattle.link_typing.proofs.Assigning.{ItemTyped}
 use Rattle.std.proofs.lemmas.Option.{same_Some}
@@ -137,43 +138,9 @@ module _ (setting : Setting) (ok : SettingHolds setting) (typed : SettingTyped s
 
     -- ---- identities
 
-    taken : {A : Type 0} (i : ℕ) (xs : List A) (x : A) → Member x (take i xs) → Member x xs
-    taken zero xs x n = absurd n
-    taken (suc i) [] x n = absurd n
-    taken (suc i) (y ∷ ys) x (inl e) = inl e
-    taken (suc i) (y ∷ ys) x (inr n) = inr (taken i ys x n)
-
-    sees_through : (top theory other : Name) → sees (includes_of (theory_of setting.environment top)) theory ≡ true → sees (includes_of (theory_of setting.environment theory)) other ≡ true → sees (includes_of (theory_of setting.environment top)) other ≡ true
-    sees_through top theory other s t =
-        let names : List Name = includes_of (theory_of setting.environment top) in
-        let p = member_place (includes_of (theory_of setting.environment top)) theory (among_member (includes_of (theory_of setting.environment top)) theory s) in
-        let b = (includes_closed setting.environment ok.coherent top).behind p.0 theory other p.1 t in
-        member_among (includes_of (theory_of setting.environment top)) other (taken p.0 (includes_of (theory_of setting.environment top)) other (among_member (take p.0 (includes_of (theory_of setting.environment top))) other b))
-
-    covers_by : Name → Name → Bool
-    covers_by other theory = identity_covers setting assigned theory && sees (includes_of (theory_of setting.environment theory)) other
-
-    both_true : (a b : Bool) → a ≡ true → b ≡ true → (a && b) ≡ true
-    both_true a b e f = ap₂ (λ x y. x && y) e f
-
-    right_true : (a b : Bool) → b ≡ true → (a || b) ≡ true
-    right_true true b e = refl
-    right_true false b e = e
-
-    -- a theory that an identity covers is covered with all that it includes
-    spreads : (theory other : Name) → Member theory (included_theories setting) → sees (includes_of (theory_of setting.environment theory)) other ≡ true → is_identity_covering setting assigned theory ≡ true → is_identity_covering setting assigned other ≡ true
-    spreads theory other k s i =
-        right_true (identity_covers setting assigned other) _
-        (⊎_elim
-        (λ e. any_of (λ (x : Name). identity_covers setting assigned x && sees (includes_of (theory_of setting.environment x)) other) (included_theories setting) theory k (both_true (identity_covers setting assigned theory) (sees (includes_of (theory_of setting.environment theory)) other) e s))
-        (λ e. let q = any_found (λ (x : Name). identity_covers setting assigned x && sees (includes_of (theory_of setting.environment x)) theory) (included_theories setting) e in
-        let r = and_parts (identity_covers setting assigned q.0) (sees (includes_of (theory_of setting.environment q.0)) theory) q.2 in
-        any_of (λ (x : Name). identity_covers setting assigned x && sees (includes_of (theory_of setting.environment x)) other) (included_theories setting) q.0 q.1 (both_true (identity_covers setting assigned q.0) (sees (includes_of (theory_of setting.environment q.0)) other) r.0 (sees_through q.0 theory other r.1 s)))
-        (or_cases (identity_covers setting assigned theory) _ i))
-
     identity_covering : (theory : Name) → Member theory (included_theories setting) → is_identity_covering setting assigned theory ≡ true → (x : Declaration) → Member x (flat_of setting.environment theory) → is_identity_covering setting assigned x.name.theory ≡ true
     identity_covering theory k i x m =
-        ⊎_elim (λ e. subst (λ z. is_identity_covering setting assigned z ≡ true) (same_sound theory x.name.theory e) i) (λ e. spreads theory x.name.theory k e i)
+        ⊎_elim (λ e. subst (λ z. is_identity_covering setting assigned z ≡ true) (same_sound theory x.name.theory e) i) (λ e. spreads setting ok.coherent assigned theory x.name.theory k e i)
         (or_cases (same_name theory x.name.theory) (sees (includes_of (theory_of setting.environment theory)) x.name.theory) (theory_reaches theory x m))
 
     identity_own : (sig : Signature) → Once sig → (x : Declaration) → Member x sig → value_in (identity_map sig) x.name ≡ Some (own_value x x.value)

@@ -1,10 +1,10 @@
 -- Laws of what sources and sinks tell.
-use Rattle.std.proofs.Common.{◌≡◌, ℕ, ◌+◌, List, [], ◌++◌, length, take, drop, refl, sym, append_assoc, arith, length-append}
+use Rattle.std.proofs.Common.{◌≡◌, ℕ, ◌+◌, List, [], ◌++◌, length, take, drop, refl, sym, ap, ◌∙◌, append_assoc, arith, length-append}
 use Rattle.std.specs.Prelude.{None, Some}
 use Rattle.std.specs.declared.option.Option.{Option}
 use Rattle.std.proofs.lemmas.List.{append-nil, take-append-drop, take-append-le}
 use Rattle.std.proofs.Math.Seq.{take-add, take-append-add, take-length}
-use Rattle.mmt_outside.specs.Bytes.{Taken, TookPrefix, appended, preceded}
+use Rattle.mmt_outside.specs.Bytes.{ReadPrefix, Taken, TookPrefix, appended, preceded}
 
 -- bytes taken one piece after the other are the pieces taken at once
 pub appended-appended : (taken : Option Taken) (first second : List ℕ) → appended (appended taken first) second ≡ appended taken (first ++ second)
@@ -24,6 +24,17 @@ preceded-preceded first second (Some rest) = simp append_assoc
 pub preceded-nil : (left : Option (List ℕ)) → preceded [] left ≡ left
 preceded-nil None = refl
 preceded-nil (Some rest) = refl
+
+-- nothing that was read is a first part of what was left
+pub ReadPrefix-none : (left : Option (List ℕ)) → ReadPrefix left left
+ReadPrefix-none left = record { piece = []; read = sym (preceded-nil left) }
+
+-- so is one first part, and then another
+pub ReadPrefix-more : (before between now : Option (List ℕ)) → ReadPrefix before between → ReadPrefix between now → ReadPrefix before now
+ReadPrefix-more before between now first second = record {
+  piece = first.piece ++ second.piece;
+  read = first.read ∙ ap (preceded first.piece) second.read ∙ preceded-preceded first.piece second.piece now;
+}
 
 -- after a first part of a list the next bytes of it make a longer first part
 pub appended-take : (taken : Option Taken) (n m : ℕ) (bytes : List ℕ) → appended (appended taken (take n bytes)) (take m (drop n bytes)) ≡ appended taken (take (n + m) bytes)

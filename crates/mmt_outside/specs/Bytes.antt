@@ -11,6 +11,11 @@ preceded bytes (Some rest) = Some (bytes ++ rest)
 abbrev pub IsEndOfInput : Option (List ℕ) → ℕ → Type 0
 IsEndOfInput left count = IfSome left (λ bytes. (count ≡ 0) ↔ (bytes ≡ []))
 
+-- Of the bytes left a first part was read, which may be none or all of them; where they are told, they still are.
+pub record ReadPrefix (before now : Option (List ℕ)) : Type 0 where
+  pub piece : List ℕ
+  pub read : before ≡ preceded piece now
+
 -- What a sink tells: the bytes taken, and how many of them its last flush without an error covered.
 pub record Taken : Type 0 where
   pub bytes : List ℕ

@@ -1,8 +1,8 @@
 -- A session as its front leaves it, and what becomes of it then.
 use Rattle.std.proofs.Common.{◌≡◌, ℕ, true, List, [], refl, sym, ap, ◌∙◌, subst, arith}
 use Rattle.std.specs.Prelude.{Option, Some, None, IfSome, IsNone, IsSome}
-use Rattle.mmt_outside.specs.Bytes.{Taken}
-use Rattle.mmt_outside.proofs.Bytes.{TookPrefix-none}
+use Rattle.mmt_outside.specs.Bytes.{ReadPrefix, Taken}
+use Rattle.mmt_outside.proofs.Bytes.{ReadPrefix-none, TookPrefix-none}
 use Rattle.run_meaning.specs.ScriptItems.{script_of}
 use Rattle.run_meaning.specs.ScriptOutput.{has_fault}
 use Rattle.run_meaning.specs.ScriptLogs.{script_log}
@@ -31,6 +31,7 @@ none_led left reads before writes last stays closed = record {
   closed = closed;
   ends = none_played before left last stays;
   read_all = λ e. absurd (cc);
+  part_read = ReadPrefix-none left;
   answers = tt;
   flush = tt;
   read = λ e. absurd (cc);
@@ -69,6 +70,7 @@ was_led status left rest reads reads_after before now writes writes_after histor
       closed = closed_later led.seen history stays front.closed;
       ends = ended_later status before now left led.seen history stays front.ends;
       read_all = front.read_all;
+      part_read = front.part_read;
       answers = front.answers;
       flush = front.flush;
       read = front.read;
@@ -113,6 +115,9 @@ module _ (status : Status) (left rest : Option (List ℕ)) (reads reads_after : 
 
   pub says_backs : IfSome left (λ bytes. IfSome board (λ last. BacksWritten before now bytes last))
   says_backs = subst (λ o. IfSome left (λ bytes. IfSome o (λ last. BacksWritten before now bytes last))) (sym at_end.1) (ended_backs status before now left at_end.0 at_end.2.ends)
+
+  pub says_left : ReadPrefix left rest
+  says_left = at_end.2.part_read
 
   pub says_legal : IfSome board (λ last. IsLegal dependencies last)
   says_legal = subst (λ o. IfSome o (λ last. IsLegal dependencies last)) (sym at_end.1) at_end.2.legal

@@ -24,14 +24,12 @@ use Rattle.mmt_top.specs.Session.{BacksWritten, EditsAre, EndsAs, Leaves, Sessio
 use Rattle.mmt_top.proofs.Commands.{spoken_append, spoken_one}
 use Rattle.mmt_top.proofs.Played.{begins_through, ends_behind, leaves_later, memory_fails, plays_more, plays_none}
 use Rattle.script_reader.proofs.TextSoFar.{if_some_map}
+use Rattle.script_reader.proofs.Puts.{not_told}
 
 -- the session so far: where the bytes to come were told, they are, and what was written is what goes before their output
 abbrev pub Played : Option Taken → Option Taken → Option (List ℕ) → Option (List ℕ) → History → History → Reading → Reading → Type 0
 Played before now come after first second reading later =
     IfSome come (λ bytes. IfSome after (λ rest. SessionGoesOn before now bytes first second reading later rest) × IsSome after)
-
-not_told : IsSome {T = List ℕ} None → ⊥
-not_told t = cc
 
 pub played_nothing : (before : Option Taken) (come : Option (List ℕ)) (history : History) (reading : Reading) → IsLegal dependencies history
     → Played before before come come history history reading reading

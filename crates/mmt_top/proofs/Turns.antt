@@ -26,6 +26,7 @@ use Rattle.script_reader.specs.Reading.{Reading}
 use Rattle.script_reader.specs.Texts.{StaysTold}
 use Rattle.script_reader.specs.Commands.{read_command}
 use Rattle.script_reader.specs.Answers.{Leaves as LeavesLines, IsNext, IsFault}
+use Rattle.script_reader.proofs.Puts.{not_told}
 use Rattle.script_reader.specs.declared.command.Command.{Command}
 use Rattle.script_reader.specs.declared.command.Command.TheVariants as spoken
 use Rattle.script_reader.specs.declared.fault.ScriptFault.{ScriptFault as Fault}
@@ -137,9 +138,6 @@ module _ (reading later : Reading) (bytes : List ℕ) (before now : Option Taken
       → LeavesLines (meant.next_of (lines_of bytes)) c (lines_of bytes) after reading.line later.line → IsSome after
       → SpokenTells result before now c log next first second → TurnTells result before now bytes after first second reading later
   turn_spoken result None leaves told tells = absurd (not_told told)
-    where
-      not_told : IsSome {T = List ℕ} None → ⊥
-      not_told t = cc
   turn_spoken None (Some rest) leaves told tells = (goes_on rest leaves tells, told)
   turn_spoken (Some status) (Some rest) leaves told tells = (
     subst (λ items. SessionEnds status before now items first second) (sym (items_command reading later bytes rest c leaves)) (stops status (items_to_come later rest) tells),
@@ -219,10 +217,10 @@ pub told_spoken : (result : Option Status) (reading later : Reading) (come after
     → StaysTold come after → IfSome o (λ c. SpokenTells result before now c log next first second)
     → IfSome come (λ bytes. TurnTells result before now bytes after first second reading later)
 told_spoken result reading later None after before now o log next first second fresh front some is told tells = tt
-told_spoken result reading later (Some bytes) after before now None log next first second fresh front some is told tells = absurd (not_told some)
+told_spoken result reading later (Some bytes) after before now None log next first second fresh front some is told tells = absurd (no_command some)
   where
-    not_told : IsSome {T = meant.Command} None → ⊥
-    not_told t = cc
+    no_command : IsSome {T = meant.Command} None → ⊥
+    no_command t = cc
 told_spoken result reading later (Some bytes) after before now (Some c) log next first second fresh front some is told tells =
     turn_spoken reading later bytes before now c log next first second front result after (is fresh) (told refl) tells
 

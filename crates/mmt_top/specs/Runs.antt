@@ -1,6 +1,6 @@
 -- How a run of the program ends.
 use Rattle.std.specs.Prelude.{◌≡◌, ◌≤◌, ℕ, Bool, true, false, List, [], Option, Some, None, IfSome}
-use Rattle.mmt_outside.specs.Bytes.{Taken, appended, flushed, TookPrefix}
+use Rattle.mmt_outside.specs.Bytes.{Taken, appended, flushed, ReadPrefix, TookPrefix}
 use Rattle.mmt_outside.specs.Faults.{Rose}
 use Rattle.mmt_outside.specs.Files.{Files}
 use Rattle.output_meaning.specs.Printed.{usage_line}
@@ -74,6 +74,7 @@ pub record Does (run : Run) (status : Status) (left rest : Option (List ℕ)) (r
     (before now : Option Taken) (writes writes_after : ℕ) : Type 0 where
   pub answers : IsStatusOf run.task status
   pub output : Prints run.task run.workers status left files before now
+  pub part_read : ReadPrefix left rest
   pub read_all : plays run.task ≡ true → status ≡ Done → IfSome left (λ bytes. rest ≡ Some [])
   pub same : files_after ≡ files
   pub flush : FlushesAt status now

@@ -1,6 +1,6 @@
 -- What a session does, turn by turn (this profile).
 use Rattle.std.specs.Prelude.{◌≡◌, ◌<◌, ◌≤◌, ◌-◌, ℕ, Bool, true, false, List, [], ◌∷◌, ◌++◌, length, map, IfSome, IsSome, Option, Some, None, option_map}
-use Rattle.mmt_outside.specs.Bytes.{Taken, appended, flushed, TookPrefix}
+use Rattle.mmt_outside.specs.Bytes.{Taken, appended, flushed, ReadPrefix, TookPrefix}
 use Rattle.mmt_outside.specs.Faults.{Rose}
 use Rattle.output_meaning.specs.Lines.{lines_of}
 use Rattle.output_meaning.specs.Printed.{bad_line, unended_line}
@@ -130,6 +130,7 @@ pub record IsLed (status : Status) (left rest : Option (List ℕ)) (reads reads_
   pub closed : is_closed last ≡ true
   pub ends : IfSome left (λ bytes. SessionEnds status before now (script_of bytes) [] last)
   pub read_all : status ≡ Done → IfSome left (λ bytes. rest ≡ Some [])
+  pub part_read : ReadPrefix left rest
   pub answers : IsSessionStatus status
   pub flush : FlushesAt status now
   pub read : status ≡ ReadFault → Rose reads reads_after

@@ -7,12 +7,11 @@ ghost use Rattle.board_front.specs.Staying.{IsAtFront, IsFront};
 ghost use Rattle.script_reader.specs.Commands.{IsShort, read_command};
 ghost use Rattle.mmt_top.specs.Answered.{Answers};
 
-use board_front::{carry_lines, check_lines, edit_lines, flat_lines, report_lines};
+use board_front::{Mmt, carry_lines, check_lines, edit_lines, flat_lines, report_lines};
 use board_seats::{BoardPass, SharedBoard};
 use edit_log::{Edit, Log};
 use lf_terms::{Arc, Bytes, Memory};
 use mmt_outside::Gate;
-use module_check::Mmt;
 use report_text::log_text;
 use script_reader::Command;
 use std::alloc::Global;

@@ -3,7 +3,7 @@ ghost use Rattle.std.specs.Prelude.{◌≡◌, true, [], IfSome, IsSome};
 ghost use Rattle.board_meaning.specs.Ready.{is_closed};
 ghost use Rattle.board_front.specs.Staying.{Stays};
 
-use module_check::Mmt;
+use board_front::Mmt;
 use run_status::Status;
 use verdict_board::Board;
 

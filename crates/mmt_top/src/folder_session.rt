@@ -12,10 +12,10 @@ ghost use Rattle.mmt_top.specs.FolderChecks.{PrintsFolder, LeavesFolder};
 ghost use Rattle.mmt_top.specs.Typing.{TellsTyped};
 
 use crate::ended::{Ended, unbegun};
+use board_front::Mmt;
 use board_seats::{BoardPass, SharedBoard};
 use folder_front::lead_check;
 use mmt_outside::{Folder, Gate, Sink};
-use module_check::Mmt;
 use run_status::Status;
 use std::alloc::Global;
 use std::sync::Wait;

@@ -1,5 +1,6 @@
 //! The front of a session: it reads the script, plays it on the board, and writes what is printed.
 ghost use Rattle.std.specs.Prelude.{◌≡◌, ◌≤◌, true, false, [], Some, IfSome, IsNone};
+ghost use Rattle.mmt_outside.specs.Bytes.{ReadPrefix};
 ghost use Rattle.mmt_outside.specs.Faults.{Rose};
 ghost use Rattle.run_meaning.specs.ScriptItems.{script_of};
 ghost use Rattle.board_meaning.specs.Legal.{IsLegal};
@@ -11,11 +12,10 @@ ghost use Rattle.run_status.specs.Flushed.{FlushesAt};
 ghost use Rattle.mmt_top.specs.Session.{IsLed, IsSessionStatus, SessionEnds, TurnTells};
 
 use crate::speak::{end_by, finish, speak};
-use board_front::close;
+use board_front::{Mmt, close};
 use board_seats::{BoardPass, SharedBoard};
 use edit_log::Log;
 use mmt_outside::{Gate, Sink, Source};
-use module_check::Mmt;
 use run_status::Status;
 use script_reader::{Command, Script};
 use std::alloc::Global;
@@ -40,6 +40,7 @@ fn turn<R: Wait, S: Source, K: Sink, G: Gate>(
     ensures legal { IsLegal dependencies pass.new.seen }
     ensures tells { IfSome (to_come script.old (S.left source.old)) (λ bytes. TurnTells result (K.taken sink.old) (K.taken sink.new)
         bytes (to_come script.new (S.left source.new)) pass.old.seen pass.new.seen script.old script.new) }
+    ensures left { ReadPrefix (to_come script.old (S.left source.old)) (to_come script.new (S.left source.new)) }
     ensures on { IsNone result → script.new.is_spent ≡ false }
     ensures front { IsNone result → IsFront log.new pass.new.seen }
     ensures status { IfSome result IsSessionStatus }
@@ -74,6 +75,7 @@ fn play<R: Wait, S: Source, K: Sink, G: Gate>(
     ensures legal { IsLegal dependencies pass.new.seen }
     ensures ends { IfSome (S.left source.old) (λ bytes. SessionEnds result (K.taken sink.old) (K.taken sink.new) (script_of bytes) [] pass.new.seen) }
     ensures read_all { result ≡ Status.Done → IfSome (S.left source.old) (λ bytes. S.left source.new ≡ Some []) }
+    ensures left { ReadPrefix (S.left source.old) (S.left source.new) }
     ensures status { IsSessionStatus result }
     ensures flush { FlushesAt result (K.taken sink.new) }
     ensures source_later { S.faults source.old ≤ S.faults source.new }

@@ -14,11 +14,11 @@ ghost use Rattle.generator_front.specs.Generated.{IsGenerated};
 ghost use Rattle.mmt_top.specs.GeneratorRuns.{BacksGenerated, EndsAs, EndsGenerated, IsGeneratorStatus, MakesEdits, generator_lines};
 
 use crate::ended::{Ended, unbegun};
+use board_front::Mmt;
 use board_seats::{BoardPass, SharedBoard};
 use generator_front::{Counts, lead_generator};
 use lf_terms::{Bytes, Memory};
 use mmt_outside::{Gate, Sink};
-use module_check::Mmt;
 use report_text::{gen_line, installs_line};
 use run_status::{Status, write_last};
 use std::alloc::Global;

@@ -1,6 +1,7 @@
 //! The whole program as one call.
 ghost use Rattle.std.specs.Prelude.{◌≡◌, ◌≤◌, true, false, [], Some, None, map, IfSome, IsSome};
 ghost use Rattle.std.specs.String.{string_bytes};
+ghost use Rattle.mmt_outside.specs.Bytes.{ReadPrefix};
 ghost use Rattle.mmt_outside.specs.Faults.{Rose};
 ghost use Rattle.word_list_meaning.specs.WordLists as meant;
 ghost use Rattle.run_status.specs.Flushed.{FlushesAt};
@@ -98,8 +99,9 @@ pub fn run<
     // judgement of its domain to one of its codomain.
     ensures typed { IfSome (meant.run_of (map string_bytes words.now)) (λ run. TellsTyped run.task (S.left source.old) (F.files folder.old)) }
 
-    // A script that is played to its end is read to its end. Where no script is played nothing is read, and where no folder is checked
+    // Of the source's bytes a first part was read. A script that is played to its end is read to its end. Where no script is played nothing is read, and where no folder is checked
     // the folder is not called.
+    ensures left { ReadPrefix (S.left source.old) (S.left source.new) }
     ensures read_all { is_play (meant.run_of (map string_bytes words.now)) ≡ true → result ≡ Status.Done → IfSome (S.left source.old) (λ bytes. S.left source.new ≡ Some []) }
     ensures unread { is_play (meant.run_of (map string_bytes words.now)) ≡ false → source.new ≡ source.old }
     ensures uncalled { is_check (meant.run_of (map string_bytes words.now)) ≡ false → folder.new ≡ folder.old }

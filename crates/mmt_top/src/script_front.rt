@@ -2,9 +2,9 @@
 ghost use Rattle.mmt_top.specs.Session.{IsLed};
 
 use crate::front::lead;
+use board_front::Mmt;
 use board_seats::{BoardPass, SharedBoard};
 use mmt_outside::{Gate, Sink, Source};
-use module_check::Mmt;
 use run_status::Status;
 use std::alloc::Global;
 use std::sync::Wait;

@@ -1,5 +1,6 @@
 //! A script that is played over a board of its own.
 ghost use Rattle.std.specs.Prelude.{◌≡◌, ◌≤◌, true, [], Some, IfSome, IsSome, IsNone};
+ghost use Rattle.mmt_outside.specs.Bytes.{ReadPrefix};
 ghost use Rattle.mmt_outside.specs.Faults.{Rose};
 ghost use Rattle.run_meaning.specs.ScriptItems.{script_of};
 ghost use Rattle.run_meaning.specs.ScriptOutput.{has_fault};
@@ -17,8 +18,8 @@ ghost use Rattle.mmt_top.specs.Session.{BacksWritten, EditsAre, EndsAs, IsLed, I
 
 use crate::ended::{Ended, unbegun};
 use crate::script_front::ScriptFront;
+use board_front::Mmt;
 use mmt_outside::{Gate, Sink, Source};
-use module_check::Mmt;
 use run_status::Status;
 use std::alloc::Global;
 use std::sync::Wait;
@@ -94,7 +95,8 @@ pub fn session<R: Threads + Wait + Sync, S: Source + Send, K: Sink + Send, G: Ga
     // What is told of modules keeps typing, in the library of the version at which it is told.
     ensures typed { IfSome (S.left source.old) (λ bytes. AreTyped (script_log bytes) (script_told rules bytes)) }
 
-    // At Done nothing is left of the source.
+    // Of the source's bytes a first part was read; at Done nothing is left of them.
+    ensures left { ReadPrefix (S.left source.old) (S.left source.new) }
     ensures read_all { result.status ≡ Status.Done → IfSome (S.left source.old) (λ bytes. S.left source.new ≡ Some []) }
 
     // At Done and ScriptFault all that the sink took is flushed, whether or not the source tells its bytes.

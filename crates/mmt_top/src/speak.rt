@@ -11,10 +11,10 @@ ghost use Rattle.run_status.specs.Flushed.{FlushesAt};
 ghost use Rattle.mmt_top.specs.Session.{EndsAs, IsSessionStatus, FaultTells};
 
 use crate::answer::answer;
+use board_front::Mmt;
 use board_seats::{BoardPass, SharedBoard};
 use edit_log::Log;
 use mmt_outside::{Gate, Sink, write_all};
-use module_check::Mmt;
 use report_text::fault_line;
 use run_status::{Status, write_last};
 use script_reader::{Command, ScriptFault};

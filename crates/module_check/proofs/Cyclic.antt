@@ -6,13 +6,13 @@ use Rattle.name_laws.proofs.Order.{ascending_filtered}
 use Rattle.log_meaning.specs.Log.{Library, IsLibrary, names_of}
 use Rattle.walk_meaning.specs.Walks.{Dependencies, ungrounded_names, walking, direct}
 use Rattle.text_meaning.specs.Dependencies.{dependencies}
-use Rattle.text_meaning.specs.Reading.{Answer, ModuleText, ModuleTree, JudgementTree, Read, Syntax, TooDeep, Unsupported}
+use Rattle.text_meaning.specs.Reading.{ModuleText}
 use Rattle.text_meaning.specs.TextAnswers.{read}
-use Rattle.library_meaning.specs.Faces.{Environment, IsAbsent}
+use Rattle.library_meaning.specs.Faces.{IsAbsent}
 use Rattle.verdict_meaning.specs.Verdicts as meaning
-use Rattle.verdict_meaning.specs.Verdicts.{judge, judge_answer, judge_tree, verdict_by}
+use Rattle.verdict_meaning.specs.Verdicts.{judge, judge_answer, verdict_by}
 use Rattle.verdict_meaning.specs.Rounds.{modules, verdict_of, known_to}
-use Rattle.verdict_laws.proofs.Verdicts.{verdict_is_judged, among_ungrounded}
+use Rattle.verdict_laws.proofs.Verdicts.{verdict_is_judged, among_ungrounded, answer_anywhere}
 use Rattle.module_graph.specs.Subjects.{IsCyclic}
 
 walking_ascending : (dependencies : Dependencies) (library : Library) (n : ℕ) → IsLibrary library → is_ascending (walking dependencies library n) ≡ true
@@ -24,15 +24,6 @@ walking_ascending dependencies library (suc n) h = ascending_filtered (λ name. 
 pub ungrounded_ascending : (dependencies : Dependencies) (library : Library) → IsLibrary library → is_ascending (ungrounded_names dependencies library) ≡ true
 unfolding ungrounded_names
 ungrounded_ascending dependencies library h = walking_ascending dependencies library (length library) h
-
--- Of an ungrounded module it does not matter what is known of others.
-pub cyclic_alike : (environment other : Environment) (ungrounded : Name → Bool) (name : Name) (answer : Answer) → ungrounded name ≡ true
-    → judge_answer environment ungrounded name answer ≡ judge_answer other ungrounded name answer
-cyclic_alike environment other ungrounded name (Read (ModuleTree tree)) h = ap (judge_tree environment ungrounded name tree) h ∙ ap (judge_tree other ungrounded name tree) (sym h)
-cyclic_alike environment other ungrounded name (Read (JudgementTree tree)) h = refl
-cyclic_alike environment other ungrounded name (Syntax at) h = refl
-cyclic_alike environment other ungrounded name (TooDeep at) h = refl
-cyclic_alike environment other ungrounded name (Unsupported at) h = refl
 
 module _ (name : Name) (text : Text) (bad : List Name) (library : Library) (given : IsCyclic modules name text bad library) where
   pub bad_ascending : is_ascending bad ≡ true
@@ -47,5 +38,5 @@ module _ (name : Name) (text : Text) (bad : List Name) (library : Library) (give
   cyclic_given verdict h =
       verdict_is_judged library name text given.has
       ∙ ap (λ names. Some (verdict_by (judge_answer (known_to library name) (is_among names) name (read ModuleText text)))) given.others
-      ∙ ap (λ answer. Some (verdict_by answer)) (cyclic_alike (known_to library name) (λ other. IsAbsent) (is_among bad) name (read ModuleText text) among_bad)
+      ∙ ap (λ answer. Some (verdict_by answer)) (answer_anywhere (known_to library name) (λ other. IsAbsent) (is_among bad) name (read ModuleText text) among_bad)
       ∙ ap Some (sym h)

@@ -3,15 +3,15 @@ ghost use Rattle.std.specs.Prelude.{◌≡◌, [], length, slice_get, OnErr, OnO
 ghost use Rattle.std.specs.Option.{option_copied, option_map};
 ghost use Rattle.name_meaning.specs.Rows.{row_names, row_of, with_row, without_row, IsTable, IsGap};
 
-use lf_terms::{Memory, Name, Names};
+use lf_terms::{Arc, Memory, Name, Names};
 use name_table::NameTable;
 use std::alloc::Global;
 use std::marker::Model;
 
-/// Names in byte order, each with its direct dependencies in order; seen as the list of these pairs.
+/// Names in byte order, each with its direct dependencies in order; seen as the list of these pairs. Copies share the rows.
 #[derive(Drop)]
 pub struct Graph {
-    rows: NameTable<Names>,
+    rows: NameTable<Arc<Names>>,
 }
 
 impl Model for Graph {
@@ -33,11 +33,12 @@ impl Graph {
     }
 
     /// Puts a name with its direct dependencies, in place of those that it had. For want of memory nothing changes.
-    pub fn set(&mut self, _alloc: Global, name: Name, deps: Names) -> Result<(), Memory>
+    pub fn set(&mut self, alloc: Global, name: Name, deps: Names) -> Result<(), Memory>
         ensures ok { OnOk result (self.new ≡ with_row name deps self.old) }
         ensures err { OnErr result (self.new ≡ self.old) }
     {
-        match self.rows.insert(name, deps) {
+        let row = Arc::new(alloc, deps)?;
+        match self.rows.insert(name, row) {
             Ok(()) => Ok(()),
             Err(_) => Err(Memory),
         }
@@ -51,15 +52,14 @@ impl Graph {
         self.rows.remove(name)
     }
 
-    /// An equal graph. For each name it makes a list of its dependencies, whose names are shared.
+    /// An equal graph, which shares the names and their lists of dependencies.
     pub fn copy(&self, alloc: Global) -> Result<Graph, Memory>
         ensures { IfOk result (λ graph. graph ≡ self.now) }
     {
         let mut rows = NameTable::new(alloc);
         for place in 0..self.rows.len() {
             let (name, dependencies) = self.rows.row_at(place);
-            let dependencies = copy_names(alloc, dependencies.as_slice())?;
-            match rows.push(name.copy(alloc)?, dependencies) {
+            match rows.push(name.copy(alloc)?, dependencies.share()?) {
                 Ok(()) => {}
                 Err(_) => return Err(Memory),
             }
@@ -80,7 +80,10 @@ impl Graph {
         ensures row { option_copied result ≡ row_of self.now name.now }
         ensures ordered { IsTable self.now }
     {
-        self.rows.get(name)
+        match self.rows.get(name) {
+            Some(dependencies) => Some(dependencies.get()),
+            None => None,
+        }
     }
 
     /// Where the name is, or where it would stand.
@@ -105,17 +108,6 @@ impl Graph {
         requires { place < length self.now }
         ensures { (name : List ℕ) × (slice_get self.now place ≡ Some (name, result.now)) }
     {
-        self.rows.row_at(place).1
+        self.rows.row_at(place).1.get()
     }
-}
-
-/// Equal names, in the same order.
-fn copy_names(alloc: Global, names: &[Name]) -> Result<Names, Memory>
-    ensures { IfOk result (λ copied. copied ≡ names.now) }
-{
-    let mut copied = Vec::with_capacity(alloc, names.len())?;
-    for name in names {
-        copied.push(name.copy(alloc)?)?;
-    }
-    Ok(Names::from_vec(copied))
 }

@@ -5,6 +5,7 @@ mod answers;
 mod graph;
 mod grounding;
 mod reaching;
+mod rings;
 mod subject;
 mod ungrounded;
 
@@ -12,5 +13,6 @@ pub use answers::Answers;
 pub use graph::Graph;
 pub use grounding::grounded;
 pub use reaching::reach;
+pub use rings::reaches_itself;
 pub use subject::Subject;
 pub use ungrounded::first_ungrounded;

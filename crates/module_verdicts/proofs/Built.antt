@@ -9,9 +9,10 @@ use Rattle.answer_meaning.specs.Answers.{◌>>=◌}
 use Rattle.link_meaning.specs.Refusals.{Outcome}
 use Rattle.text_meaning.specs.Trees as trees
 use Rattle.library_meaning.specs.Faces as faces
-use Rattle.library_meaning.specs.Faces.{Environment}
+use Rattle.library_meaning.specs.Faces.{Environment, flat_signature}
 use Rattle.library_meaning.specs.Coherence.{IsCoherentTheory}
 use Rattle.verdict_meaning.specs.Modules.{declare, declare_all, empty_theory}
+use Rattle.verdict_meaning.specs.Verdicts as verdicts
 use Rattle.coherence_laws.specs.BuildingLaws.{IsBuiltOver}
 use Rattle.coherence_laws.proofs.BuildingHolds.{empty_is_built, declarations_keep_built}
 use Rattle.term_trees.specs.Readings.{read_signature}
@@ -75,3 +76,12 @@ module _ (environment : Environment) (start here : faces.TheoryFace) (decls : Li
   pub all_done : length decls ≤ place → declare_all environment start (read_decls decls) ≡ Ok here
   unfolding declare_all
   all_done past = so_far ∙ at_drop_all (λ z. declare_all environment here (read_decls z)) decls place past
+
+-- A theory is refused where one of its declarations is.
+pub theory_refused : (fault : LinkFault) (environment : Environment) (name : Name) (given decls : List Decl) (here : faces.TheoryFace) → here ≡ empty_theory name → given ≡ decls
+    → IsFirstRefusal fault (declare_all environment here (read_decls given))
+    → IsFirstRefusal fault (declare_all environment (empty_theory name) (read_decls decls) >>= (λ face. Ok (verdicts.Theory face (length (flat_signature environment face)))))
+theory_refused fault environment name given decls here begun same h =
+    refuses_then fault (declare_all environment (empty_theory name) (read_decls decls)) (λ face. Ok (verdicts.Theory face (length (flat_signature environment face))))
+    (subst (λ ds. IsFirstRefusal fault (declare_all environment (empty_theory name) (read_decls ds))) same
+    (subst (λ face. IsFirstRefusal fault (declare_all environment face (read_decls given))) begun h))

@@ -76,7 +76,17 @@ fn theory(
     let mut here = empty_theory(alloc, first_name(name))?;
     declare_all(alloc, faces, &mut here, decls.as_slice())?;
     let size = size(faces, &here)?;
-    Ok(Interface::Theory { face: here, size })
+    let face = finished(alloc, here)?;
+    Ok(Interface::Theory { face, size })
+}
+
+/// The same theory; with its own part stand the images that the identity gives to it, which maps share.
+fn finished(alloc: Global, here: TheoryFace) -> Result<TheoryFace, Memory>
+    ensures { IfOk result (λ face. read_theory face ≡ read_theory here) }
+{
+    let mut face = here;
+    face.own.finish(alloc)?;
+    Ok(face)
 }
 
 /// The theory before its first declaration.

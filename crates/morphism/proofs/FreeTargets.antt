@@ -5,7 +5,7 @@ use Rattle.std.specs.List.{list_any}
 use Rattle.std.proofs.lemmas.List.{reverse-append}
 use Rattle.std.proofs.lemmas.List.Folds.{list_any-append}
 use lib.Pointwise.{pointwise}
-use Rattle.name_meaning.specs.Names.{Name, Path, same_name}
+use Rattle.name_meaning.specs.Names.{Path, same_name}
 use Rattle.link_meaning.specs.Assignments.{is_beginning}
 
 -- A beginning is found by comparing as many names as it has.

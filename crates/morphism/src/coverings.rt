@@ -1,11 +1,13 @@
 //! The second pass: how the theories that the domain of a link includes are covered.
 ghost use Rattle.link_meaning.specs.CoveringMaps as passes;
+ghost use Rattle.link_meaning.specs.LinkMaps.{IsSettled};
 ghost use Rattle.term_trees.specs.Readings.{read_map};
 ghost use Rattle.morphism.specs.Readings.{read_all_assigned, read_setting};
 ghost use Rattle.morphism.specs.Answers.{Links};
 
 use crate::images::images;
 use crate::link_coverings::Coverings;
+use crate::shared_images::shared_images;
 use crate::{Assigned, LinkFault, Setting};
 use lf_terms::HeadMap;
 use std::alloc::Global;
@@ -27,4 +29,20 @@ pub fn covering_map(
     let coverings = Coverings::new(alloc, setting, assigned)?;
     coverings.test_domain(alloc)?;
     images(alloc, &coverings)
+}
+
+/// The same over coherent faces, where the domain is an accepted theory. A theory that the identity covers, and whose own part has the
+/// images of the identity, costs no more than a place in the map: the images are shared, as long as each theory before it shares
+/// its own too.
+pub fn settled_covering_map(
+    alloc: Global,
+    setting: &Setting<'_>,
+    assigned: &[Assigned<'_>],
+) -> Result<HeadMap, LinkFault>
+    requires { IsSettled (read_setting setting.now) }
+    ensures { Links read_map result (passes.covering_map (read_setting setting.now) (read_all_assigned assigned.now)) }
+{
+    let coverings = Coverings::new(alloc, setting, assigned)?;
+    coverings.test_domain(alloc)?;
+    shared_images(alloc, &coverings)
 }

@@ -51,7 +51,7 @@ fn add_all_own<'a>(
 }
 
 /// Adds the images of the own part of a theory.
-fn add_own(
+pub(crate) fn add_own(
     alloc: Global,
     coverings: &Coverings<'_>,
     so_far: &mut HeadMap,

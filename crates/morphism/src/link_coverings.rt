@@ -46,7 +46,7 @@ impl<'a> Coverings<'a> {
     }
 
     /// Whether the identity is a covering of a theory.
-    fn is_identity(&self, theory: &Name) -> bool
+    pub(crate) fn is_identity(&self, theory: &Name) -> bool
         requires { AreCoverings self.now }
         ensures { result ≡ meant.is_identity_covering (setting_of self.now.covers) (assigned_of self.now.covers) theory.now }
     {

@@ -14,7 +14,7 @@ use Rattle.place_laws.proofs.Derived.{Rises}
 use Rattle.place_laws.proofs.DerivedModules.{token_in, tree_at}
 
 -- the tokens of a text rise, and so does the end of the input behind them
-ended : (from : ℕ) (ts : List Token) (end bytes : ℕ) → InOrder from ts end → end ≤ bytes → Rises from (with_end ts end) bytes
+pub ended : (from : ℕ) (ts : List Token) (end bytes : ℕ) → InOrder from ts end → end ≤ bytes → Rises from (with_end ts end) bytes
 ended from [] end bytes h g = (h, omega arith, g)
 ended from (t ∷ ts) end bytes h g = (h.0, (let l = h.1 in omega (arith, l)), ended t.span.to ts end bytes h.2 g)
 

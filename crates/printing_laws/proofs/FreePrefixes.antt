@@ -9,7 +9,7 @@ use Rattle.lf_meaning.specs.Signatures.{Declaration, Signature}
 use Rattle.printing_meaning.specs.Prefixes.{marks, prefix_with, begins_with_digit, is_numbered, clashes, is_taken, free_from, length_of_path, enough, prefix_of}
 use Rattle.list_laws.proofs.Booleans.{and_second}
 
-length-marks : (count : ℕ) → length (marks count) ≡ count
+pub length-marks : (count : ℕ) → length (marks count) ≡ count
 unfolding marks
 length-marks zero = refl
 length-marks (suc count) = ap suc (length-marks count)

@@ -1,8 +1,8 @@
 //! Whole runs over objects in memory.
 
 use crate::cases::{FAULTY, LINKS, THEORIES, UNREAD};
+use crate::runs::{play, run_on};
 use mmt_top::Status;
-use program_runs::{play, run_on};
 use std::alloc::{AllocError, Global};
 use std::sync::Wait;
 use std::test::Fail;

@@ -22,7 +22,7 @@ use Rattle.carried_typing.proofs.ReachFaces.{reached, of_reach, reach_coherent, 
 use Rattle.reach_printing_laws.specs.PrintedFaces.{FacesCarryTheSame}
 use Rattle.reach_printing_laws.proofs.ExpandedAlike.{object_expanded, family_expanded}
 
-view_known : (known : Known) (face : ViewFace) → view_face known ≡ Some face → known ≡ IsView face
+pub view_known : (known : Known) (face : ViewFace) → view_face known ≡ Some face → known ≡ IsView face
 view_known IsAbsent face h = absurd (cc)
 view_known IsRefused face h = absurd (cc)
 view_known (IsTheory theory) face h = absurd (cc)

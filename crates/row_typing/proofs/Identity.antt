@@ -1,7 +1,7 @@
 -- The identity of a well-typed signature, with proper values, is typed, and translates what is typed to itself.
 use Rattle.std.proofs.Common.{◌≡◌, ℕ, zero, suc, [], ◌∷◌, slice_get, Bool, true, false, cond, Option, Some, None, option_map, refl, sym, ap, ap₂, ◌∙◌}
 use Rattle.lf_meaning.specs.Terms.{Constant, Object, Lam, At, Atomic, Var, Con, App, Family, Pi, AtFamily, AtomicFamily, FamilyCon, FamilyApp, Kind, Ty, PiKind, with_domains}
-use Rattle.lf_meaning.specs.Erasure.{erase, erase_context}
+use Rattle.lf_meaning.specs.Erasure.{erase, erase_context, head_constant}
 use Rattle.lf_meaning.specs.Replacement.{Kept, object_of, takes, replace, replace_head, of_constants}
 use Rattle.lf_meaning.specs.Signatures.{Class, FamilyClass, KindClass, Value, SameAs, TermValue, FamilyValue, Declaration, Signature, same_constant, declaration_of, undefined_class, declared_class, class_of}
 use Rattle.lf_meaning.specs.Judgements.{IsClass, Fits, IsSignature}
@@ -18,6 +18,7 @@ use Rattle.translation_sort_laws.proofs.Kinded.{family_kinded, kind_kinded}
 use Rattle.translation_sort_laws.proofs.Known.{ObjectKnown, AtomicKnown, HeadKnown, FamilyKnown, KindKnown, object_known, family_known, kind_known}
 use Rattle.translation_typing.proofs.Proper.{proper_object, proper_body}
 use Rattle.translation_typing.proofs.DeclaredTyped.{declared_typed}
+use Rattle.library_meaning.specs.Holding.{ObjectHolds, AtomicHolds, ArgumentsHold, FamilyHolds, KindHolds, ClassHolds}
 use Rattle.library_meaning.specs.Words.{own_value, identity_mapping, identity_map}
 use Rattle.std.proofs.lemmas.Option.{same_Some}
 
@@ -66,6 +67,33 @@ module _ (sig : Signature) (along : HeadMap) (identity : IsIdentityOn sig along)
   class_same (FamilyClass a) h = ap FamilyClass (family_same a (family_known sig [] a (family_kinded sig [] a h)))
   class_same (KindClass k) h = ap KindClass (kind_same k (kind_known sig [] k (kind_kinded sig [] k h)))
 
+  -- so do terms of which no more is known than that they hold only such constants
+  mutual
+    object_held : (n : ℕ) (m : Object) → ObjectHolds sig n m → ObjectKnown sig m
+    object_held n (Lam m) h = object_held (suc n) m h
+    object_held n (At r) h = atomic_held n r h
+
+    atomic_held : (n : ℕ) (r : Atomic) → AtomicHolds sig n r → AtomicKnown sig r
+    atomic_held n (Var i) h = tt
+    atomic_held n (Con c) h = (FamilyClass h.0, h.1)
+    atomic_held n (App r m) h = (atomic_held n r h.0, object_held n m h.1)
+
+  head_held : (n : ℕ) (p : AtomicFamily) (class : Class) → class_of sig (head_constant p) ≡ Some class → ArgumentsHold sig n p → HeadKnown sig p
+  head_held n (FamilyCon c) class e h = (class, e)
+  head_held n (FamilyApp p m) class e h = (head_held n p class e h.0, object_held n m h.1)
+
+  family_held : (n : ℕ) (a : Family) → FamilyHolds sig n a → FamilyKnown sig a
+  family_held n (Pi a b) h = (family_held n a h.0, family_held (suc n) b h.1)
+  family_held n (AtFamily p) h = let k = h.0 in head_held n p (KindClass k.0) k.1 h.1
+
+  kind_held : (n : ℕ) (k : Kind) → KindHolds sig n k → KindKnown sig k
+  kind_held n Ty h = tt
+  kind_held n (PiKind a k) h = (family_held n a h.0, kind_held (suc n) k h.1)
+
+  pub held_class_same : (class : Class) → ClassHolds sig class → translate_class along class ≡ class
+  held_class_same (FamilyClass a) h = ap FamilyClass (family_same a (family_held 0 a h))
+  held_class_same (KindClass k) h = ap KindClass (kind_same k (kind_held 0 k h))
+
   pub value_same : (class : Class) (value : Value) → Fits sig value class → IsProperValue value → translate_value along value ≡ value
   unfolding translate_value
   value_same class (SameAs c) h q = ap (same_image c) (identity c class h)
@@ -97,7 +125,7 @@ pub declared_name : (sig : Signature) (c : Constant) (d : Declaration) → decla
 declared_name [] c d h = absurd (cc)
 declared_name (e ∷ sig) c d h = named_by (same_constant e.name c) e d c (declaration_of sig c) refl (declared_name sig c d) h
 
-undefined_is : (o : Option Value) (class found : Class) → undefined_class o class ≡ Some found → (o ≡ None) × (class ≡ found)
+pub undefined_is : (o : Option Value) (class found : Class) → undefined_class o class ≡ Some found → (o ≡ None) × (class ≡ found)
 undefined_is None class found h = (refl, same_Some _ _ h)
 undefined_is (Some v) class found h = absurd (cc)
 

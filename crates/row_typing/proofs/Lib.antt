@@ -5,3 +5,4 @@ pub mod SameValues
 pub mod Identity
 pub mod Places
 pub mod PlacedLinks
+pub mod SharedParts

@@ -36,7 +36,7 @@ answer_more : (result : Result Command ScriptFault) (line : List ℕ) (lines : L
 answer_more (Ok command) line lines next after first counted now e same h = next_more (read_command command) line lines next after first counted now e same h
 answer_more (Err fault) line lines next after first counted now e same h = h
 
-not_told : IsSome {T = List ℕ} None → ⊥
+pub not_told : IsSome {T = List ℕ} None → ⊥
 not_told told = cc
 
 -- from the lines behind the first to all

@@ -4,7 +4,7 @@ use Rattle.std.proofs.Math.Seq.{take-length, drop-length}
 use Rattle.std.specs.Prelude.{Some, None, IsSome}
 use Rattle.std.specs.declared.option.Option.{Option}
 use Rattle.std.proofs.lemmas.List.{take_more, take-append-drop, length-append, length-take}
-use Rattle.mmt_outside.specs.Bytes.{preceded}
+use Rattle.mmt_outside.specs.Bytes.{preceded, ReadPrefix}
 use Rattle.output_meaning.specs.Lines.{lines_of, NoFeed}
 use Rattle.output_laws.proofs.LineLemmas.{NoFeed-append, lines_of-last}
 use Rattle.output_laws.proofs.TextLemmas.{first_line-feed}
@@ -104,3 +104,10 @@ last_first (b ∷ bs) rest plain some none =
 pub stays_told : (taken : List ℕ) (before now : Option (List ℕ)) → before ≡ preceded taken now → StaysTold before now
 stays_told taken before None e told = subst (λ (o : Option (List ℕ)). IsSome o) e told
 stays_told taken before (Some rest) e told = refl
+
+-- what is read of a line is a first part of what is to come
+pub part_read : (before after : Option (List ℕ)) (line now : List ℕ) → ReadsPart before after line now → ReadPrefix before after
+part_read before after line now part = record { piece = part.piece; read = part.bytes }
+
+pub line_read : (before after : Option (List ℕ)) (line now : List ℕ) (most : ℕ) (end : LineEnd) → ReadsLine before after line now most end → ReadPrefix before after
+line_read before after line now most end reads = record { piece = reads.piece; read = reads.bytes }

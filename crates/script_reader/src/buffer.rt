@@ -69,9 +69,10 @@ impl Buffer {
         Ok(())
     }
 
-    /// Reads where nothing is buffered. It stays empty at the end of the input alone.
+    /// Reads where nothing is buffered. It stays empty at the end of the input alone. What is to come is as before, also where
+    /// the source fails.
     pub(crate) fn refill<S: Source>(&mut self, source: &mut S) -> Result<(), Failed>
-        ensures bytes { OnOk result (preceded self.old (S.left source.old) ≡ preceded self.new (S.left source.new)) }
+        ensures bytes { preceded self.old (S.left source.old) ≡ preceded self.new (S.left source.new) }
         ensures end { OnOk result (self.new ≡ [] → IfSome (S.left source.new) (λ bytes. bytes ≡ [])) }
         ensures cause { HasCause (S.faults source.old) (S.faults source.new) result }
     {

@@ -1,6 +1,6 @@
 //! One line of the bytes to come.
-ghost use Rattle.std.specs.Prelude.{◌≡◌, ◌<◌, ◌≤◌, length, take, slice_index, MatchOption, IfOk, IfErr};
-ghost use Rattle.mmt_outside.specs.Bytes.{preceded};
+ghost use Rattle.std.specs.Prelude.{◌≡◌, ◌<◌, ◌≤◌, length, take, slice_index, MatchOption, IfOk, IfErr, OnErr};
+ghost use Rattle.mmt_outside.specs.Bytes.{preceded, ReadPrefix};
 ghost use Rattle.output_meaning.specs.Lines.{NoFeed};
 ghost use Rattle.script_reader.specs.Pieces.{MovesFront, ReadsLine, IsCaused};
 
@@ -35,7 +35,8 @@ fn feed_at(bytes: &[u8]) -> Option<usize>
 
 /// Moves buffered bytes to the end of the line, as far as the first line feed. The answer says whether there was one.
 fn move_front(buffer: &mut Buffer, line: &mut Vec<u8>) -> Result<bool, AllocError>
-    ensures { IfOk result (λ whole. MovesFront buffer.old buffer.new line.old.items line.new.items whole) }
+    ensures moved { IfOk result (λ whole. MovesFront buffer.old buffer.new line.old.items line.new.items whole) }
+    ensures unmoved { OnErr result (buffer.new ≡ buffer.old) }
 {
     let found = feed_at(buffer.as_slice());
     let count = match found {
@@ -56,6 +57,7 @@ pub(crate) fn read_line<S: Source>(
 ) -> Result<LineEnd, ScriptFault>
     ensures line { IfOk result (λ end. ReadsLine (preceded buffer.old (S.left source.old)) (preceded buffer.new (S.left source.new))
         line.old.items line.new.items most end) }
+    ensures left { ReadPrefix (preceded buffer.old (S.left source.old)) (preceded buffer.new (S.left source.new)) }
     ensures later { S.faults source.old ≤ S.faults source.new }
     ensures cause { IfErr result (λ fault. IsCaused (S.faults source.old) (S.faults source.new) fault) }
 {

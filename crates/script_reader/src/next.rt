@@ -1,6 +1,6 @@
 //! The next command of the bytes to come.
 ghost use Rattle.std.specs.Prelude.{◌≡◌, ◌≤◌, ℕ, List, [], length, IfOk, IfErr, OnOk, IfSome};
-ghost use Rattle.mmt_outside.specs.Bytes.{preceded};
+ghost use Rattle.mmt_outside.specs.Bytes.{preceded, ReadPrefix};
 ghost use Rattle.output_meaning.specs.Lines.{lines_of};
 ghost use Rattle.name_meaning.specs.Limits.{line_limit};
 ghost use Rattle.run_meaning.specs.ScriptCommands.{put_of, next_of};
@@ -33,6 +33,7 @@ fn first_line<S: Source>(
     source: &mut S,
 ) -> Result<FirstLine, ScriptFault>
     ensures line { IfOk result (λ line. IsFirstLine line (preceded buffer.old (S.left source.old)) (preceded buffer.new (S.left source.new))) }
+    ensures left { ReadPrefix (preceded buffer.old (S.left source.old)) (preceded buffer.new (S.left source.new)) }
     ensures later { S.faults source.old ≤ S.faults source.new }
     ensures cause { IfErr result (λ fault. IsCaused (S.faults source.old) (S.faults source.new) fault) }
 {
@@ -60,6 +61,7 @@ fn put<S: Source>(
         (λ bytes. IsAnswer result (put_of name (lines_of bytes)) (lines_of bytes) (preceded buffer.new (S.left source.new)) first line.old line.new) }
     ensures told { OnOk result (StaysTold (preceded buffer.old (S.left source.old)) (preceded buffer.new (S.left source.new))) }
     ensures within { IfOk result IsShort }
+    ensures left { ReadPrefix (preceded buffer.old (S.left source.old)) (preceded buffer.new (S.left source.new)) }
     ensures later { S.faults source.old ≤ S.faults source.new }
     ensures cause { IfErr result (λ fault. HasCause (S.faults source.old) (S.faults source.new) fault) }
 {
@@ -84,6 +86,7 @@ pub(crate) fn next<S: Source>(
         (λ bytes. IsAnswer result (next_of (lines_of bytes)) (lines_of bytes) (preceded buffer.new (S.left source.new)) line.old line.old line.new) }
     ensures told { OnOk result (StaysTold (preceded buffer.old (S.left source.old)) (preceded buffer.new (S.left source.new))) }
     ensures within { IfOk result IsShort }
+    ensures left { ReadPrefix (preceded buffer.old (S.left source.old)) (preceded buffer.new (S.left source.new)) }
     ensures later { S.faults source.old ≤ S.faults source.new }
     ensures cause { IfErr result (λ fault. HasCause (S.faults source.old) (S.faults source.new) fault) }
 {

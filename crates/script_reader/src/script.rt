@@ -2,6 +2,7 @@
 ghost use Rattle.std.specs.Prelude.{◌≡◌, ◌≤◌, true, false, [], IsTrue, IfSome, IfOk, OnOk, OnErr, IsErrOf, ◌↔◌};
 ghost use Rattle.output_meaning.specs.Lines.{lines_of};
 ghost use Rattle.run_meaning.specs.ScriptCommands.{next_of};
+ghost use Rattle.mmt_outside.specs.Bytes.{ReadPrefix};
 ghost use Rattle.mmt_outside.specs.Faults.{Rose};
 ghost use Rattle.script_reader.specs.Reading.{to_come};
 ghost use Rattle.script_reader.specs.Commands.{IsShort};
@@ -71,6 +72,7 @@ impl Script {
 
         // Told or not.
         ensures short { IfOk result IsShort }
+        ensures left { ReadPrefix (to_come self.old (S.left source.old)) (to_come self.new (S.left source.new)) }
         ensures later { S.faults source.old ≤ S.faults source.new }
         ensures failed { IsErrOf result ScriptFault.Failed → Rose (S.faults source.old) (S.faults source.new) }
     {

@@ -1,6 +1,6 @@
 //! The text of a `put`, up to its end line.
 ghost use Rattle.std.specs.Prelude.{◌≡◌, ◌≤◌, suc, length, IfOk, IfErr, IfSome};
-ghost use Rattle.mmt_outside.specs.Bytes.{preceded};
+ghost use Rattle.mmt_outside.specs.Bytes.{preceded, ReadPrefix};
 ghost use Rattle.output_meaning.specs.Lines.{lines_of};
 ghost use Rattle.script_reader.specs.Pieces.{IsCaused};
 ghost use Rattle.script_reader.specs.Texts.{ReadsPiece, TextGives, StaysTold, IsWithinLimit};
@@ -51,6 +51,7 @@ fn read_piece<S: Source>(
 ) -> Result<TextPiece, ScriptFault>
     ensures piece { IfOk result (λ read. ReadsPiece (preceded buffer.old (S.left source.old)) (preceded buffer.new (S.left source.new))
         is_begun text.old text.new read) }
+    ensures left { ReadPrefix (preceded buffer.old (S.left source.old)) (preceded buffer.new (S.left source.new)) }
     ensures later { S.faults source.old ≤ S.faults source.new }
     ensures cause { IfErr result (λ fault. IsCaused (S.faults source.old) (S.faults source.new) fault) }
 {
@@ -81,6 +82,7 @@ pub(crate) fn read_text<S: Source>(
 
     // Told or not.
     ensures within { IfOk result IsWithinLimit }
+    ensures left { ReadPrefix (preceded buffer.old (S.left source.old)) (preceded buffer.new (S.left source.new)) }
     ensures later { S.faults source.old ≤ S.faults source.new }
     ensures cause { IfErr result (λ fault. IsCaused (S.faults source.old) (S.faults source.new) fault) }
 {

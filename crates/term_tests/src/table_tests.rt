@@ -1,7 +1,9 @@
 //! Tables, shared values and counted steps.
 ghost use Rattle.std.specs.Prelude.{◌≡◌, ◌<◌};
 
-use lf_terms::{Arc, FlatSig, HeadMap, MapFault, Name, PushFault, Steps, same_class, same_value};
+use lf_terms::{
+    Arc, FlatSig, HeadMap, Image, MapFault, Name, PushFault, QName, Steps, same_class, same_value,
+};
 use std::alloc::Global;
 use std::marker::Brand;
 use std::sync::ledger::{Blank, Ledger};
@@ -84,6 +86,71 @@ fn images_are_found_by_name(rt: HostRuntime) -> Result<(), Fail> {
     let last = mapped_again(alloc, &mut map, 1)?;
     assert!(rt; is_mapped_twice(&map, &first) && is_mapped_twice(&map, &last));
     assert!(rt; map.len() == 2 && map.at(2).is_none());
+    Ok(())
+}
+
+/// What the identity gives to the declared constants: an undefined one is itself, a defined one its own value.
+const KEPT: &str = "\
+a : type = same a
+c : a = same c
+d : a = same c";
+
+const MAPPED_FIRST: &str = "f : a = same d";
+
+/// These constants behind another one.
+const BEHIND: &str = "\
+f : a = same d
+a : type = same a
+c : a = same c
+d : a = same c";
+
+/// Whether the maps have the same constants with the same images, in the same order.
+fn is_same_map(map: &HeadMap, wanted: &HeadMap) -> bool {
+    for i in 0..wanted.len() {
+        if !is_same_pair(map.at(i), wanted.at(i)) {
+            return false;
+        }
+    }
+    map.len() == wanted.len()
+}
+
+fn is_same_pair(pair: Option<(&QName, &Image)>, wanted: Option<(&QName, &Image)>) -> bool {
+    match (pair, wanted) {
+        (Some((name, image)), Some((other, given))) => {
+            name == other
+                && same_class(&image.class, &given.class)
+                && same_value(&image.value, &given.value)
+        }
+        _ => false,
+    }
+}
+
+#[test]
+fn maps_share_the_images_of_the_identity(rt: HostRuntime) -> Result<(), Fail> {
+    let alloc = rt.alloc();
+    let wanted = map(alloc, KEPT)?;
+    let mut sig = signature(alloc, DECLARED)?;
+    let unfinished = sig.identity().is_none();
+    sig.finish(alloc)?;
+    let part = sig.identity().ok_or("no identity")?;
+    let mut shared = HeadMap::new(alloc);
+    shared.push_part(alloc, part)?;
+    let twice = shared.push_part(alloc, part).is_err();
+    let copied = shared.copy(alloc)?;
+    assert!(rt; unfinished && twice);
+    assert!(rt; is_same_map(&shared, &wanted) && is_same_map(&copied, &wanted));
+    Ok(())
+}
+
+#[test]
+fn a_part_behind_pairs_is_copied(rt: HostRuntime) -> Result<(), Fail> {
+    let alloc = rt.alloc();
+    let wanted = map(alloc, BEHIND)?;
+    let mut sig = signature(alloc, DECLARED)?;
+    sig.finish(alloc)?;
+    let mut behind = map(alloc, MAPPED_FIRST)?;
+    behind.push_part(alloc, sig.identity().ok_or("no identity")?)?;
+    assert!(rt; is_same_map(&behind, &wanted));
     Ok(())
 }
 

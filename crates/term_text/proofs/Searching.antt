@@ -7,7 +7,7 @@ use Rattle.std.proofs.lemmas.List.{drop_all}
 use Rattle.std.proofs.lemmas.Option.{slice_get_within, get_or_from_slice_get}
 use Rattle.lf_meaning.specs.Signatures.{Declaration, Signature}
 use Rattle.printing_meaning.specs.Prefixes.{marks, prefix_with, clashes, is_taken, free_from, enough, prefix_of}
-use Rattle.printing_laws.proofs.FreePrefixes.{long_is_free}
+use Rattle.printing_laws.proofs.FreePrefixes.{length-marks, long_is_free}
 
 -- The prefix has so many marks; with as many tries left the search from here on finds what it finds from the first one.
 pub record Sought (own : Signature) (prefix : List ℕ) : Type 0 where
@@ -21,11 +21,6 @@ one_mark_more : (n : ℕ) → marks n ++ 39 ∷ [] ≡ marks (suc n)
 unfolding marks
 one_mark_more zero = refl
 one_mark_more (suc n) = ap (λ z. 39 ∷ z) (one_mark_more n)
-
-marks_length : (n : ℕ) → length (marks n) ≡ n
-unfolding marks
-marks_length zero = refl
-marks_length (suc n) = ap suc (marks_length n)
 
 pub sought_first : (own : Signature) → Sought own (codes "x")
 unfolding marks
@@ -47,7 +42,7 @@ sought_next own prefix s h = by s.tries s.all s.same
     by zero all same =
         let short = taken_is_short own prefix h in
         let long = ap length s.is in
-        let counted = marks_length s.count in
+        let counted = length-marks s.count in
         absurd (omega (arith, short, long, counted, all))
     by (suc tries) all same =
         let taken = ap (is_taken own) (sym s.is) ∙ h in

@@ -5,4 +5,5 @@ mod judged;
 mod reading;
 
 pub use judged::{Judged, judge_all};
+pub use module_check::carry;
 pub use reading::module;

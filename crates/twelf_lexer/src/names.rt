@@ -44,6 +44,9 @@ impl NameTable {
         requires { IsTrue (is_identifier text.now) }
         ensures { IfOk result (λ name. name ≡ text.now) }
     {
+        if let Some(name) = Name::short(text) {
+            return Ok(name);
+        }
         let hash = hash(text.as_bytes());
         if let Some(name) = self.find(text, hash) {
             return name.copy(self.alloc);

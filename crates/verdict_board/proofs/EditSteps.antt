@@ -1,5 +1,5 @@
 -- The steps of an edit, in the words of its calls.
-use Rattle.std.proofs.Common.{◌≡◌, ℕ, suc, Bool, true, false, not, List, [], ◌∷◌, ◌++◌, length, take, filter, slice_get, Some, None, cond, Result, Ok, Err, IfOk, ◌⊎◌, inl, inr, refl, sym, ap, ◌∙◌, subst, true≢false, append-nil, ◌&&◌}
+use Rattle.std.proofs.Common.{◌≡◌, ℕ, suc, Bool, true, false, not, List, [], ◌∷◌, ◌++◌, length, take, filter, slice_get, Some, None, cond, Result, Ok, Err, IfOk, ◌⊎◌, inl, inr, refl, sym, ap, ◌∙◌, subst, append-nil, ◌&&◌}
 use Rattle.std.proofs.lemmas.List.{map-append}
 use Rattle.name_meaning.specs.Names.{Name, Text, same_name, is_among, is_ascending}
 use Rattle.name_meaning.specs.Rows.{Rows, row_names, row_of, with_row, without_row, IsTable}
@@ -13,7 +13,7 @@ use Rattle.walk_meaning.specs.Graphs.{Graph, HoldsDependencies, graph_grounded}
 use Rattle.walk_laws.proofs.Graphs.{edited_holds, graph_grounds}
 use Rattle.list_laws.proofs.Members.{Member, place_member}
 use Rattle.verdict_board.proofs.Reports.{filter_next}
-use Rattle.verdict_board.proofs.Edits.{grounded_among, ungrounded_listed}
+use Rattle.verdict_board.proofs.Edits.{ungrounded_listed, walking_ascending}
 use Rattle.walk_laws.proofs.Walking.{in_present, walking_present, ungrounded_in}
 use Rattle.edit_log.specs.declared.edit.Edit as code
 use Rattle.edit_log.specs.declared.edit.Edit.TheVariants.{Put, Drop}
@@ -81,22 +81,23 @@ module _ (graph : Graph) (D : Dependencies) (L : Library) (holds : HoldsDependen
   pub known_sorted : is_ascending known ≡ true
   known_sorted = ap is_ascending (e ∙ graph_grounds graph D L holds) ∙ ascending_filtered (is_grounded D L) (names_of L) t
 
-  named : (place : ℕ) (n : Name) → slice_get (row_names graph) place ≡ Some n → Member n (names_of L)
-  named place n h = subst (Member n) holds.names (place_member (row_names graph) place n h)
-
-  pub at_grounded : (place : ℕ) (n : Name) (b : Bool) → slice_get (row_names graph) place ≡ Some n → b ≡ is_among known n → is_grounded D L n ≡ b
-  at_grounded place n b h q = sym (q ∙ ap (λ names. is_among names n) e ∙ grounded_among graph D L holds n (named place n h))
-
-  pub at_ungrounded : (place : ℕ) (n : Name) (b : Bool) → slice_get (row_names graph) place ≡ Some n → b ≡ is_among known n → b ≡ false → is_ungrounded D L n ≡ true
-  at_ungrounded place n b h q f = by (is_present L n) (is_ungrounded D L n) (in_present D L n (named place n h)) (at_grounded place n b h q ∙ f)
-    where
-      by : (a u : Bool) → a ≡ true → (a && not u) ≡ false → u ≡ true
-      by true true p r = refl
-      by true false p r = absurd (true≢false r)
-      by false u p r = absurd (true≢false (sym p))
-
   pub bad_listed : (bad : List Name) → bad ≡ filter (λ (n : Name). not (is_among known n)) (row_names graph) → bad ≡ ungrounded_names D L
   bad_listed bad b = b ∙ ap (λ (names : List Name). filter (λ (n : Name). not (is_among names n)) (row_names graph)) e ∙ ungrounded_listed graph D L holds t
+
+module _ (D : Dependencies) (L : Library) (bad : List Name) (e : bad ≡ ungrounded_names D L) where
+  pub bad_sorted : is_ascending (names_of L) ≡ true → is_ascending bad ≡ true
+  unfolding ungrounded_names
+  bad_sorted t = ap is_ascending e ∙ walking_ascending D L t (length L)
+
+  pub at_bad : (n : Name) (b : Bool) → b ≡ is_among bad n → is_ungrounded D L n ≡ b
+  unfolding is_ungrounded
+  at_bad n b q = sym (q ∙ ap (λ names. is_among names n) e)
+
+  pub at_rest : (graph : Graph) → HoldsDependencies graph D L → (place : ℕ) (n : Name) (b : Bool) → slice_get (row_names graph) place ≡ Some n → b ≡ is_among bad n → b ≡ false → is_grounded D L n ≡ true
+  at_rest graph holds place n b h q f =
+      let p = in_present D L n (subst (Member n) holds.names (place_member (row_names graph) place n h)) in
+      let u = at_bad n b q ∙ f in
+      λ i. p i && not (u i)
 
 -- ---- the answer to an edit
 

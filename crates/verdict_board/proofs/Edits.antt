@@ -166,24 +166,24 @@ module _ {Answer Meaning : Type 0} (subject : Subject Meaning) (meaning : Answer
 
 -- ---- the ungrounded names, as a list
 
+pub walking_ascending : (D : Dependencies) (L : Library) → is_ascending (names_of L) ≡ true → (k : ℕ) → is_ascending (walking D L k) ≡ true
+unfolding walking
+walking_ascending D L t zero = t
+walking_ascending D L t (suc k) = ascending_filtered (λ n. list_any (is_among (walking D L k)) (direct D L n)) (names_of L) t
+
 module _ (graph : Graph) (D : Dependencies) (L : Library) (holds : HoldsDependencies graph D L) where
-  pub grounded_among : (n : Name) → Member n (names_of L) → is_among (graph_grounded graph) n ≡ is_grounded D L n
+  grounded_among : (n : Name) → Member n (names_of L) → is_among (graph_grounded graph) n ≡ is_grounded D L n
   grounded_among n i = ap (λ names. is_among names n) (graph_grounds graph D L holds) ∙ by (is_grounded D L n) refl
     where
       by : (b : Bool) → is_grounded D L n ≡ b → is_among (filter (is_grounded D L) (names_of L)) n ≡ b
       by true g = member_among (filter (is_grounded D L) (names_of L)) n (filter_in (is_grounded D L) (names_of L) n i g)
       by false g = false_from_ne_true (is_among (filter (is_grounded D L) (names_of L)) n) (λ a. true≢false (sym (in_filter (is_grounded D L) (names_of L) n (among_member (filter (is_grounded D L) (names_of L)) n a)).1 ∙ g))
 
-  walking_ascending : is_ascending (names_of L) ≡ true → (k : ℕ) → is_ascending (walking D L k) ≡ true
-  unfolding walking
-  walking_ascending t zero = t
-  walking_ascending t (suc k) = ascending_filtered (λ n. list_any (is_among (walking D L k)) (direct D L n)) (names_of L) t
-
   pub ungrounded_listed : is_ascending (names_of L) ≡ true → filter (λ n. not (is_among (graph_grounded graph) n)) (row_names graph) ≡ ungrounded_names D L
   unfolding ungrounded_names
   ungrounded_listed t =
       ap (filter (λ n. not (is_among (graph_grounded graph) n))) holds.names
-      ∙ one_list (filter (λ n. not (is_among (graph_grounded graph) n)) (names_of L)) (walking D L (length L)) (ascending_filtered (λ n. not (is_among (graph_grounded graph) n)) (names_of L) t) (walking_ascending t (length L))
+      ∙ one_list (filter (λ n. not (is_among (graph_grounded graph) n)) (names_of L)) (walking D L (length L)) (ascending_filtered (λ n. not (is_among (graph_grounded graph) n)) (names_of L) t) (walking_ascending D L t (length L))
       (λ z i. let q = in_filter (λ n. not (is_among (graph_grounded graph) n)) (names_of L) z i in ungrounded_in D L z (ungrounded z q.0 (sym (ap not (grounded_among z q.0)) ∙ q.1)))
       (λ z i. let p = walking_present D L (length L) z i in
       filter_in (λ n. not (is_among (graph_grounded graph) n)) (names_of L) z p (ap not (grounded_among z p ∙ ungrounded_not D L z (in_ungrounded D L z i))))

@@ -11,3 +11,5 @@ pub mod Ends
 pub mod Handing
 pub mod Edits
 pub mod EditSteps
+pub mod Rings
+pub mod Falls

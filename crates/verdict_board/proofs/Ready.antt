@@ -47,6 +47,9 @@ pub none_found : {A : Type 0} (p : A → Bool) (xs : List A) → ((j : ℕ) (y :
 none_found p [] f = refl
 none_found p (y ∷ xs) f = ap (λ b. cond b (Some y) (find p xs)) (f 0 y refl) ∙ none_found p xs (λ j z g. f (suc j) z g)
 
+pub named_at : {A : Type 0} (rows : Rows A) (i : ℕ) (n : Name) (v : A) → slice_get rows i ≡ Some (n, v) → slice_get (row_names rows) i ≡ Some n
+named_at {A} rows i n v h = slice_get-map (λ (r : Name × A). r.0) rows i ∙ ap (option_map (λ (r : Name × A). r.0)) h
+
 -- ---- modules
 
 module _ {Answer Meaning : Type 0} (subject : Subject Meaning) (meaning : Answer → Meaning) (H : History) (l : IsLegal subject.dependencies H) where
@@ -97,13 +100,10 @@ module _ {Answer Meaning : Type 0} (subject : Subject Meaning) (meaning : Answer
     abbrev pub NoneReady : ℕ → Type 0
     NoneReady i = (j : ℕ) (n : Name) → j < i → slice_get (row_names stages) j ≡ Some n → is_ready D H n ≡ false
 
-    named_at : (i : ℕ) (n : Name) (stage : Stage Answer) → slice_get stages i ≡ Some (n, stage) → slice_get (row_names stages) i ≡ Some n
-    named_at i n stage h = slice_get-map (λ (r : Name × Stage Answer). r.0) stages i ∙ ap (option_map (λ (r : Name × Stage Answer). r.0)) h
-
     pub ready_next : (i : ℕ) (n : Name) (stage : Stage Answer) → IsTable stages → is_closed H ≡ false → slice_get stages i ≡ Some (n, stage) → (is_waiting stage && dependencies_stand D H n) ≡ false → NoneReady i → NoneReady (suc i)
     ready_next i n stage t o h q f j m w g =
         ⊎_elim (λ less. f j m less g)
-        (λ same. let e : n ≡ m = same_Some _ _ (sym (named_at i n stage h) ∙ ap (slice_get (row_names stages)) (sym same) ∙ g) in
+        (λ same. let e : n ≡ m = same_Some _ _ (sym (named_at stages i n stage h) ∙ ap (slice_get (row_names stages)) (sym same) ∙ g) in
         subst (λ z. is_ready D H z ≡ false) e (stage_ready n stage (k.staged n stage (row_at n stage stages i t h)) o ∙ q))
         (order j i w)
       where
@@ -115,7 +115,7 @@ module _ {Answer Meaning : Type 0} (subject : Subject Meaning) (meaning : Answer
     unfolding least_ready
     least_found i n stage t o h w d f =
         sym (ap (find (is_ready D H)) (sym k.names)
-        ∙ first_found (is_ready D H) (row_names stages) i n (named_at i n stage h)
+        ∙ first_found (is_ready D H) (row_names stages) i n (named_at stages i n stage h)
         (stage_ready n stage (k.staged n stage (row_at n stage stages i t h)) o ∙ and_from (is_waiting stage) (dependencies_stand D H n) w d) (λ j m less g. f j m less g))
 
     pub none_ready : (i : ℕ) → length stages ≤ i → NoneReady i → None ≡ least_ready D H

@@ -1,8 +1,8 @@
 -- How a module stands after a history (this profile).
-use Rattle.std.specs.Prelude.{◌≡◌, ℕ, suc, [], ◌∷◌, ◌++◌, Bool, true, false, ◌&&◌, not, List, Option, Some, None, if◌then◌else◌}
+use Rattle.std.specs.Prelude.{◌≡◌, ℕ, suc, [], ◌∷◌, ◌++◌, Bool, true, false, ◌&&◌, not, List, map, Option, Some, None, is_some, if◌then◌else◌}
 use Rattle.name_meaning.specs.Names.{Name, is_among, is_ascending}
-use Rattle.name_meaning.specs.Rows.{Rows, row_names, row_of}
-use Rattle.log_meaning.specs.Log.{Edit, names_of, is_present}
+use Rattle.name_meaning.specs.Rows.{Rows, row_names, row_of, with_row, without_row}
+use Rattle.log_meaning.specs.Log.{Edit, Put, Drop, edited, edited_name, names_of, is_present}
 use Rattle.walk_meaning.specs.Walks.{Dependencies, is_grounded, is_ungrounded}
 use Rattle.walk_meaning.specs.Reach.{reach}
 use Rattle.walk_meaning.specs.Subject.{Subject}
@@ -26,6 +26,13 @@ is_waiting Waiting = true
 is_waiting (Claimed claim inputs) = false
 is_waiting (Standing answer inputs) = false
 is_waiting (Cyclic answer) = false
+
+-- It is ungrounded.
+abbrev pub is_cyclic : {Answer : Type 0} → Stage Answer → Bool
+is_cyclic Waiting = false
+is_cyclic (Claimed claim inputs) = false
+is_cyclic (Standing answer inputs) = false
+is_cyclic (Cyclic answer) = true
 
 -- The current claim, if there is one.
 abbrev pub claim_in : {Answer : Type 0} → Stage Answer → Option ℕ
@@ -58,6 +65,45 @@ HasSortedInputs Waiting = Unit {0}
 HasSortedInputs (Claimed claim inputs) = is_ascending inputs ≡ true
 HasSortedInputs (Standing answer inputs) = is_ascending inputs ≡ true
 HasSortedInputs (Cyclic answer) = Unit {0}
+
+-- The inputs of each stage stand in byte order.
+abbrev pub HaveSortedInputs : {Answer : Type 0} → Rows (Stage Answer) → Type 0
+HaveSortedInputs {Answer} rows = (name : Name) (stage : Stage Answer) → row_of rows name ≡ Some stage → HasSortedInputs stage
+
+-- The stage of a module does not stay after an edit of this name, if the module is grounded then.
+abbrev pub falls : {Answer : Type 0} → Name → Stage Answer → Bool
+falls name Waiting = false
+falls name (Claimed claim inputs) = is_among inputs name
+falls name (Standing answer inputs) = is_among inputs name
+falls name (Cyclic answer) = true
+
+-- The stages after an edit of this name, if all modules are grounded then.
+abbrev pub fallen : {Answer : Type 0} → Name → Rows (Stage Answer) → Rows (Stage Answer)
+fallen {Answer} name rows = map (λ (row : Name × Stage Answer). (row.0, stage_after name row.1)) rows
+
+-- The edit puts a text under a name that has no stage.
+abbrev pub is_new : {Answer : Type 0} → Edit → Rows (Stage Answer) → Bool
+is_new (Put name text) rows = not (is_some (row_of rows name))
+is_new (Drop name) rows = false
+
+-- The stages with that of a module that the edit makes new, which waits.
+abbrev pub stages_added : {Answer : Type 0} → Edit → Rows (Stage Answer) → Rows (Stage Answer)
+stages_added (Put name text) rows = if is_some (row_of rows name) then rows else with_row name Waiting rows
+stages_added (Drop name) rows = rows
+
+-- The stages without that of a module that the edit drops.
+abbrev pub stages_dropped : {Answer : Type 0} → Edit → Rows (Stage Answer) → Rows (Stage Answer)
+stages_dropped (Put name text) rows = rows
+stages_dropped (Drop name) rows = without_row name rows
+
+-- The stages of the modules that the edit leaves, before any falls.
+abbrev pub stages_with : {Answer : Type 0} → Edit → Rows (Stage Answer) → Rows (Stage Answer)
+stages_with edit rows = stages_dropped edit (stages_added edit rows)
+
+-- The stages after an edit: those that were made anew, else the old ones where all modules are grounded after it.
+abbrev pub changed : {Answer : Type 0} → Option (Rows (Stage Answer)) → Edit → Rows (Stage Answer) → Rows (Stage Answer)
+changed None edit rows = fallen (edited_name edit) (stages_with edit rows)
+changed (Some anew) edit rows = anew
 
 -- The history with this edit made after it.
 abbrev pub after_edit_of : History → Edit → History
@@ -99,3 +145,8 @@ module _ {Answer Meaning : Type 0} (subject : Subject Meaning) (meaning : Answer
   pub record AreStages (stages : Rows (Stage Answer)) : Type 0 where
     pub names : row_names stages ≡ names_of (library_after history)
     pub staged : (name : Name) (stage : Stage Answer) → row_of stages name ≡ Some stage → IsStage name stage
+
+-- These are the stages after an edit; or there are none, and no module is ungrounded after it.
+abbrev pub IsAnew : {Answer Meaning : Type 0} → Subject Meaning → (Answer → Meaning) → History → Edit → Option (Rows (Stage Answer)) → Type 0
+IsAnew subject meaning history edit None = (name : Name) → is_ungrounded subject.dependencies (edited (library_after history) edit) name ≡ false
+IsAnew subject meaning history edit (Some stages) = AreStages subject meaning (after_edit_of history edit) stages

@@ -1,7 +1,7 @@
 //! Edits of the library.
-ghost use Rattle.std.specs.Prelude.{◌≡◌, ◌≤◌, not, true, length, filter, IfOk, IfSome, OnErr, OnOk};
+ghost use Rattle.std.specs.Prelude.{◌≡◌, ◌≤◌, not, true, false, length, filter, IfOk, IfSome, OnErr, OnOk};
 ghost use Rattle.std.specs.Option.{option_copied};
-ghost use Rattle.name_meaning.specs.Names.{is_among, is_ascending};
+ghost use Rattle.name_meaning.specs.Names.{Name, is_among, is_ascending};
 ghost use Rattle.name_meaning.specs.Limits.{text_limit};
 ghost use Rattle.name_meaning.specs.Rows.{row_names};
 ghost use Rattle.log_meaning.specs.Log.{edited, text_of};
@@ -13,17 +13,18 @@ ghost use Rattle.board_meaning.specs.Events.{library_after};
 ghost use Rattle.board_meaning.specs.Machine.{edit_reply, EditCall, after_call};
 ghost use Rattle.edit_log.specs.Readings.{read_edit, IsAnswer};
 ghost use Rattle.verdict_board.specs.Entries.{read_event};
-ghost use Rattle.verdict_board.specs.Stages.{IsStage, AreStages, after_edit_of};
+ghost use Rattle.verdict_board.specs.Stages.{IsStage, AreStages, IsAnew, after_edit_of};
 ghost use Rattle.board_meaning.specs.Events as board;
 
 use crate::claim::MOST;
+use crate::in_place::change;
 use crate::search::contains;
 use crate::stage::{Stage, after_edit};
 use crate::trail::noted;
 use crate::{Board, Event};
 use edit_log::{Edit, EditFault, Edited};
 use lf_terms::{Memory, Name, Names};
-use module_graph::{Graph, Subject, grounded};
+use module_graph::{Graph, Subject, grounded, reaches_itself};
 use name_table::NameTable;
 use std::alloc::Global;
 
@@ -45,14 +46,13 @@ impl<S: Subject> Board<S> {
             return Err(EditFault::Memory);
         }
         let graph = self.graph_after(alloc, &edit)?;
-        let stages = self.stages_after(alloc, &edit, &graph)?;
         let event = event_of(alloc, &edit)?;
-        match self.log.append(alloc, edit) {
+        let anew = self.stages_anew(alloc, &edit, &graph)?;
+        match change(alloc, &mut self.log, &mut self.stages, &graph, anew, edit) {
             Ok(_) => {}
             Err(fault) => return Err(fault),
         }
         self.graph = graph;
-        self.stages = stages;
         self.history = noted(&self.history, pass, version, event);
         self.entries += 1;
         self.exhausted = false;
@@ -77,7 +77,26 @@ impl<S: Subject> Board<S> {
         Ok(graph)
     }
 
-    /// How each module stands after an edit that leaves this graph.
+    /// How each module stands after an edit that leaves this graph. None only where no module is ungrounded then, so that the stages
+    /// may be changed in place.
+    fn stages_anew(
+        &self,
+        alloc: Global,
+        edit: &Edit,
+        graph: &Graph,
+    ) -> Result<Option<NameTable<Stage<S::Answer>>>, Memory>
+        requires short { is_short (read_edit edit.now) ≡ true }
+        requires holds { HoldsDependencies graph.now S.subject.dependencies (edited (library_after self.now) (read_edit edit.now)) }
+        ensures { IfOk result (λ anew. IsAnew S.subject S.meaning self.now (read_edit edit.now) anew) }
+    {
+        let may_have = self.may_have_ring(alloc, edit, graph)?;
+        if !may_have {
+            return Ok(None);
+        }
+        Ok(Some(self.stages_after(alloc, edit, graph)?))
+    }
+
+    /// How each module stands after an edit that leaves this graph, made anew beside what there is.
     fn stages_after(
         &self,
         alloc: Global,
@@ -93,10 +112,10 @@ impl<S: Subject> Board<S> {
         let mut stages = NameTable::new(alloc);
         for place in 0..graph.len() {
             let name = graph.name_at(place);
-            let stage = if contains(&known, name) {
-                self.grounded_stage(name, edit)?
-            } else {
+            let stage = if contains(&bad, name) {
                 self.ring_stage(alloc, name, edit, &bad)?
+            } else {
+                self.grounded_stage(name, edit)?
             };
             match stages.push(name.copy(alloc)?, stage) {
                 Ok(()) => {}
@@ -104,6 +123,32 @@ impl<S: Subject> Board<S> {
             }
         }
         Ok(stages)
+    }
+
+    /// Whether a module may be ungrounded after an edit that leaves this graph: one was before, or the edited one reaches itself.
+    fn may_have_ring(&self, alloc: Global, edit: &Edit, graph: &Graph) -> Result<bool, Memory>
+        requires { HoldsDependencies graph.now S.subject.dependencies (edited (library_after self.now) (read_edit edit.now)) }
+        ensures { IfOk result (λ may. may ≡ false → (name : Name) → is_ungrounded S.subject.dependencies (edited (library_after self.now) (read_edit edit.now)) name ≡ false) }
+    {
+        if self.has_ring() {
+            return Ok(true);
+        }
+        match edit {
+            Edit::Put { name, .. } => reaches_itself(alloc, graph, name),
+            Edit::Drop { .. } => Ok(false),
+        }
+    }
+
+    /// Whether a module is ungrounded.
+    fn has_ring(&self) -> bool
+        ensures { result ≡ false → (name : Name) → is_ungrounded S.subject.dependencies (library_after self.now) name ≡ false }
+    {
+        for place in 0..self.stages.len() {
+            if self.stages.row_at(place).1.is_cyclic() {
+                return true;
+            }
+        }
+        false
     }
 
     /// How a module stands after an edit, where it is grounded then.

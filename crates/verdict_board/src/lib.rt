@@ -5,6 +5,7 @@ mod board;
 mod claim;
 mod edit;
 mod event;
+mod in_place;
 mod inputs;
 mod install;
 mod job;

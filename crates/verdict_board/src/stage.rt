@@ -2,7 +2,7 @@
 ghost use Rattle.std.specs.Prelude.{◌≡◌, IfOk};
 ghost use Rattle.std.specs.Option.{option_copied};
 ghost use Rattle.name_meaning.specs.Names.{is_ascending, is_among};
-ghost use Rattle.verdict_board.specs.Stages.{answer_in, claim_in, is_waiting, standing_in, stage_after, HasSortedInputs};
+ghost use Rattle.verdict_board.specs.Stages.{answer_in, claim_in, falls, is_cyclic, is_waiting, standing_in, stage_after, HasSortedInputs};
 
 use crate::search::contains;
 use lf_terms::{Arc, Memory, Name, Names};
@@ -39,6 +39,27 @@ impl<A> Stage<A> {
         matches!(self, Stage::Waiting)
     }
 
+    /// Whether it is ungrounded.
+    pub fn is_cyclic(&self) -> bool
+        ensures { result ≡ is_cyclic self.now }
+    {
+        matches!(self, Stage::Cyclic { .. })
+    }
+
+    /// Whether it does not stay after an edit of a name, if the module is grounded then.
+    pub fn falls(&self, edited: &Name) -> bool
+        requires { HasSortedInputs self.now }
+        ensures { result ≡ falls edited.now self.now }
+    {
+        match self {
+            Stage::Waiting => false,
+            Stage::Claimed { inputs, .. } | Stage::Standing { inputs, .. } => {
+                contains(inputs.get(), edited)
+            }
+            Stage::Cyclic { .. } => true,
+        }
+    }
+
     /// The current claim, if there is one.
     pub fn claim(&self) -> Option<u64>
         ensures { result ≡ claim_in self.now }
@@ -68,25 +89,18 @@ pub fn after_edit<S: Subject>(
     requires { HasSortedInputs stage.now }
     ensures { IfOk result (λ after. after ≡ stage_after edited.now stage.now) }
 {
+    if stage.falls(edited) {
+        return Ok(Stage::Waiting);
+    }
     match stage {
         Stage::Waiting | Stage::Cyclic { .. } => Ok(Stage::Waiting),
-        Stage::Claimed { claim, inputs } => {
-            if contains(inputs.get(), edited) {
-                return Ok(Stage::Waiting);
-            }
-            Ok(Stage::Claimed {
-                claim: *claim,
-                inputs: inputs.share()?,
-            })
-        }
-        Stage::Standing { answer, inputs } => {
-            if contains(inputs.get(), edited) {
-                return Ok(Stage::Waiting);
-            }
-            Ok(Stage::Standing {
-                answer: S::share(answer)?,
-                inputs: inputs.share()?,
-            })
-        }
+        Stage::Claimed { claim, inputs } => Ok(Stage::Claimed {
+            claim: *claim,
+            inputs: inputs.share()?,
+        }),
+        Stage::Standing { answer, inputs } => Ok(Stage::Standing {
+            answer: S::share(answer)?,
+            inputs: inputs.share()?,
+        }),
     }
 }

@@ -50,7 +50,7 @@ settled library name h x m =
 tree_anywhere : (first second : Environment) (ungrounded : Name → Bool) (name : Name) (tree : Module) (b : Bool) → b ≡ true → judge_tree first ungrounded name tree b ≡ judge_tree second ungrounded name tree b
 tree_anywhere first second ungrounded name tree b e = ap (judge_tree first ungrounded name tree) e ∙ sym (ap (judge_tree second ungrounded name tree) e)
 
-answer_anywhere : (first second : Environment) (ungrounded : Name → Bool) (name : Name) (answer : Answer) → ungrounded name ≡ true → judge_answer first ungrounded name answer ≡ judge_answer second ungrounded name answer
+pub answer_anywhere : (first second : Environment) (ungrounded : Name → Bool) (name : Name) (answer : Answer) → ungrounded name ≡ true → judge_answer first ungrounded name answer ≡ judge_answer second ungrounded name answer
 answer_anywhere first second ungrounded name (Read (ModuleTree tree)) e = tree_anywhere first second ungrounded name tree (ungrounded name) e
 answer_anywhere first second ungrounded name (Read (JudgementTree tree)) e = refl
 answer_anywhere first second ungrounded name (Syntax at) e = refl

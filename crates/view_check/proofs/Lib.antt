@@ -1,1 +1,2 @@
+mod CheckedViews
 mod TypedViews

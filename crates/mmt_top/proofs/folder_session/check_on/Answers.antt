@@ -2,7 +2,7 @@ use Rattle.std.proofs.Common.{◌≡◌, refl, sym, subst}
 use Rattle.std.specs.Prelude.{IfSome, IsNone}
 use denote.Exit.{yes}
 use denote.Param.Send.{arg_send, arg_sync, param_send, param_sync}
-use Rattle.module_check.proofs.Crossing.{verdict_row_send, verdict_row_sync}
+use Rattle.board_front.proofs.Subject.{verdict_row_send, verdict_row_sync}
 use Rattle.text_meaning.specs.Dependencies.{dependencies}
 use Rattle.worker_crew.specs.Leading.{WasLed}
 use Rattle.folder_front.specs.Checked.{IsFolderLed}

@@ -11,6 +11,7 @@ returns-clause-led g c = record {
   closed = c.close.ensures.closed;
   ends = ended_later c.play-status.result (g.K.Sink.taken c.args.sink.now) (g.K.Sink.taken c.play-status.new.sink) (g.S.Source.left c.args.source.now) c.play-status.new.pass.seen c.close.new.pass.seen c.close.ensures.stays c.play-status.ensures.ends;
   read_all = c.play-status.ensures.read_all;
+  part_read = c.play-status.ensures.left;
   answers = c.play-status.ensures.status;
   flush = c.play-status.ensures.flush;
   read = c.play-status.ensures.read;

@@ -1,10 +1,11 @@
-use Rattle.std.proofs.Common.{◌≡◌, ℕ, List, [], refl, ap, subst, arith}
+use Rattle.std.proofs.Common.{◌≡◌, ℕ, List, [], refl, sym, ap, subst, arith}
 use Rattle.std.specs.Prelude.{Option, Some, IfSome}
 use Rattle.script_reader.specs.Reading.{Reading, to_come}
 use Rattle.board_front.proofs.Histories.{keeps_on}
 use Rattle.run_status.specs.declared.status.Status.{Status}
 use Rattle.mmt_top.specs.Session.{TurnTells}
-use Rattle.mmt_outside.proofs.Bytes.{preceded-nil}
+use Rattle.mmt_outside.specs.Bytes.{ReadPrefix}
+use Rattle.mmt_outside.proofs.Bytes.{preceded-nil, ReadPrefix-more, ReadPrefix-none}
 use Rattle.mmt_top.proofs.Sessions.{ended_whole, start, played_more, played_end, played_done, played_start}
 use Rattle.mmt_top.proofs.Led.{empty_legal}
 use Rattle.generator_front.proofs.GivenEdits.{empty_front}
@@ -27,6 +28,13 @@ returns-in-Some-turn-clause-read_all g c = λ done.
     bytes (to_come c.turn.new.script (g.S.Source.left c.turn.new.source)) c.loop.pass.seen c.turn.new.pass.seen c.loop.script c.turn.new.script))
     done c.in-Some-turn.ensures.tells))
 
+pub returns-in-Some-turn-clause-left : goal.returns-in-Some-turn-clause-left
+returns-in-Some-turn-clause-left g c =
+    subst (λ (come : Option (List ℕ)). ReadPrefix come (g.S.Source.left c.turn.new.source)) (preceded-nil (g.S.Source.left c.args.source.now))
+    (ReadPrefix-more (to_come start (g.S.Source.left c.args.source.now)) (to_come c.loop.script (g.S.Source.left c.loop.source)) (g.S.Source.left c.turn.new.source) c.loop.invariant.left
+    (ReadPrefix-more (to_come c.loop.script (g.S.Source.left c.loop.source)) (to_come c.turn.new.script (g.S.Source.left c.turn.new.source)) (g.S.Source.left c.turn.new.source) c.turn.ensures.left
+    (record { piece = c.turn.new.script.buffered; read = refl })))
+
 pub loop-preserved : goal.loop-preserved
 loop-preserved g c = record {
   keeps = keeps_on c.args.pass.now c.loop.pass c.turn.new.pass c.loop.invariant.keeps c.turn.ensures.keeps;
@@ -34,6 +42,8 @@ loop-preserved g c = record {
   played = played_more (g.K.Sink.taken c.args.sink.now) (g.K.Sink.taken c.loop.sink) (g.K.Sink.taken c.turn.new.sink)
       (to_come start (g.S.Source.left c.args.source.now)) (to_come c.loop.script (g.S.Source.left c.loop.source)) (to_come c.turn.new.script (g.S.Source.left c.turn.new.source))
       c.args.pass.now.seen c.loop.pass.seen c.turn.new.pass.seen start c.loop.script c.turn.new.script c.loop.invariant.played c.in_default.ensures.tells;
+  left = ReadPrefix-more (to_come start (g.S.Source.left c.args.source.now)) (to_come c.loop.script (g.S.Source.left c.loop.source)) (to_come c.turn.new.script (g.S.Source.left c.turn.new.source))
+      c.loop.invariant.left c.turn.ensures.left;
   fresh = c.in_default.ensures.on refl;
   source_later = omega arith;
   sink_later = omega arith;
@@ -44,6 +54,8 @@ loop-init g c = record {
   keeps = refl;
   front = empty_front c.new-log.result c.args.pass.now.seen c.new-log.ensures c.requires.empty;
   played = played_start (g.K.Sink.taken c.args.sink.now) (g.S.Source.left c.args.source.now) c.args.pass.now.seen c.new-script.result (empty_legal c.args.pass.now.seen c.requires.empty) c.new-script.ensures;
+  left = subst (λ (script : Reading). ReadPrefix (to_come start (g.S.Source.left c.args.source.now)) (to_come script (g.S.Source.left c.args.source.now))) (sym c.new-script.ensures)
+      (ReadPrefix-none (to_come start (g.S.Source.left c.args.source.now)));
   fresh = ap (λ (reading : Reading). reading.is_spent) c.new-script.ensures;
   source_later = omega arith;
   sink_later = omega arith;

@@ -1,4 +1,5 @@
 use Rattle.std.proofs.Common.{◌≡◌, ◌≤◌, false}
+use Rattle.mmt_outside.specs.Bytes.{ReadPrefix}
 use Rattle.script_reader.specs.Reading.{to_come}
 use Rattle.board_seats.specs.Seats.{Keeps}
 use Rattle.board_front.specs.Staying.{IsFront}
@@ -11,6 +12,7 @@ invariant-loop g l = record {
   front : IsFront l.log l.pass.seen;
   played : Played (g.K.Sink.taken l.fn.sink) (g.K.Sink.taken l.sink) (to_come start (g.S.Source.left l.fn.source)) (to_come l.script (g.S.Source.left l.source))
       l.fn.pass.seen l.pass.seen start l.script;
+  left : ReadPrefix (to_come start (g.S.Source.left l.fn.source)) (to_come l.script (g.S.Source.left l.source));
   fresh : l.script.is_spent ≡ false;
   source_later : g.S.Source.faults l.fn.source ≤ g.S.Source.faults l.source;
   sink_later : g.K.Sink.faults l.fn.sink ≤ g.K.Sink.faults l.sink;

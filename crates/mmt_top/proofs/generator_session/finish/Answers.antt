@@ -1,7 +1,7 @@
 use Rattle.std.proofs.Common.{◌≡◌, subst}
 use denote.Exit.{yes}
 use denote.Param.Send.{arg_send, arg_sync, param_send, param_sync}
-use Rattle.module_check.proofs.Crossing.{verdict_row_send, verdict_row_sync}
+use Rattle.board_front.proofs.Subject.{verdict_row_send, verdict_row_sync}
 use Rattle.generator_front.specs.Generated.{IsGenerated}
 use Rattle.mmt_top.specs.GeneratorRuns.{EndsAs, generator_lines}
 use Rattle.mmt_top.proofs.GeneratedLines.{printed, unprinted}

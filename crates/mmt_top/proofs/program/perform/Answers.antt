@@ -1,4 +1,5 @@
 use Rattle.std.proofs.Common.{◌≡◌, true≢false, refl, sym, ap, ◌∙◌, subst, arith}
+use Rattle.mmt_outside.proofs.Bytes.{ReadPrefix-none}
 use Rattle.command_words.specs.ReadRuns.{IsInBounds, read_task}
 use Rattle.mmt_top.specs.GeneratorRuns.{IsGeneratorStatus}
 use Rattle.mmt_top.specs.Runs.{Does, checks, plays}
@@ -23,6 +24,7 @@ returns-in-Play g c = record {
       (record {
         answers = c.session.ensures.status;
         output = c.session.ensures.output;
+        part_read = c.session.ensures.left;
         read_all = λ p. c.session.ensures.read_all;
         same = refl;
         flush = c.session.ensures.flush;
@@ -46,6 +48,7 @@ returns-in-CheckFolder g c = record {
       (record {
         answers = c.check_folder.ensures.status;
         output = c.check_folder.ensures.output;
+        part_read = ReadPrefix-none (g.S.Source.left c.args.source.now);
         read_all = λ p. absurd (true≢false (sym p));
         same = c.check_folder.ensures.same;
         flush = c.check_folder.ensures.flush;
@@ -69,6 +72,7 @@ returns-in-Generate g c = record {
       (record {
         answers = c.generate.ensures.status;
         output = c.generate.ensures.output;
+        part_read = ReadPrefix-none (g.S.Source.left c.args.source.now);
         read_all = λ p. absurd (true≢false (sym p));
         same = refl;
         flush = c.generate.ensures.flush;

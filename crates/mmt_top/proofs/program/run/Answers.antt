@@ -3,6 +3,7 @@ use Rattle.std.specs.Prelude.{Option, Some, None, IfSome, IsSome, map}
 use Rattle.std.specs.Option.{option_map}
 use Rattle.std.specs.String.{string_bytes}
 use Rattle.word_list_meaning.specs.WordLists.{Run, run_of}
+use Rattle.mmt_outside.proofs.Bytes.{ReadPrefix-none}
 use Rattle.command_words.specs.ReadRuns.{read_run}
 use Rattle.mmt_top.specs.Runs.{IsStatusOf, IsUsage, Prints, ReadHasCause, is_check, is_play}
 use Rattle.mmt_top.proofs.ToldTyping.{asked_typed}
@@ -20,6 +21,7 @@ returns-in-Some g c =
       status = subst (λ a. IfSome a (λ run. IsStatusOf run.task c.perform.result)) asked does.answers;
       output = subst (λ a. IfSome a (λ run. Prints run.task run.workers c.perform.result (g.S.Source.left c.args.source.now) (g.F.Folder.files c.args.folder.now) (g.K.Sink.taken c.args.sink.now) (g.K.Sink.taken c.perform.new.sink))) asked does.output;
       typed = asked_typed (run_of (map string_bytes c.args.words.now)) (g.S.Source.left c.args.source.now) (g.F.Folder.files c.args.folder.now);
+      left = does.part_read;
       read_all = λ p. does.read_all (ap is_play asked ∙ p);
       unread = λ p. c.perform.ensures.unread (ap is_play asked ∙ p);
       uncalled = λ p. c.perform.ensures.uncalled (ap is_check asked ∙ p);
@@ -41,6 +43,7 @@ returns-in-None g c =
       status = subst (λ a. IfSome a (λ run. IsStatusOf run.task c.usage.result)) asked tt;
       output = subst (λ a. IfSome a (λ run. Prints run.task run.workers c.usage.result (g.S.Source.left c.args.source.now) (g.F.Folder.files c.args.folder.now) (g.K.Sink.taken c.args.sink.now) (g.K.Sink.taken c.usage.new.sink))) asked tt;
       typed = asked_typed (run_of (map string_bytes c.args.words.now)) (g.S.Source.left c.args.source.now) (g.F.Folder.files c.args.folder.now);
+      left = ReadPrefix-none (g.S.Source.left c.args.source.now);
       read_all = λ p. absurd (true≢false (sym (ap is_play asked ∙ p)));
       unread = λ p. refl;
       uncalled = λ p. refl;

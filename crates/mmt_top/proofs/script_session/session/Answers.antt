@@ -1,7 +1,8 @@
 use denote.Exit.{yes}
 use denote.Param.Send.{arg_send, arg_sync, param_send, param_sync}
-use Rattle.module_check.proofs.Crossing.{verdict_row_send, verdict_row_sync}
-use Rattle.mmt_top.proofs.Led.{nothing_said, nothing_written, says_backs, says_edits, says_output}
+use Rattle.board_front.proofs.Subject.{verdict_row_send, verdict_row_sync}
+use Rattle.mmt_outside.proofs.Bytes.{ReadPrefix-none}
+use Rattle.mmt_top.proofs.Led.{nothing_said, nothing_written, says_backs, says_edits, says_left, says_output}
 use Rattle.std.specs.Prelude.{None}
 use Rattle.word_list_meaning.specs.WordLists.{Play}
 use Rattle.mmt_top.proofs.ToldTyping.{tells_typed}
@@ -35,6 +36,14 @@ returns-clause-edits g c =
 pub returns-clause-backs : goal.returns-clause-backs
 returns-clause-backs g c =
     says_backs c.play_on.result.status (g.S.Source.left c.args.source.now) (g.S.Source.left c.play_on.new.source) (g.S.Source.faults c.args.source.now) (g.S.Source.faults c.play_on.new.source) (g.K.Sink.taken c.args.sink.now) (g.K.Sink.taken c.play_on.new.sink) (g.K.Sink.faults c.args.sink.now) (g.K.Sink.faults c.play_on.new.sink) c.play_on.result.board
+    c.play_on.ensures.some c.play_on.ensures.led
+
+pub returns-in_default-clause-left : goal.returns-in_default-clause-left
+returns-in_default-clause-left g c = ReadPrefix-none (g.S.Source.left c.args.source.now)
+
+pub returns-clause-left : goal.returns-clause-left
+returns-clause-left g c =
+    says_left c.play_on.result.status (g.S.Source.left c.args.source.now) (g.S.Source.left c.play_on.new.source) (g.S.Source.faults c.args.source.now) (g.S.Source.faults c.play_on.new.source) (g.K.Sink.taken c.args.sink.now) (g.K.Sink.taken c.play_on.new.sink) (g.K.Sink.faults c.args.sink.now) (g.K.Sink.faults c.play_on.new.sink) c.play_on.result.board
     c.play_on.ensures.some c.play_on.ensures.led
 
 pub returns-in_default-clause-typed : goal.returns-in_default-clause-typed

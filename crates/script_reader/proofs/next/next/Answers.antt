@@ -8,6 +8,7 @@ use Rattle.script_reader.specs.declared.said.Said.{Said}
 use Rattle.script_reader.specs.Answers.{IsFirstLine}
 use Rattle.script_reader.specs.declared.next.FirstLine.{FirstLine}
 use Rattle.script_reader.proofs.Puts.{missing_answer, put_answer}
+use Rattle.mmt_outside.proofs.Bytes.{ReadPrefix-more}
 use Rattle.script_reader.proofs.next.next.Goals as goal
 
 pub returns-in-Missing-clause-answer : goal.returns-in-Missing-clause-answer
@@ -25,3 +26,8 @@ returns-in-Puts-clause-answer g c =
     put_answer _ c.in-Puts.name c.in-Whole.text.items (preceded c.args.buffer.now (g.S.Source.left c.args.source.now))
     (preceded c.first_line.new.buffer (g.S.Source.left c.first_line.new.source)) (preceded c.put.new.buffer (g.S.Source.left c.put.new.source))
     c.args.line.now c.saturating_add.result c.put.new.line said c.saturating_add.ensures (whole.0, whole.1) c.put.ensures.answer
+
+pub returns-in-Puts-clause-left : goal.returns-in-Puts-clause-left
+returns-in-Puts-clause-left g c =
+    ReadPrefix-more (preceded c.args.buffer.now (g.S.Source.left c.args.source.now)) (preceded c.first_line.new.buffer (g.S.Source.left c.first_line.new.source))
+    (preceded c.put.new.buffer (g.S.Source.left c.put.new.source)) c.first_line.ensures.left c.put.ensures.left

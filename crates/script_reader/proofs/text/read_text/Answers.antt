@@ -3,6 +3,7 @@ use Rattle.mmt_outside.specs.Bytes.{preceded}
 use Rattle.script_reader.specs.HeldTexts.{Held}
 use Rattle.script_reader.specs.Texts.{ReadsPiece}
 use Rattle.script_reader.specs.declared.text.TextPiece.{TextPiece}
+use Rattle.mmt_outside.proofs.Bytes.{ReadPrefix-none, ReadPrefix-more}
 use Rattle.script_reader.proofs.TextSoFar.{HasText, HasText-nil, HasText-line, HasText-part, line_grows, part_grows, has_whole, has_last_short, has_last_long, has_longer}
 use Rattle.script_reader.proofs.text.read_text.Goals as goal
 
@@ -10,6 +11,7 @@ pub loop-buffer-init : goal.loop-buffer-init
 loop-buffer-init g c = record {
   text = subst (λ (held : Held). HasText (preceded c.args.buffer.now (g.S.Source.left c.args.source.now)) (preceded c.args.buffer.now (g.S.Source.left c.args.source.now)) c.args.line.now c.args.line.now false held) (sym c.new-text.ensures)
       (HasText-nil (preceded c.args.buffer.now (g.S.Source.left c.args.source.now)) c.args.line.now);
+  left = ReadPrefix-none (preceded c.args.buffer.now (g.S.Source.left c.args.source.now));
   later = omega arith;
 }
 
@@ -20,6 +22,8 @@ loop-buffer-preserved-in-Part g c = record {
       (subst (λ (read : TextPiece). ReadsPiece (preceded c.loop-buffer.buffer (g.S.Source.left c.loop-buffer.source))
       (preceded c.read_piece.new.buffer (g.S.Source.left c.read_piece.new.source)) c.loop-buffer.is_begun c.loop-buffer.text c.read_piece.new.text read)
       c.in-Part.is c.in_ok-read.ensures.piece);
+  left = ReadPrefix-more (preceded c.args.buffer.now (g.S.Source.left c.args.source.now)) (preceded c.loop-buffer.buffer (g.S.Source.left c.loop-buffer.source))
+      (preceded c.read_piece.new.buffer (g.S.Source.left c.read_piece.new.source)) c.loop-buffer.invariant.left c.read_piece.ensures.left;
   later = omega arith;
 }
 
@@ -30,6 +34,8 @@ loop-buffer-preserved g c = record {
       (subst (λ (read : TextPiece). ReadsPiece (preceded c.loop-buffer.buffer (g.S.Source.left c.loop-buffer.source))
       (preceded c.read_piece.new.buffer (g.S.Source.left c.read_piece.new.source)) c.loop-buffer.is_begun c.loop-buffer.text c.read_piece.new.text read)
       c.in-Line.is c.in_ok-read.ensures.piece));
+  left = ReadPrefix-more (preceded c.args.buffer.now (g.S.Source.left c.args.source.now)) (preceded c.loop-buffer.buffer (g.S.Source.left c.loop-buffer.source))
+      (preceded c.read_piece.new.buffer (g.S.Source.left c.read_piece.new.source)) c.loop-buffer.invariant.left c.read_piece.ensures.left;
   later = omega arith;
 }
 
@@ -76,3 +82,23 @@ returns-in-Last-2-clause-text g c =
 pub returns-clause-text : goal.returns-clause-text
 returns-clause-text g c =
     has_longer (preceded c.args.buffer.now (g.S.Source.left c.args.source.now)) (preceded c.loop-buffer.buffer (g.S.Source.left c.loop-buffer.source)) c.args.line.now c.loop-buffer.line c.loop-buffer.is_begun c.loop-buffer.text c.loop-buffer.invariant.text (omega arith)
+
+pub returns-in_err-read-clause-left : goal.returns-in_err-read-clause-left
+returns-in_err-read-clause-left g c =
+    ReadPrefix-more (preceded c.args.buffer.now (g.S.Source.left c.args.source.now)) (preceded c.loop-buffer.buffer (g.S.Source.left c.loop-buffer.source))
+    (preceded c.read_piece.new.buffer (g.S.Source.left c.read_piece.new.source)) c.loop-buffer.invariant.left c.read_piece.ensures.left
+
+pub returns-in-End-clause-left : goal.returns-in-End-clause-left
+returns-in-End-clause-left g c =
+    ReadPrefix-more (preceded c.args.buffer.now (g.S.Source.left c.args.source.now)) (preceded c.loop-buffer.buffer (g.S.Source.left c.loop-buffer.source))
+    (preceded c.read_piece.new.buffer (g.S.Source.left c.read_piece.new.source)) c.loop-buffer.invariant.left c.read_piece.ensures.left
+
+pub returns-in-Last-clause-left : goal.returns-in-Last-clause-left
+returns-in-Last-clause-left g c =
+    ReadPrefix-more (preceded c.args.buffer.now (g.S.Source.left c.args.source.now)) (preceded c.loop-buffer.buffer (g.S.Source.left c.loop-buffer.source))
+    (preceded c.read_piece.new.buffer (g.S.Source.left c.read_piece.new.source)) c.loop-buffer.invariant.left c.read_piece.ensures.left
+
+pub returns-in-Last-2-clause-left : goal.returns-in-Last-2-clause-left
+returns-in-Last-2-clause-left g c =
+    ReadPrefix-more (preceded c.args.buffer.now (g.S.Source.left c.args.source.now)) (preceded c.loop-buffer.buffer (g.S.Source.left c.loop-buffer.source))
+    (preceded c.read_piece.new.buffer (g.S.Source.left c.read_piece.new.source)) c.loop-buffer.invariant.left c.read_piece.ensures.left

@@ -41,3 +41,13 @@ returns-clause-typed c =
     let along = read_map c.in_ok-map.map in
     structure_keeps_typed c.args.faces.now c.args.here.now c.args.decl.now along _ c.requires.coherent c.requires.here c.requires.domain c.requires.unused c.in_ok-map.ensures
     (c.in_ok-add_structure.ensures.ok ∙ ap₂ (λ n d. with_face environment here (record { name = n; domain = d; map = along })) (c.in_ok-copy.ensures ∙ c.first_name.ensures) (c.in_ok-copy-2.ensures ∙ c.first_name-2.ensures))
+
+pub returns-clause-answer : goal.returns-clause-answer
+returns-clause-answer c =
+    let environment = environment_of c.args.faces.now in
+    let here = read_theory c.args.here.now in
+    let along = read_map c.in_ok-map.map in (
+      along,
+      c.in_ok-map.ensures,
+      c.in_ok-add_structure.ensures.ok ∙ ap₂ (λ n d. with_face environment here (record { name = n; domain = d; map = along })) (c.in_ok-copy.ensures ∙ c.first_name.ensures) (c.in_ok-copy-2.ensures ∙ c.first_name-2.ensures),
+    )

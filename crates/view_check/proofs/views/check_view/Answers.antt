@@ -1,4 +1,4 @@
-use Rattle.std.proofs.Common.{◌≡◌, sym, subst, ◌∙◌}
+use Rattle.std.proofs.Common.{◌≡◌, Ok, ap, sym, subst, ◌∙◌}
 use Rattle.std.proofs.lemmas.Result.{err_from_is_err_and}
 use Rattle.link_meaning.specs.LinkMaps.{IsSettled}
 use Rattle.link_meaning.specs.Passes.{link_map}
@@ -13,6 +13,7 @@ use Rattle.mmt_interface.specs.Readings.{environment_of}
 use Rattle.mmt_interface.specs.declared.face.ViewFace as code
 use Rattle.link_passes.proofs.Chained.{refuses_nothing}
 use Rattle.view_check.specs.Answers.{setting_of}
+use Rattle.view_check.proofs.CheckedViews.{checked_face}
 use Rattle.view_check.proofs.TypedViews.{linked_view_carries}
 use Rattle.view_check.proofs.views.check_view.Goals as goal
 
@@ -39,6 +40,12 @@ returns-clause-map c =
 faces_same : (along : HeadMap) {n m d e f g : Name} → n ≡ m → d ≡ e → f ≡ g
     → ◌≡◌ {A = ViewFace} (record { name = n; domain = d; codomain = f; map = along }) (record { name = m; domain = e; codomain = g; map = along })
 faces_same along p q r = λ i. record { name = p i; domain = q i; codomain = r i; map = along }
+
+pub returns-clause-answer : goal.returns-clause-answer
+returns-clause-answer c =
+    let along = read_map c.in_ok-map.map in
+    checked_face (environment_of c.args.faces.now) c.args.view.now along c.requires.domain c.requires.codomain c.in_ok-map.ensures
+    ∙ ap Ok (sym (faces_same along (c.in_ok-copy.ensures ∙ c.first_name.ensures) (c.in_ok-copy-2.ensures ∙ c.first_name-2.ensures) (c.in_ok-copy-3.ensures ∙ c.first_name-3.ensures)))
 
 pub returns-clause-typed : goal.returns-clause-typed
 returns-clause-typed c = λ known.

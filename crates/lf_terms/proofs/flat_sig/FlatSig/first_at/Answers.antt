@@ -9,14 +9,14 @@ use Rattle.lf_terms.proofs.flat_sig.FlatSig.first_at.Goals as goal
 use Rattle.lf_terms.proofs.flat_sig.FlatSig.first_at.Goals.{After-at, In-None}
 
 there : (c : After-at) → first_place c.args.self.now c.args.path.now ≡ Some c.in-Some.index.now
-there c = rw (← c.self.view_is) (sym (c.self.invariant.1 c.args.path.now) ∙ sym c.in-Some.ensures.value)
+there c = rw (← c.self.view_is) (sym (c.self.invariant.0.1 c.args.path.now) ∙ sym c.in-Some.ensures.value)
 
 found : (c : After-at) → slice_get c.args.self.now c.in-Some.index.now ≡ first_with_path c.args.self.now c.args.path.now
 found c = sym (found_there (λ (d : FlatDecl). same_path d.name.path c.args.path.now) c.args.self.now c.in-Some.index.now (there c))
 
 none : (c : In-None) → ◌≡◌ {A = Option FlatDecl} None (first_with_path c.args.self.now c.args.path.now)
 none c =
-    let absent : first_place c.args.self.now c.args.path.now ≡ None = rw (← c.self.view_is) (sym (c.self.invariant.1 c.args.path.now) ∙ sym c.in-None.ensures.value) in
+    let absent : first_place c.args.self.now c.args.path.now ≡ None = rw (← c.self.view_is) (sym (c.self.invariant.0.1 c.args.path.now) ∙ sym c.in-None.ensures.value) in
     sym (none_found (λ (d : FlatDecl). same_path d.name.path c.args.path.now) c.args.self.now absent)
 
 pub returns-in-Some-clause-declaration : goal.returns-in-Some-clause-declaration

@@ -11,7 +11,7 @@ use Rattle.lf_terms.proofs.flat_sig.FlatSig.get.Goals.{After-get}
 
 found : (c : After-get) → option_copied c.get.result ≡ declared c.args.self.now c.args.name.now
 found c =
-    rw (← c.self.view_is) (c.get.ensures.value ∙ found_by_key (λ (d : FlatDecl). d.name) (same_qname c.args.name.now) c.self.inside.decls.entries c.self.invariant.0)
+    rw (← c.self.view_is) (c.get.ensures.value ∙ found_by_key (λ (d : FlatDecl). d.name) (same_qname c.args.name.now) c.self.inside.decls.entries c.self.invariant.0.0)
 
 pub returns-clause-declaration : goal.returns-clause-declaration
 returns-clause-declaration c = found c

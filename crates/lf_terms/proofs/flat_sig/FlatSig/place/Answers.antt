@@ -9,7 +9,7 @@ use Rattle.lf_terms.proofs.flat_sig.FlatSig.place.Goals.{After-get_index_of}
 
 found : (c : After-get_index_of) → c.get_index_of.result ≡ place_of c.args.self.now c.args.name.now
 found c =
-    rw (← c.self.view_is) (c.get_index_of.ensures.index ∙ place_by_key (λ (d : FlatDecl). d.name) (same_qname c.args.name.now) c.self.inside.decls.entries c.self.invariant.0)
+    rw (← c.self.view_is) (c.get_index_of.ensures.index ∙ place_by_key (λ (d : FlatDecl). d.name) (same_qname c.args.name.now) c.self.inside.decls.entries c.self.invariant.0.0)
 
 pub returns-clause-index : goal.returns-clause-index
 returns-clause-index c = found c

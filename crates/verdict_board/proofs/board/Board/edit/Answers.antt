@@ -1,12 +1,14 @@
 use Rattle.std.proofs.Common.{◌≡◌, ◌∷◌, ◌++◌, [], suc, Err, sym, ap, ◌∙◌, subst, arith}
 use Rattle.log_meaning.specs.Log.{Log, edited}
 use Rattle.log_meaning.specs.Append.{Made, append_answer}
+use Rattle.log_laws.proofs.Libraries.{library_ascending}
 use Rattle.log_laws.proofs.Limits.{made_short}
 use Rattle.walk_meaning.specs.Graphs.{HoldsDependencies}
 use Rattle.board_meaning.specs.Events.{EditMade, Event, History, log_of, library_after, version_after}
 use Rattle.edit_log.specs.Readings.{read_edit, read_edited, IsAnswer}
 use Rattle.verdict_board.specs.Entries.{entry}
-use Rattle.verdict_board.specs.Stages.{AreStages}
+use Rattle.verdict_board.specs.Stages.{AreStages, after_edit_of}
+use Rattle.verdict_board.proofs.Falls.{changed_staged, inputs_sorted, names_edited}
 use Rattle.verdict_board.proofs.Calls.{edit_after}
 use Rattle.verdict_board.proofs.Edits.{kept_edit}
 use Rattle.verdict_board.proofs.EditSteps.{unmade_after, appended_made, made_version}
@@ -26,9 +28,20 @@ pub graph_after-requires-after_bounds : goal.graph_after-requires-after_bounds
 graph_after-requires-after_bounds g c κs b =
     made_short c.self.inside.log (read_edit c.args.edit) c.in-Made.version (c.in_ok-answer.ensures ∙ ap read_edited c.in-Made.is)
 
-pub stages_after-requires-clause-short : goal.stages_after-requires-clause-short
-stages_after-requires-clause-short g c κs b =
+pub stages_anew-requires-clause-short : goal.stages_anew-requires-clause-short
+stages_anew-requires-clause-short g c κs b =
     made_short c.self.inside.log (read_edit c.args.edit) c.in-Made.version (c.in_ok-answer.ensures ∙ ap read_edited c.in-Made.is)
+
+pub change-requires-clause-sorted : goal.change-requires-clause-sorted
+change-requires-clause-sorted g c =
+    let lawful = (g.met.S.Subject g.world.𝓛 g.world.𝓜 g.world.𝓡 ((λ s x. x), (λ x. x), (λ x. x), λ x. x)).lawful in
+    inputs_sorted g.S.Subject.subject g.S.Subject.meaning c.self.inside.history.entries c.self.invariant.legal lawful.reach c.self.inside.stages c.self.invariant.staged
+
+pub change-requires-clause-names : goal.change-requires-clause-names
+change-requires-clause-names g c =
+    let e = read_edit c.args.edit in
+    let holds : HoldsDependencies c.in_ok-graph.graph g.S.Subject.subject.dependencies (edited (library_after c.self.inside.history.entries) e) = rw c.self.view_is c.in_ok-graph.ensures in
+    names_edited (library_after c.self.inside.history.entries) c.self.inside.stages e (library_ascending (log_of c.self.inside.history.entries)) c.self.invariant.staged.names ∙ sym holds.names
 
 pub returns-in-Err-clause-answer : goal.returns-in-Err-clause-answer
 returns-in-Err-clause-answer g c =
@@ -43,13 +56,16 @@ invariant_of-self-2 g c =
     let made : append_answer c.self.inside.log e ≡ Made c.in-Made.version = c.in_ok-answer.ensures ∙ ap read_edited c.in-Made.is in
     let reply : append_answer (log_of c.self.inside.history.entries) e ≡ Made c.in-Made.version = ap (λ log. append_answer log e) (sym c.self.invariant.logged) ∙ made in
     let v : c.in-Made.version ≡ suc (version_after c.self.inside.history.entries) = made_version (log_of c.self.inside.history.entries) e c.in-Made.version reply in
-    let stages = subst (λ (z : History). AreStages g.S.Subject.subject g.S.Subject.meaning z c.in_ok-stages.stages)
-    (λ i. c.self.inside.history.entries ++ entry (sym c.requires i) (sym v i) (EditMade e) ∷ []) (rw c.self.view_is c.in_ok-stages.ensures) in
+    let lawful = (g.met.S.Subject g.world.𝓛 g.world.𝓜 g.world.𝓡 ((λ s x. x), (λ x. x), (λ x. x), λ x. x)).lawful in
+    let next = changed_staged g.S.Subject.subject g.S.Subject.meaning c.self.inside.history.entries c.self.invariant.legal lawful.reach c.self.inside.stages c.self.invariant.staged e c.in_ok-anew.anew (rw c.self.view_is c.in_ok-anew.ensures) in
+    let stages = subst (λ (z : History). AreStages g.S.Subject.subject g.S.Subject.meaning z c.change.new.stages)
+    (λ i. c.self.inside.history.entries ++ entry (sym c.requires i) (sym v i) (EditMade e) ∷ [])
+    (subst (AreStages g.S.Subject.subject g.S.Subject.meaning (after_edit_of c.self.inside.history.entries e)) (sym c.in-Ok.ensures.stages) next) in
     let holds : HoldsDependencies c.in_ok-graph.graph g.S.Subject.subject.dependencies (edited (library_after c.self.inside.history.entries) e) = rw c.self.view_is c.in_ok-graph.ensures in
     let few = c.if-self-ge-MOST.false in
     let less = c.if-self-ge-MOST-2.false in
     rw (c.noted-self-inside.ensures, c.in_ok-event.ensures)
-    (kept_edit g.S.Subject.subject g.S.Subject.meaning c.self.inside.history.entries c.self.inside.log c.self.inside.graph c.self.inside.stages c.self.inside.closed c.self.inside.opened c.self.inside.entries c.self.inside.installed c.self.invariant e c.args.pass c.in-Made.version c.in-Made.version c.append.new.self c.in_ok-graph.graph c.in_ok-stages.stages c.requires reply v
+    (kept_edit g.S.Subject.subject g.S.Subject.meaning c.self.inside.history.entries c.self.inside.log c.self.inside.graph c.self.inside.stages c.self.inside.closed c.self.inside.opened c.self.inside.entries c.self.inside.installed c.self.invariant e c.args.pass c.in-Made.version c.in-Made.version c.change.new.log c.in_ok-graph.graph c.change.new.stages c.requires reply v
     (c.in-Ok.ensures.log ∙ appended_made c.self.inside.log e c.in-Made.version made) holds stages (omega (arith, few)) (omega (arith, less)))
 
 pub returns-clause-history : goal.returns-clause-history

@@ -1,0 +1,14 @@
+use Rattle.std.proofs.Common.{◌≡◌, ℕ, List, ◌++◌, length, take, arith, ap, ◌∙◌}
+use Rattle.std.specs.Str.{is_utf8}
+use Rattle.std.proofs.lemmas.List.{take_at}
+use Rattle.std.proofs.lemmas.Str.{is_utf8-from_IsUtf8}
+use Rattle.base_types.proofs.short.Short.new.Goals as goal
+
+-- what is written before the zeros is the text
+front : (text written zeros : List ℕ) → written ≡ text → take (length text) (written ++ zeros) ≡ text
+front text written zeros e = take_at written zeros (length text) (ap length e) ∙ e
+
+pub invariant_of-result : goal.invariant_of-result
+invariant_of-result c =
+    let e = front c.args.text.now c.copy_from_slice.new.self _ (c.copy_from_slice.ensures.after ∙ c.as_bytes.ensures.value) in
+    (omega arith, ap is_utf8 e ∙ is_utf8-from_IsUtf8 c.args.text.now c.utf8.text)

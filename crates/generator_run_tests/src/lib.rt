@@ -1,5 +1,0 @@
-//! Whole runs of `gen`.
-#![tactic(auto)]
-
-#[cfg(test)]
-mod tests;

@@ -1,0 +1,152 @@
+-- Edits after which no module is ungrounded.
+use Rattle.std.proofs.Common.{◌≡◌, ℕ, suc, ◌<◌, ◌≤◌, true, false, not, List, [], ◌∷◌, length, slice_get, None, Some, cond, is_some, unwrap_or, ◌&&◌, ◌⊎◌, inl, ⊎_elim, refl, sym, ap, ◌∙◌, subst, true≢false, arith}
+use Rattle.std.proofs.lemmas.List.{length-map}
+use Rattle.std.proofs.lemmas.Option.{same_Some}
+use Rattle.std.proofs.lemmas.Bool.{false_from_ne_true}
+use Rattle.name_meaning.specs.Names.{Name, Text, same_name, is_among}
+use Rattle.name_meaning.specs.Rows.{Rows, row_names, IsTable}
+use Rattle.name_laws.proofs.Order.{among_member, member_among, same_sound, same_itself}
+use Rattle.name_laws.proofs.Rows.{place_of_member, row_at}
+use Rattle.list_laws.proofs.Members.{Member, any_not}
+use Rattle.list_laws.proofs.Places.{place_within}
+use Rattle.log_meaning.specs.Log.{Edit, Put, Drop, Library, edited, edited_name, text_of, is_present}
+use Rattle.log_laws.specs.LogLaws.{left_by}
+use Rattle.log_laws.proofs.Libraries.{text_edited}
+use Rattle.walk_meaning.specs.Walks.{Dependencies, direct, is_grounded, is_ungrounded, ungrounded_names}
+use Rattle.walk_meaning.specs.Reach.{reach}
+use Rattle.walk_meaning.specs.Graphs.{Graph, HoldsDependencies, graph_reach}
+use Rattle.walk_laws.proofs.Agreement.{direct_same}
+use Rattle.walk_laws.proofs.Graphs.{left_ungrounded, graph_reaches}
+use Rattle.walk_laws.proofs.Reaching.{reach_closed, reach_first}
+use Rattle.walk_laws.proofs.Walking.{depends_present, present_in, ungrounded_dependency}
+use Rattle.module_graph.specs.Rings.{is_needed_by, reaches_itself}
+use Rattle.walk_meaning.specs.Subject.{Subject}
+use Rattle.board_meaning.specs.Events.{History, library_after}
+use Rattle.board_meaning.specs.Legal.{IsLegal}
+use Rattle.board_laws.proofs.Standings.{standing_grounded}
+use Rattle.verdict_board.specs.declared.stage.Stage.{Stage}
+use Rattle.verdict_board.specs.declared.stage.Stage.TheVariants.{Waiting, Claimed, Standing, Cyclic}
+use Rattle.verdict_board.specs.Stages.{is_cyclic, IsStage, AreStages}
+use Rattle.verdict_board.proofs.Currents.{current_grounded}
+use Rattle.verdict_board.proofs.EditSteps.{ungrounded_present}
+use Rattle.verdict_board.proofs.Ready.{named_at}
+use Rattle.verdict_board.proofs.Reports.{grounded_not}
+
+-- ---- no module was ungrounded before the edit
+
+module _ (D : Dependencies) (L : Library) (edit : Edit) (sound : (x : Name) → is_ungrounded D L x ≡ false) where
+  abbrev after : Library
+  after = edited L edit
+
+  abbrev n : Name
+  n = edited_name edit
+
+  text_left : (x : Name) → same_name x n ≡ false → text_of after x ≡ text_of L x
+  text_left x h = text_edited L edit x ∙ ap (λ b. cond b (left_by edit) (text_of L x)) h
+
+  not_grounded : (x : Name) → is_present L x ≡ true → is_grounded D L x ≡ false → ⊥
+  not_grounded x p g = true≢false (sym (λ i. p i && not (sound x i)) ∙ g)
+
+  -- names other than the edited one, each present after the edit, of which each has one as a dependency
+  none_walk : (P : Name → Type 0) → ((x : Name) → P x → (same_name x n ≡ false) × (is_present after x ≡ true) × ((d : Name) × Member d (direct D after x) × P d)) → (x : Name) → P x → ⊥
+  none_walk P h x p = not_grounded x (before x p).0 (left_ungrounded D L P before x p)
+    where
+      before : (x : Name) → P x → (is_present L x ≡ true) × ((d : Name) × Member d (direct D L x) × P d)
+      before x p =
+          let q = h x p in
+          let text = text_left x q.0 in
+          (ap is_some (sym text) ∙ q.1, (q.2.0, subst (Member q.2.0) (direct_same D after L x text) q.2.1, q.2.2))
+
+  next_on : (x : Name) → is_ungrounded D after x ≡ true → (d : Name) × Member d (direct D after x) × (is_ungrounded D after d ≡ true)
+  next_on x u = let q = ungrounded_dependency D after x u in (q.0, among_member (direct D after x) q.0 q.1, q.2)
+
+  -- where the edited module is not ungrounded, none is
+  pub none_but_edited : is_ungrounded D after n ≡ false → (x : Name) → is_ungrounded D after x ≡ false
+  none_but_edited h x =
+      false_from_ne_true (is_ungrounded D after x) (none_walk (λ z. is_ungrounded D after z ≡ true)
+      (λ z u. (false_from_ne_true (same_name z n) (λ s. true≢false (sym u ∙ ap (is_ungrounded D after) (same_sound z n s) ∙ h)), ungrounded_present D after z u, next_on z u)) x)
+
+  -- the edited module is not a direct dependency of one that it reaches
+  abbrev IsApart : Type 0
+  IsApart = (x : Name) → Member x (reach D after n) → is_among (direct D after x) n ≡ false
+
+  apart_next : IsApart → (x d : Name) → Member x (reach D after n) → Member d (direct D after x) → same_name d n ≡ false
+  apart_next apart x d m e =
+      false_from_ne_true (same_name d n) (λ s. true≢false (sym (member_among (direct D after x) n (subst (λ z. Member z (direct D after x)) (same_sound d n s) e)) ∙ apart x m))
+
+  pub none_apart : IsApart → (x : Name) → is_ungrounded D after x ≡ false
+  none_apart apart = none_but_edited (false_from_ne_true (is_ungrounded D after n) (λ u.
+      let q = next_on n u in
+      let first = reach_first D after n in
+      none_walk (λ z. (is_ungrounded D after z ≡ true) × Member z (reach D after n) × (same_name z n ≡ false)) step q.0
+      (q.2, reach_closed D after n n q.0 first q.1, apart_next apart n q.0 first q.1)))
+    where
+      step : (z : Name) → (is_ungrounded D after z ≡ true) × Member z (reach D after n) × (same_name z n ≡ false)
+          → (same_name z n ≡ false) × (is_present after z ≡ true) × ((d : Name) × Member d (direct D after z) × ((is_ungrounded D after d ≡ true) × Member d (reach D after n) × (same_name d n ≡ false)))
+      step z p =
+          let q = next_on z p.0 in
+          (p.2, ungrounded_present D after z p.0, (q.0, q.1, (q.2, reach_closed D after n z q.0 p.1 q.1, apart_next apart z q.0 p.1 q.1)))
+
+-- a dropped module is absent
+pub none_dropped : (D : Dependencies) (L : Library) (n : Name) → ((x : Name) → is_ungrounded D L x ≡ false) → (x : Name) → is_ungrounded D (edited L (Drop n)) x ≡ false
+none_dropped D L n sound =
+    none_but_edited D L (Drop n) sound (false_from_ne_true (is_ungrounded D (edited L (Drop n)) n) (λ u.
+    true≢false (sym (ungrounded_present D (edited L (Drop n)) n u) ∙ ap is_some (text_edited L (Drop n) n ∙ ap (λ b. cond b None (text_of L n)) (same_itself n)))))
+
+-- no module is ungrounded after a text is put under a name that does not reach itself then
+pub none_put : (D : Dependencies) (L : Library) (n : Name) (t : Text) (graph : Graph) → HoldsDependencies graph D (edited L (Put n t)) → ((x : Name) → is_ungrounded D L x ≡ false)
+    → reaches_itself graph n ≡ false → (x : Name) → is_ungrounded D (edited L (Put n t)) x ≡ false
+none_put D L n t graph holds sound h = none_apart D L (Put n t) sound apart
+  where
+    apart : (x : Name) → Member x (reach D (edited L (Put n t)) n) → is_among (direct D (edited L (Put n t)) x) n ≡ false
+    apart x m =
+        let reached = subst (Member x) (sym (graph_reaches graph D (edited L (Put n t)) holds n)) m in
+        false_from_ne_true (is_among (direct D (edited L (Put n t)) x) n) (λ a.
+        let row = holds.rows x (depends_present D (edited L (Put n t)) x n (among_member (direct D (edited L (Put n t)) x) n a)) in
+        true≢false (sym a ∙ sym (ap (λ names. is_among (unwrap_or names []) n) row) ∙ any_not (is_needed_by graph n) (graph_reach graph n) x h reached))
+
+-- where none is ungrounded, none is listed
+pub none_listed : (D : Dependencies) (L : Library) → ((x : Name) → is_ungrounded D L x ≡ false) → [] ≡ ungrounded_names D L
+unfolding is_ungrounded
+none_listed D L sound = by (ungrounded_names D L) sound
+  where
+    by : (names : List Name) → ((x : Name) → is_among names x ≡ false) → [] ≡ names
+    by [] h = refl
+    by (x ∷ names) h = absurd (true≢false (sym (member_among (x ∷ names) x (inl refl)) ∙ h x))
+
+-- ---- the stages tell whether a module is ungrounded
+
+module _ {Answer Meaning : Type 0} (subject : Subject Meaning) (meaning : Answer → Meaning) (H : History) (l : IsLegal subject.dependencies H) (stages : Rows (Stage Answer)) (k : AreStages subject meaning H stages) where
+  abbrev D : Dependencies
+  D = subject.dependencies
+
+  abbrev L : Library
+  L = library_after H
+
+  -- no module of the first places is ungrounded
+  abbrev pub NoneUngrounded : ℕ → Type 0
+  NoneUngrounded i = (j : ℕ) (n : Name) → j < i → slice_get (row_names stages) j ≡ Some n → is_ungrounded D L n ≡ false
+
+  not_cyclic : (n : Name) (stage : Stage Answer) → IsStage subject meaning H n stage → is_cyclic stage ≡ false → is_ungrounded D L n ≡ false
+  not_cyclic n Waiting s h = grounded_not D L n s.grounded
+  not_cyclic n (Claimed c inputs) s h = grounded_not D L n (current_grounded D H l n c s.current)
+  not_cyclic n (Standing a inputs) s h = grounded_not D L n (standing_grounded D H l n s.standing)
+  not_cyclic n (Cyclic a) s h = absurd (true≢false h)
+
+  pub ungrounded_next : (i : ℕ) (n : Name) (stage : Stage Answer) → IsTable stages → slice_get stages i ≡ Some (n, stage) → is_cyclic stage ≡ false → NoneUngrounded i → NoneUngrounded (suc i)
+  ungrounded_next i n stage t h c f j m w g =
+      ⊎_elim (λ less. f j m less g)
+      (λ same. let e : n ≡ m = same_Some _ _ (sym (named_at stages i n stage h) ∙ ap (slice_get (row_names stages)) (sym same) ∙ g) in
+      subst (λ z. is_ungrounded D L z ≡ false) e (not_cyclic n stage (k.staged n stage (row_at n stage stages i t h)) c))
+      (order j i w)
+    where
+      order : (a b : ℕ) → a < suc b → (a < b) ⊎ (a ≡ b)
+      order a b w = grind arith
+
+  pub none_ungrounded : (i : ℕ) → length stages ≤ i → NoneUngrounded i → (n : Name) → is_ungrounded D L n ≡ false
+  none_ungrounded i past f n =
+      false_from_ne_true (is_ungrounded D L n) (λ u.
+      let q = place_of_member (row_names stages) n (subst (Member n) (sym k.names) (present_in D L n (ungrounded_present D L n u))) in
+      let w = place_within (row_names stages) q.0 n q.1 in
+      let e = length-map stages (λ (r : Name × Stage Answer). r.0) in
+      true≢false (sym u ∙ f q.0 n (omega (arith, w, e, past)) q.1))
