@@ -1,5 +1,5 @@
 -- Which verdicts stand after one more entry of a legal history.
-use Rattle.std.proofs.Common.{◌≡◌, ℕ, suc, ◌<◌, Bool, true, false, not, [], ◌∷◌, ◌++◌, length, take, drop, Option, Some, None, option_to_list, is_some, ◌||◌, ◌&&◌, inl, inr, ⊎_elim, refl, sym, ap, ◌∙◌, subst, true≢false, arith, append-nil}
+use Rattle.std.proofs.Common.{◌≡◌, ℕ, suc, ◌+◌, ◌<◌, Bool, true, false, not, [], ◌∷◌, ◌++◌, length, take, drop, Option, Some, None, option_to_list, is_some, ◌||◌, ◌&&◌, inl, inr, ⊎_elim, refl, sym, ap, ◌∙◌, subst, true≢false, arith, append-nil, length-append}
 use Rattle.std.specs.Cmp.{both_ways}
 use Rattle.std.proofs.lemmas.Bool.{or_cases, or_parts, or_from, or_left, or_right, and_parts, and_from, not_from_false, false_from_ne_true}
 use Rattle.name_meaning.specs.Names.{Name, same_name, is_among}
@@ -10,7 +10,7 @@ use Rattle.list_laws.proofs.Members.{Member, in_append, append_left, append_righ
 use Rattle.name_laws.proofs.Order.{among_member, member_among, same_sound, same_itself}
 use Rattle.board_meaning.specs.Events.{Entry, History, edit_in, library_after}
 use Rattle.board_meaning.specs.Claims.{claim_at, is_open, is_ended, is_claim_of}
-use Rattle.board_meaning.specs.Standing.{installed_claim, installed_claims, is_edit_of, is_edited, is_edited_after, is_unedited, stands}
+use Rattle.board_meaning.specs.Standing.{installed_claim, installed_claims, is_edit_of, is_edited, is_edited_after, is_unedited, stands, installs}
 use Rattle.board_meaning.specs.Machine.{IsInstalled, install_reply}
 use Rattle.board_meaning.specs.Legal.{IsLegal}
 use Rattle.list_laws.proofs.Places.{take_front, drop_front}
@@ -26,6 +26,9 @@ edited_last e n = or-false (is_edit_of n (edit_in e))
 pub installed_last : (H : History) (e : Entry) → installed_claims (H ++ e ∷ []) ≡ installed_claims H ++ option_to_list (installed_claim e.event)
 unfolding installed_claims
 installed_last H e = filter_map_last (λ (entry : Entry). installed_claim entry.event) H e
+
+pub installs_last : (H : History) (e : Entry) → installs (H ++ e ∷ []) ≡ installs H + length (option_to_list (installed_claim e.event))
+installs_last H e = ap length (installed_last H e) ∙ length-append (installed_claims H) (option_to_list (installed_claim e.event))
 
 module _ (dependencies : Dependencies) (H : History) (e : Entry) where
   -- ---- a claim of the history, seen after one more entry

@@ -218,9 +218,10 @@ not_yet_ended dependencies H l = any_none (λ (entry : Entry). ends_claim (lengt
         let t = length_take H p.0 (omega (arith, w)) in
         omega (arith, g, t, w)
 
-job_name : {Answer : Type 0} (subject : Subject Answer) (H : History) (n : Name) (job : Job Answer) → job_after subject H n ≡ Some job → job.claim ≡ length H
+-- the claim of a job is the place at which it is made
+pub claim_is : {Answer : Type 0} (subject : Subject Answer) (H : History) (n : Name) (job : Job Answer) → job_after subject H n ≡ Some job → job.claim ≡ length H
 unfolding job_after
-job_name {Answer = Answer} subject H n job h = by (text_of (library_after H) n) h
+claim_is {Answer = Answer} subject H n job h = by (text_of (library_after H) n) h
   where
     by : (o : Option Text) → option_map (λ (text : Text). record { claim = length H; name = n; text = text; inputs = inputs_after subject.dependencies H n; answers = answers_of subject (library_after H) n }) o ≡ Some job → job.claim ≡ length H
     by None e = absurd (cc)
@@ -238,7 +239,7 @@ job_stands {Answer = Answer} subject H pass job l h = by (least_ready subject.de
     by None e = absurd (cc)
     by (Some n) e = subst (λ (c : ℕ). (option_and_then (job_after subject (take c (H ++ entry_of H pass (Claim n) ∷ []))) (claim_at (H ++ entry_of H pass (Claim n) ∷ []) c) ≡ Some job)
         × (((is_some (claim_at (H ++ entry_of H pass (Claim n) ∷ []) c) && not (is_ended (H ++ entry_of H pass (Claim n) ∷ []) c)) && is_by pass (slice_get (H ++ entry_of H pass (Claim n) ∷ []) c)) ≡ true))
-        (sym (job_name subject H n job e)) (
+        (sym (claim_is subject H n job e)) (
           ap₂ (λ B o. option_and_then (job_after subject B) o) (take_front H (entry_of H pass (Claim n) ∷ []) (length H) (omega arith) ∙ take_length H) claimed ∙ e,
           and_from (is_some (claim_at (H ++ entry_of H pass (Claim n) ∷ []) (length H)) && not (is_ended (H ++ entry_of H pass (Claim n) ∷ []) (length H))) (is_by pass (slice_get (H ++ entry_of H pass (Claim n) ∷ []) (length H)))
               (and_from (is_some (claim_at (H ++ entry_of H pass (Claim n) ∷ []) (length H))) (not (is_ended (H ++ entry_of H pass (Claim n) ∷ []) (length H))) (ap is_some claimed)

@@ -1,18 +1,18 @@
 -- Jobs that a pass may end: the job that a claim hands out, and such a job at the point of a later call.
-use Rattle.std.proofs.Common.{◌≡◌, ℕ, ◌++◌, take, length, Option, Some, None, option_map, option_and_then, option_to_list, refl, sym, ap, ◌∙◌, subst, arith}
-use Rattle.name_meaning.specs.Names.{Name, Text}
-use Rattle.log_meaning.specs.Log.{Library, text_of}
-use Rattle.walk_meaning.specs.Subject.{Subject, answers_of}
+use Rattle.std.proofs.Common.{◌≡◌, ℕ, ◌++◌, take, length, Option, Some, None, option_and_then, option_to_list, refl, sym, ap, ◌∙◌, subst, arith}
+use Rattle.name_meaning.specs.Names.{Name}
+use Rattle.log_meaning.specs.Log.{Library}
+use Rattle.walk_meaning.specs.Subject.{Subject}
 use Rattle.list_laws.proofs.Places.{take_front, take_length}
 use Rattle.turn_meaning.specs.Passes.{Pass, Takes}
 use Rattle.board_meaning.specs.Events.{Entry, History, library_after}
-use Rattle.board_meaning.specs.Claims.{claim_at, inputs_after}
+use Rattle.board_meaning.specs.Claims.{claim_at}
 use Rattle.board_meaning.specs.Ready.{least_ready}
 use Rattle.board_meaning.specs.Machine.{Job, job_after, job_of, claim_reply, ClaimCall, InstallCall, entry_by, after_call}
 use Rattle.board_meaning.specs.Legal.{IsLegal}
 use Rattle.board_meaning.specs.Points.{number_of, IsPoint}
 use Rattle.board_machine_laws.proofs.Claiming.{claim_within}
-use Rattle.board_laws.proofs.Pointing.{job_may_end, point_keeps_job, point_ends_no_claim}
+use Rattle.board_laws.proofs.Pointing.{claim_is, job_may_end, point_keeps_job, point_ends_no_claim}
 use Rattle.module_graph.specs.Subjects.{IsGiven}
 use Rattle.verdict_board.proofs.Jobs.{job_given}
 use Rattle.board_seats.specs.Seats.{MayEnd}
@@ -43,16 +43,6 @@ at_point subject seen pass point job p m =
     record { claimed = (point_keeps_job subject seen pass point job.claim c.0 p c.1).0 ∙ m.claimed; installs = ends.0 m.installs; releases = ends.1 m.releases }
 
 -- ---- what a claim hands out
-
-claim_is : {Meaning : Type 0} (subject : Subject Meaning) (H : History) (name : Name) (job : Job Meaning) → job_after subject H name ≡ Some job → job.claim ≡ length H
-unfolding job_after
-claim_is {Meaning} subject H name job h = by (text_of (library_after H) name) h
-  where
-    by : (o : Option Text) → option_map (λ (text : Text). record { claim = length H; name = name; text = text; inputs = inputs_after subject.dependencies H name; answers = answers_of subject (library_after H) name }) o ≡ Some job → job.claim ≡ length H
-    by None e = absurd (cc)
-    by (Some text) e =
-        let q : record { claim = length H; name = name; text = text; inputs = inputs_after subject.dependencies H name; answers = answers_of subject (library_after H) name } ≡ job = cc in
-        ap (λ (z : Job Meaning). z.claim) (sym q)
 
 claim_stands_last : {Meaning : Type 0} (subject : Subject Meaning) (H : History) (job : Job Meaning) → claim_reply subject H ≡ Some job → job.claim ≡ length H
 claim_stands_last {Meaning} subject H job h = by (least_ready subject.dependencies H) h

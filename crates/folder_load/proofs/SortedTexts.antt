@@ -1,41 +1,23 @@
 -- Texts that are sorted, seen as their bytes.
-use Rattle.std.proofs.Common.{◌≡◌, ◌≢◌, suc, ◌+◌, ◌<◌, Bool, true, false, cond, List, [], ◌∷◌, length, map, filter, get_or, AllPairs, IsPermutation, refl, sym, ap, ◌∙◌, subst, arith}
-use Rattle.std.specs.List.{list_all, IsDistinct}
+use Rattle.std.proofs.Common.{◌≡◌, ◌≢◌, ◌+◌, ◌<◌, Bool, true, false, cond, List, [], ◌∷◌, length, map, filter, AllPairs, IsPermutation, refl, sym, ap, ◌∙◌, subst, arith}
 use Rattle.std.specs.List.Sorted.{IsSorted}
 use Rattle.std.specs.Ordering.{nat_cmp, is_lt}
 use Rattle.std.specs.Cmp.Lexicographic.{slice_cmp}
 use Rattle.std.specs.String.{string_bytes, string_cmp}
 use Rattle.std.specs.declared.string.String.{String}
-use Rattle.std.proofs.lemmas.Bool.{and_from, and_parts}
 use Rattle.std.proofs.lemmas.List.{get_or-map, length-map}
 use Rattle.std.proofs.lemmas.List.Kept.{AllPairs-filter}
 use Rattle.std.proofs.lemmas.List.Sorted.{IsPermutation-map, list_any-IsPermutation}
 use Rattle.std.proofs.lemmas.Map.Keys.{IsDistinct-IsPermutation}
 use Rattle.std.proofs.lemmas.Map.Made.{IsDistinct-from_AllPairs}
 use Rattle.std.proofs.lemmas.Slice.Eq.{bytes_eq-Decides}
-use Rattle.name_meaning.specs.Names.{Name, same_name, comes_before, is_among, is_ascending}
+use Rattle.name_meaning.specs.Names.{Name, same_name, is_among}
 use Rattle.list_laws.proofs.Members.{Member, in_filter, filter_in}
 use Rattle.name_laws.proofs.Contained.{same_other_way}
-use Rattle.name_laws.proofs.Order.{among_member, member_among, same_turned, before_turned, all_before_more}
+use Rattle.name_laws.proofs.Sorted.{sorted_ascending}
+use Rattle.name_laws.proofs.Order.{among_member, member_among}
 use Rattle.folder_load.specs.Loads.{is_module_name, AreInOrder}
 use Rattle.folder_load.proofs.Contained.{member_contains, contains_member}
-
--- ---- distinct names that are sorted stand in byte order
-
-sorted_tail : (x : Name) (xs : List Name) → IsSorted (slice_cmp nat_cmp) (x ∷ xs) → IsSorted (slice_cmp nat_cmp) xs
-sorted_tail x xs h k d low high =
-    let e : suc k + 1 ≡ suc (k + 1) = omega arith in
-    subst (λ j. is_lt (slice_cmp nat_cmp (get_or (x ∷ xs) j d) (get_or xs k d)) ≡ false) e (h (suc k) d (omega arith) (omega (arith, high)))
-
-sorted_ascending : (xs : List Name) → IsSorted (slice_cmp nat_cmp) xs → IsDistinct same_name xs → is_ascending xs ≡ true
-unfolding is_ascending IsDistinct
-sorted_ascending [] s d = refl
-sorted_ascending (x ∷ []) s d = refl
-sorted_ascending (x ∷ y ∷ xs) s d =
-    let tail = sorted_ascending (y ∷ xs) (sorted_tail x (y ∷ xs) s) d.1 in
-    let b : comes_before x y ≡ true = before_turned y x (same_turned x y d.0.0) (s 0 x (omega arith) (omega arith)) in
-    let p = and_parts (list_all (comes_before y) xs) (is_ascending xs) tail in
-    and_from (list_all (comes_before x) (y ∷ xs)) (is_ascending (y ∷ xs)) (and_from (comes_before x y) (list_all (comes_before x) xs) b (all_before_more x y xs b p.0)) tail
 
 -- ---- texts
 

@@ -1,6 +1,6 @@
 -- Substitution at a head with a spine, read off values.
 use Rattle.std.proofs.Common.{◌≡◌, ℕ, suc, ◌+◌, ◌<◌, ◌≤◌, List, [], ◌∷◌, ◌++◌, map, take, length, zero, slice_index_or, reverse, refl, ap, sym, subst, ◌∙◌, arith}
-use Rattle.std.proofs.lemmas.List.{reverse-append, reverse-reverse}
+use Rattle.std.proofs.lemmas.List.{reverse-reverse}
 use Rattle.lf_meaning.specs.Terms as terms
 use Rattle.lf_meaning.specs.Raising.{raise}
 use Rattle.lf_meaning.specs.Substitution.{substitute, substitute_family, reduce, app}
@@ -14,7 +14,7 @@ use Rattle.term_trees.specs.declared.obj.Obj.{Obj}
 use Rattle.term_trees.specs.declared.obj.Obj.TheVariants as objs
 use Rattle.term_trees.specs.declared.obj.Spine.{Spine}
 use Rattle.term_trees.specs.declared.fam.Fam.TheVariants as fams
-use Rattle.term_trees.proofs.ReadingEquations.{read_object_at, read_family_at}
+use Rattle.term_trees.proofs.ReadingEquations.{read_object_at, read_family_at, read_objects_joined}
 use Rattle.hereditary_subst.proofs.Costs.{object_cost, atomic_cost, spine_cost, reduce_cost, costs, object_cost_at, atomic_cost_met}
 
 -- what a head with a spine stands for, when the head is known
@@ -63,10 +63,6 @@ module _ (v : terms.Object) (t : terms.Simple) (n : ℕ) (s r : Spine) (argument
       ∙ ap terms.AtFamily (sym (map_applied (λ k. substitute v t k) n (terms.FamilyCon (read_constant q)) (read_arguments s)))
       ∙ sym (ap (substitute_family v t n) (read_family_at q s))
 
-map-append : (xs ys : List Obj) → read_objects (xs ++ ys) ≡ read_objects xs ++ read_objects ys
-map-append [] ys = refl
-map-append (x ∷ xs) ys = ap (λ (zs : List terms.Object). read_object x ∷ zs) (map-append xs ys)
-
 app_atomic : (t : terms.Simple) (r : terms.Atomic) (m : terms.Object) → (app t (terms.At r) m).value ≡ terms.At (terms.App r m)
 app_atomic (terms.Base c) r m = refl
 app_atomic (terms.Arrow s t) r m = refl
@@ -77,7 +73,7 @@ pub takes_at : (t : terms.Simple) (value : Obj) (h : Head) (s r : Spine) (argume
 takes_at t value h s r argument made pushed =
     read_object_at h r
     ∙ ap (λ (items : List Obj). terms.At (terms.apply_all (read_head h) (read_objects items))) pushed
-    ∙ ap (λ (ms : List terms.Object). terms.At (terms.apply_all (read_head h) ms)) (map-append (arguments_of s) (argument ∷ []))
+    ∙ ap (λ (ms : List terms.Object). terms.At (terms.apply_all (read_head h) ms)) (read_objects_joined (arguments_of s) (argument ∷ []))
     ∙ ap terms.At (apply_all_appended (read_head h) (read_arguments s) (read_object argument ∷ []))
     ∙ sym (app_atomic t (terms.apply_all (read_head h) (read_arguments s)) (read_object argument))
     ∙ sym (ap (λ (m : terms.Object). (app t m (read_object argument)).value) (ap read_object made ∙ read_object_at h s))
@@ -124,7 +120,7 @@ pub next_argument : (f : terms.Object → terms.Object) (done items : List Obj) 
     → read_objects done ≡ map f (take i (read_objects items)) → read_object m ≡ f (read_object (slice_index_or items i other))
     → read_objects (done ++ m ∷ []) ≡ map f (take (i + 1) (read_objects items))
 next_argument f done items m other i inside so_far new =
-    map-append done (m ∷ []) ∙ ap (λ (ms : List terms.Object). ms ++ read_object m ∷ []) so_far
+    read_objects_joined done (m ∷ []) ∙ ap (λ (ms : List terms.Object). ms ++ read_object m ∷ []) so_far
     ∙ ap (λ (x : terms.Object). map f (take i (read_objects items)) ++ x ∷ []) new ∙ taken f items other i inside
     ∙ (let next : suc i ≡ i + 1 = omega arith in ap (λ (k : ℕ). map f (take k (read_objects items))) next)
 

@@ -18,7 +18,8 @@ use Rattle.board_laws.proofs.Legality.{legal_front, legal_last}
 use Rattle.board_laws.proofs.Standings.{installed_is, standing_grounded}
 use Rattle.board_laws.proofs.Told.{edit_leaves_told}
 use Rattle.install_laws.specs.InstallLaws.{ApartInstallsStand, AreApart, IsApart}
-use Rattle.install_laws.proofs.Installs.{edit_made, installs_last}
+use Rattle.board_laws.proofs.Following.{installs_last}
+use Rattle.install_laws.proofs.Installs.{edit_made}
 
 -- A name that fails a test does not count among those that pass it.
 filter_with : (test : Name → Bool) (name : Name) (names : List Name) → test name ≡ false → filter test (with_name name names) ≡ filter test names

@@ -1,5 +1,5 @@
 -- How many verdicts are installed.
-use Rattle.std.proofs.Common.{◌≡◌, ℕ, suc, ◌+◌, Bool, true, false, List, [], ◌∷◌, ◌++◌, length, filter, filter_map, cond, Option, Some, None, is_some, option_to_list, refl, sym, ap, ◌∙◌, subst, true≢false, arith, append_assoc, append-nil, length-append}
+use Rattle.std.proofs.Common.{◌≡◌, ℕ, suc, ◌+◌, Bool, true, false, List, [], ◌∷◌, ◌++◌, length, filter, filter_map, cond, Option, Some, None, is_some, option_to_list, refl, sym, ap, ◌∙◌, subst, true≢false, arith, append_assoc, append-nil}
 use Rattle.std.specs.List.{cons_option, list_any}
 use Rattle.name_meaning.specs.Names.{Name}
 use Rattle.log_meaning.specs.Log.{Edit, edited_name, Log, names_of, library_of}
@@ -12,7 +12,7 @@ use Rattle.board_meaning.specs.Legal.{IsLegal}
 use Rattle.board_machine_laws.proofs.Histories.{log_none, log_some, log_append}
 use Rattle.board_laws.proofs.Legality.{legal_front, legal_last}
 use Rattle.board_laws.proofs.Standings.{installed_is}
-use Rattle.board_laws.proofs.Following.{installed_last}
+use Rattle.board_laws.proofs.Following.{installs_last}
 use Rattle.board_laws.proofs.Told.{edits_were_made}
 use Rattle.board_laws.proofs.Counting.{install_raises_count, others_keep_count}
 use Rattle.run_meaning.specs.Generator.{grounded_names, reaching_count, asked_by, asked_after}
@@ -26,9 +26,6 @@ edit_made (Install c) edit h = absurd (cc)
 edit_made (Stale c n k) edit h = absurd (cc)
 edit_made (Release c) edit h = absurd (cc)
 edit_made Close edit h = absurd (cc)
-
-pub installs_last : (H : History) (e : Entry) → installs (H ++ e ∷ []) ≡ installs H + length (option_to_list (installed_claim e.event))
-installs_last H e = ap length (installed_last H e) ∙ length-append (installed_claims H) (option_to_list (installed_claim e.event))
 
 log_front : (e : Entry) (K : History) → log_of (e ∷ K) ≡ cons_option (edit_in e) (log_of K)
 unfolding log_of

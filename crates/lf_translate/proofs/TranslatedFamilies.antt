@@ -28,7 +28,7 @@ use Rattle.term_trees.specs.declared.kind.Kind as kind
 use Rattle.term_trees.specs.declared.kind.Kind.TheVariants as kinds
 use Rattle.term_trees.specs.declared.obj.Obj.{Obj}
 use Rattle.term_trees.specs.declared.obj.Spine.{Spine}
-use Rattle.term_trees.proofs.ReadingEquations.{read_family_pi, read_family_at, read_kind_ty, read_kind_pi}
+use Rattle.term_trees.proofs.ReadingEquations.{read_family_pi, read_family_at, read_kind_ty, read_kind_pi, read_objects_joined}
 use Rattle.lf_translate.specs.Spines.{unmapped_arguments}
 use Rattle.lf_translate.proofs.Faults.{first_none, first_grouped}
 
@@ -225,15 +225,11 @@ module _ (items : List Obj) (i : ℕ) (whole : AtomicFamily → Family) (n : ℕ
   unfolding head_takes_all
   filled_whole past p = sym (ap (λ xs. Taken n (read_family f) (read_kind k) (read_objects xs) p) (drop_all i items past)) ∙ so_far p
 
-map-append : (xs ys : List Obj) → read_objects (xs ++ ys) ≡ read_objects xs ++ read_objects ys
-map-append [] ys = refl
-map-append (x ∷ xs) ys = ap (λ (zs : List Object). read_object x ∷ zs) (map-append xs ys)
-
 -- An argument at the end of a spine.
 pub taken_at : (a : Fam) (q : QName) (s r : Spine) (m : Obj) → a ≡ fams.At q s → arguments_of r ≡ arguments_of s ++ m ∷ [] → read_family (fams.At q r) ≡ family_takes (read_family a) (read_object m)
 taken_at a q s r m is pushed =
     read_family_at q r
     ∙ ap (λ (items : List Obj). AtFamily (family_apply_all (FamilyCon (read_constant q)) (read_objects items))) pushed
-    ∙ ap (λ (ms : List Object). AtFamily (family_apply_all (FamilyCon (read_constant q)) ms)) (map-append (arguments_of s) (m ∷ []))
+    ∙ ap (λ (ms : List Object). AtFamily (family_apply_all (FamilyCon (read_constant q)) ms)) (read_objects_joined (arguments_of s) (m ∷ []))
     ∙ ap AtFamily (family_apply_all_appended (FamilyCon (read_constant q)) (read_arguments s) (read_object m ∷ []))
     ∙ sym (ap (λ b. family_takes b (read_object m)) (ap read_family is ∙ read_family_at q s))

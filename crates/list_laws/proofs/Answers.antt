@@ -1,6 +1,6 @@
 -- Answers taken apart, and put together.
-use Rattle.std.proofs.Common.{◌≡◌, Result, Ok, Err, refl, ap, ◌∙◌}
-use Rattle.std.specs.Result.{OnErr}
+use Rattle.std.proofs.Common.{◌≡◌, Result, Ok, Err, refl, sym, ap, ◌∙◌, true≢false}
+use Rattle.std.specs.Result.{IsOk, OnOk, OnErr}
 use Rattle.answer_meaning.specs.Answers.{◌>>=◌}
 
 pub record Came {E A B : Type 0} (first : Result A E) (next : A → Result B E) (value : B) : Type 0 where
@@ -14,6 +14,10 @@ came_by (Ok item) next value h = record { item = item; came = refl; goes = h }
 
 pub goes_by : {E A B : Type 0} (first : Result A E) (next : A → Result B E) (item : A) (value : B) → first ≡ Ok item → next item ≡ Ok value → first >>= next ≡ Ok value
 goes_by first next item value h g = ap (λ r. r >>= next) h ∙ g
+
+-- a whole that goes on with a value
+pub goes_on : {E A B : Type 0} (first : Result A E) (next : A → Result B E) (whole : Result B E) (value : A) → whole ≡ (first >>= next) → first ≡ Ok value → whole ≡ next value
+goes_on first next whole value e h = e ∙ ap (λ r. r >>= next) h
 
 abbrev Same : (A : Type 0) → A → A → Type 0
 Same A x y = x ≡ y
@@ -29,3 +33,8 @@ bind_assoc (Ok item) next last = refl
 pub on_err : {A E P : Type 0} (answer : Result A E) → P → OnErr answer P
 on_err (Ok item) p = tt
 on_err (Err fault) p = p
+
+-- what a call says of its Ok, where it is known to succeed
+pub at_ok : {E A : Type 0} (answer : Result A E) (P : Type 0) → IsOk answer → OnOk answer P → P
+at_ok (Ok item) P h p = p
+at_ok (Err fault) P h p = absurd (true≢false (sym h))

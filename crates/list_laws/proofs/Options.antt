@@ -17,6 +17,10 @@ pub mapped_by : {A B : Type 0} (f : A → B) (b : Bool) (x : A) (o : Option A) (
 mapped_by f true x o q e = refl
 mapped_by f false x o q e = e
 
+pub mapped_none : {A B : Type 0} (f : A → B) (o : Option A) → option_map f o ≡ None → o ≡ None
+mapped_none f None h = refl
+mapped_none f (Some x) h = absurd (cc)
+
 pub some_mapped : {A B : Type 0} (f : A → B) (o : Option A) → is_some (option_map f o) ≡ is_some o
 some_mapped f None = refl
 some_mapped f (Some x) = refl

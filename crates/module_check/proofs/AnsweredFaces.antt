@@ -5,6 +5,7 @@ use Rattle.std.proofs.Common.{append-nil, append_assoc, slice_get, take, ◌+◌
 use Rattle.std.proofs.lemmas.Option.{slice_get_cases}
 use Rattle.list_laws.proofs.Places.{take_more}
 use Rattle.list_laws.proofs.Members.{in_filter}
+use Rattle.list_laws.proofs.Options.{mapped_none}
 use Rattle.name_meaning.specs.Names.{Name, Text, same_name, is_among}
 use Rattle.name_meaning.specs.Rows.{Rows, row_of}
 use Rattle.name_laws.proofs.Order.{same_sound, same_itself, among_member}
@@ -89,10 +90,6 @@ found true true o value h = (refl, h)
 found true false o value h = absurd (cc)
 found false b o value h = absurd (cc)
 
-unread : {A B : Type 0} (read : A → B) (o : Option A) → option_map read o ≡ None → o ≡ None
-unread read None h = refl
-unread read (Some a) h = absurd (cc)
-
 module _ (library : Library) (name : Name) (text : Text) (rows : Rows (Option Verdict)) (given : IsGiven modules name text (read_answers read_verdict rows) library) where
   answered : (n : Name) → row_of (read_faces (present_rows rows)) n ≡ cond (is_among (others_reached library name) n) (present_answer modules library n) None
   unfolding answers_of others_reached
@@ -118,7 +115,7 @@ module _ (library : Library) (name : Name) (text : Text) (rows : Rows (Option Ve
   -- The module itself is not among them.
   pub itself_absent : row_of (present_rows rows) name ≡ None
   itself_absent =
-      unread read_verdict (row_of (present_rows rows) name)
+      mapped_none read_verdict (row_of (present_rows rows) name)
       (sym (row_mapped read_verdict (present_rows rows) name) ∙ answered name
       ∙ ap (λ b. cond b (present_answer modules library name) None) (apart (is_among (others_reached library name) name) refl))
 

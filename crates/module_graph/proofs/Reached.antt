@@ -1,20 +1,16 @@
 -- Names that are reached one after another, each with its direct dependencies behind it.
-use Rattle.std.proofs.Common.{◌≡◌, ℕ, zero, suc, ◌+◌, ◌<◌, ◌≤◌, Bool, true, false, cond, List, [], ◌∷◌, ◌++◌, length, filter, get_or, slice_get, unwrap_or, Option, Some, None, is_some, ◌⊎◌, inl, inr, ⊎_elim, refl, sym, ap, ◌∙◌, subst, true≢false, arith}
+use Rattle.std.proofs.Common.{◌≡◌, ℕ, zero, suc, ◌+◌, ◌<◌, ◌≤◌, Bool, true, false, cond, List, [], ◌∷◌, ◌++◌, length, filter, slice_get, unwrap_or, Option, Some, None, is_some, ◌⊎◌, inl, inr, ⊎_elim, refl, sym, ap, ◌∙◌, subst, true≢false, arith}
 use Rattle.std.specs.Option.{option_and_then}
 use Rattle.std.proofs.lemmas.Option.{slice_get-get_or}
-use Rattle.std.specs.List.{list_any, list_all, IsDistinct, AllByRecursion}
-use Rattle.std.specs.List.Sorted.{IsSorted}
-use Rattle.std.specs.Ordering.{nat_cmp, is_lt}
-use Rattle.std.specs.Cmp.Lexicographic.{slice_cmp}
-use Rattle.std.proofs.lemmas.Bool.{and_from, and_parts}
+use Rattle.std.specs.List.{list_any, IsDistinct, AllByRecursion}
 use Rattle.indexmap.specs.IndexSet.{insert_key, insert_all}
-use Rattle.name_meaning.specs.Names.{Name, same_name, comes_before, is_among, is_ascending}
+use Rattle.name_meaning.specs.Names.{Name, same_name, is_among, is_ascending}
 use Rattle.name_meaning.specs.Rows.{row_of}
 use Rattle.walk_meaning.specs.Reach.{reach}
 use Rattle.walk_meaning.specs.Graphs.{Graph, row_dependencies, row_library, graph_reach}
 use Rattle.list_laws.proofs.Members.{Member, place_member, in_append, append_left, append_right, filter_in}
 use Rattle.list_laws.proofs.Places.{get_front, place_within}
-use Rattle.name_laws.proofs.Order.{among_member, member_among, same_of, same_turned, before_turned, all_before_more}
+use Rattle.name_laws.proofs.Order.{among_member, member_among, same_of}
 use Rattle.walk_laws.proofs.Graphs.{row_direct}
 use Rattle.walk_laws.proofs.Reaching.{one_list, reach_closed, reach_first, reach_ascending, reach_least}
 
@@ -127,22 +123,6 @@ no_more (x ∷ xs) ys d h =
     let r = no_more xs (without x ys) d.1 (λ y m. without_keeps x y ys (h y (inr m)) (each_apart x y xs d.0 m)) in
     let f = without_member x ys (h x (inl refl)) in
     omega (arith, r, f)
-
--- distinct names that are sorted stand in byte order
-sorted_tail : (x : Name) (xs : List Name) → IsSorted (slice_cmp nat_cmp) (x ∷ xs) → IsSorted (slice_cmp nat_cmp) xs
-sorted_tail x xs h k d low high =
-    let e : suc k + 1 ≡ suc (k + 1) = omega arith in
-    subst (λ j. is_lt (slice_cmp nat_cmp (get_or (x ∷ xs) j d) (get_or xs k d)) ≡ false) e (h (suc k) d (omega arith) (omega (arith, high)))
-
-pub sorted_ascending : (xs : List Name) → IsSorted (slice_cmp nat_cmp) xs → IsDistinct same_name xs → is_ascending xs ≡ true
-unfolding is_ascending IsDistinct
-sorted_ascending [] s d = refl
-sorted_ascending (x ∷ []) s d = refl
-sorted_ascending (x ∷ y ∷ xs) s d =
-    let tail = sorted_ascending (y ∷ xs) (sorted_tail x (y ∷ xs) s) d.1 in
-    let b : comes_before x y ≡ true = before_turned y x (same_turned x y d.0.0) (s 0 x (omega arith) (omega arith)) in
-    let p = and_parts (list_all (comes_before y) xs) (is_ascending xs) tail in
-    and_from (list_all (comes_before x) (y ∷ xs)) (is_ascending (y ∷ xs)) (and_from (comes_before x y) (list_all (comes_before x) xs) b (all_before_more x y xs b p.0)) tail
 
 -- ---- reaching
 

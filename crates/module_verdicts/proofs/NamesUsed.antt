@@ -2,7 +2,6 @@
 use Rattle.std.proofs.Common.{◌≡◌, ℕ, ◌+◌, ◌<◌, ◌≤◌, true, false, cond, List, [], ◌∷◌, length, get_or, drop, Option, Some, is_some, sym, ap, ◌∙◌}
 use Rattle.std.specs.Option.{option_map}
 use Rattle.std.specs.Borrow.{Bor}
-use Rattle.std.proofs.lemmas.List.{at_drop_more, at_drop_all}
 use Rattle.list_laws.proofs.Options.{some_mapped}
 use Rattle.name_meaning.specs.Names.{Name, same_name}
 use Rattle.lf_meaning.specs.Signatures.{declaration_of}
@@ -13,19 +12,12 @@ use Rattle.base_types.specs.declared.qname.QName.{QName}
 use Rattle.term_trees.specs.declared.flat_decl.FlatDecl.{FlatDecl}
 use Rattle.term_trees.specs.Readings.{read_constant, read_declaration, read_signature}
 use Rattle.mmt_interface.specs.Readings.{read_structure, read_structures, read_theory}
+use Rattle.mmt_interface.proofs.StructureRows.{structure_next, structure_past}
 use Rattle.mmt_interface.specs.declared.face.StructFace.{StructFace}
 use Rattle.mmt_interface.specs.declared.face.TheoryFace.{TheoryFace}
 use Rattle.module_verdicts.specs.Answers.{IsNamed}
 
--- Among the structures from a place on, the one there comes first.
-pub structure_next : (structures : List StructFace) (name : Name) (place : ℕ) (here : StructFace) → place < length structures → here ≡ get_or structures place here
-    → structure_of (read_structures (drop place structures)) name ≡ cond (same_name here.name name) (Some (read_structure here)) (structure_of (read_structures (drop (place + 1) structures)) name)
-unfolding structure_of
-structure_next structures name place here within is =
-    at_drop_more (λ z. structure_of (read_structures z) name) structures place here within
-    ∙ ap (λ (z : StructFace). cond (same_name z.name name) (Some (read_structure z)) (structure_of (read_structures (drop (place + 1) structures)) name)) (sym is)
-
--- That one has the name.
+-- The structure at a place has the name.
 pub structure_found : (structures : List StructFace) (name : Name) (place : ℕ) (here : StructFace) → place < length structures → here ≡ get_or structures place here
     → structure_of (read_structures structures) name ≡ structure_of (read_structures (drop place structures)) name → same_name here.name name ≡ true → true ≡ is_some (structure_of (read_structures structures) name)
 structure_found structures name place here within is so_far same =
@@ -43,8 +35,7 @@ structure_passed structures name place here within is so_far same =
 -- No structure is left.
 pub structure_none : (structures : List StructFace) (name : Name) (place : ℕ) → length structures ≤ place
     → structure_of (read_structures structures) name ≡ structure_of (read_structures (drop place structures)) name → false ≡ is_some (structure_of (read_structures structures) name)
-unfolding structure_of
-structure_none structures name place past so_far = sym (ap is_some (so_far ∙ at_drop_all (λ z. structure_of (read_structures z) name) structures place past))
+structure_none structures name place past so_far = sym (ap is_some (so_far ∙ structure_past structures name place past))
 
 -- A constant that is looked up by its name is the own one at that path.
 pub found_constant : (here : TheoryFace) (constant : QName) (name : Name) (found : Option (Bor FlatDecl)) → IsNamed (read_theory here) → constant ≡ record { theory = here.name; path = name ∷ [] }

@@ -1,5 +1,5 @@
 -- Refusals of a pass, of which a whole begins with what is refused.
-use Rattle.std.proofs.Common.{◌≡◌, Ok, sym, ap, ◌∙◌, subst}
+use Rattle.std.proofs.Common.{◌≡◌, sym, ap, subst}
 use Rattle.answer_meaning.specs.Answers.{◌>>=◌}
 use Rattle.link_meaning.specs.Refusals.{Outcome}
 use Rattle.morphism.specs.Answers.{IsFirstRefusal}
@@ -13,7 +13,3 @@ refuses_then Memory first next h = tt
 
 pub refuses_first : {A B : Type 0} (fault : LinkFault) (first : Outcome A) (next : A → Outcome B) (whole : Outcome B) → whole ≡ (first >>= next) → IsFirstRefusal fault first → IsFirstRefusal fault whole
 refuses_first fault first next whole e h = subst (IsFirstRefusal fault) (sym e) (refuses_then fault first next h)
-
--- A whole that goes on with a value.
-pub goes_on : {A B : Type 0} (first : Outcome A) (next : A → Outcome B) (whole : Outcome B) (value : A) → whole ≡ (first >>= next) → first ≡ Ok value → whole ≡ next value
-goes_on first next whole value e h = e ∙ ap (λ o. o >>= next) h

@@ -1,5 +1,5 @@
 -- Faults of words that are refusals of the definition.
-use Rattle.std.proofs.Common.{◌≡◌, Result, Ok, sym, ap, ◌∙◌, subst}
+use Rattle.std.proofs.Common.{◌≡◌, Result, sym, ap, subst}
 use Rattle.name_meaning.specs.Names.{Path}
 use Rattle.answer_meaning.specs.Answers.{◌>>=◌}
 use Rattle.library_meaning.specs.Words as words
@@ -23,10 +23,6 @@ refuses_then Memory label first next h = tt
 -- So of a whole that begins so.
 pub refuses_first : {A B : Type 0} (fault : MorphFault) (label : Path) (first : Outcome A) (next : A → Outcome B) (whole : Outcome B) → whole ≡ (first >>= next) → Refuses fault label first → Refuses fault label whole
 refuses_first fault label first next whole e h = refuses_same fault label (first >>= next) whole (sym e) (refuses_then fault label first next h)
-
--- A whole that goes on with a value.
-pub goes_on : {A B : Type 0} (first : Outcome A) (next : A → Outcome B) (whole : Outcome B) (value : A) → whole ≡ (first >>= next) → first ≡ Ok value → whole ≡ next value
-goes_on first next whole value e h = e ∙ ap (λ o. o >>= next) h
 
 -- The fault of the public call.
 pub first_fault : (fault : MorphFault) (label : Path) (outcome : Outcome words.Link) → Refuses fault label outcome → IsFirstFault fault label outcome

@@ -34,7 +34,8 @@ back_image_by : (b : Bool) (x : Image) (o more rest : Option Image) → (o ≡ N
 back_image_by true x o more rest f h = absurd (cc)
 back_image_by false x o more rest f h = f h
 
-back_image : (xs ys : HeadMap) (c : Constant) → image_of xs c ≡ None → image_of (xs ++ ys) c ≡ image_of ys c
+-- what has no image in front is found behind
+pub back_image : (xs ys : HeadMap) (c : Constant) → image_of xs c ≡ None → image_of (xs ++ ys) c ≡ image_of ys c
 unfolding image_of
 back_image [] ys c h = refl
 back_image (m ∷ xs) ys c h = back_image_by (same_constant m.name c) m.image (image_of xs c) (image_of (xs ++ ys) c) (image_of ys c) (back_image xs ys c) h

@@ -27,6 +27,7 @@ use Rattle.link_laws.proofs.Linked.{own_named, declarations_hold}
 use Rattle.link_coherence_laws.proofs.Onces.{parts_joined, declaration_member, member_declared, own_is_once, once_left, declarations_from, HoldAfter, Once}
 use Rattle.link_coherence_laws.proofs.WordsHold.{includes_closed, includes_theories}
 use Rattle.row_typing.proofs.Identity.{held_class_same, identity_image, undefined_is, IsIdentityOn}
+use Rattle.row_typing.proofs.SameValues.{back_image}
 
 -- ---- maps with the names of declarations
 
@@ -42,16 +43,6 @@ absent_image (m ∷ ms) [] e c h = absurd (cc)
 absent_image (m ∷ ms) (d ∷ ds) e c h =
     let same : same_constant d.name c ≡ same_constant m.name c = ap (λ z. same_constant z c) (sym (first_same e)) in
     absent_by (same_constant m.name c) d m.image (declaration_of ds c) (image_of ms c) (ap (λ b. cond b (Some d) (declaration_of ds c)) (sym same) ∙ h) (absent_image ms ds (rest_same e) c)
-
-joined_by : (b : Bool) (image : Image) (o p q : Option Image) → cond b (Some image) o ≡ None → (o ≡ None → p ≡ q) → cond b (Some image) p ≡ q
-joined_by true image o p q h f = absurd (cc)
-joined_by false image o p q h f = f h
-
--- what has no image in front is found behind
-image_behind : (front along : HeadMap) (c : Constant) → image_of front c ≡ None → image_of (front ++ along) c ≡ image_of along c
-unfolding image_of
-image_behind [] along c h = refl
-image_behind (m ∷ ms) along c h = joined_by (same_constant m.name c) m.image (image_of ms c) (image_of (ms ++ along) c) (image_of along c) h (image_behind ms along c)
 
 abbrev itself : Declaration → Image
 itself d = record { class = d.class; value = SameAs d.name }
@@ -203,7 +194,7 @@ module _ (setting : Setting) (assigned : List Assigned) (settled : IsSettled set
             from_own d n v =
                 let own : Member d (part theory) = subst (Member d) (sym e) (append_left xs ys d n) in
                 let once : Once xs = once_left xs ys (subst Once e (own_is_once setting.environment settled.coherent theory)) in
-                image_behind so_far (identity_map xs) d.name (absent d own) ∙ identity_image xs d.name
+                back_image so_far (identity_map xs) d.name (absent d own) ∙ identity_image xs d.name
                 ∙ ap (option_map (λ (x : Declaration). (identity_mapping x).image)) (member_declared xs once d n) ∙ ap Some (undefined_image d v)
 
         -- each constant has its own value
@@ -262,5 +253,5 @@ module _ (setting : Setting) (assigned : List Assigned) (settled : IsSettled set
           from_own d n e v rest w =
               let named = own_named setting.environment settled.coherent theory d n in
               let all : along ≡ so_far ++ identity_map (part theory) = ok_same (sym h ∙ shared_part (ap (is_identity_covering setting assigned) (sym named) ∙ e)) in
-              ap (λ z. image_of z d.name) (sym w ∙ all) ∙ image_behind so_far (identity_map (part theory)) d.name (absent d n) ∙ identity_image (part theory) d.name
+              ap (λ z. image_of z d.name) (sym w ∙ all) ∙ back_image so_far (identity_map (part theory)) d.name (absent d n) ∙ identity_image (part theory) d.name
               ∙ ap (option_map (λ (x : Declaration). (identity_mapping x).image)) (member_declared (part theory) (own_is_once setting.environment settled.coherent theory) d n) ∙ ap Some (undefined_image d v)

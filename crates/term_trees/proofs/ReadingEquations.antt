@@ -1,9 +1,9 @@
 -- The equations of the readings, of a value that is made.
-use Rattle.std.proofs.Common.{◌≡◌, List, sym, ap, ◌∙◌}
+use Rattle.std.proofs.Common.{◌≡◌, List, [], ◌∷◌, ◌++◌, refl, sym, ap, ◌∙◌}
 use Rattle.std.specs.declared.boxed.Box.{Box}
 use Rattle.std.specs.declared.alloc.Global.{Global}
 use Rattle.lf_meaning.specs.Terms as terms
-use Rattle.term_trees.specs.Readings.{read_constant, read_simple, read_simple_layer, read_head, read_object, read_object_layer, read_spine_layer, read_arguments, read_family, read_family_layer, read_kind, read_kind_layer}
+use Rattle.term_trees.specs.Readings.{read_constant, read_simple, read_simple_layer, read_head, read_object, read_object_layer, read_objects, read_spine_layer, read_arguments, read_family, read_family_layer, read_kind, read_kind_layer}
 use Rattle.base_types.specs.declared.qname.QName.{QName}
 use Rattle.term_trees.specs.declared.simple.Simple.{Simple}
 use Rattle.term_trees.specs.declared.simple.Simple.TheOpen as simple
@@ -54,3 +54,8 @@ read_kind_pi a k = ap read_kind (sym (kinds.rolls-Pi a k)) ∙ fold-roll-Kind te
 
 -- All of them, for a tactic.
 pub ruleset reading_equations = (read_simple_base, read_simple_arrow, read_object_lam, read_object_at, read_family_pi, read_family_at, read_kind_ty, read_kind_pi)
+
+-- objects in a row, one list behind another
+pub read_objects_joined : (xs ys : List Obj) → read_objects (xs ++ ys) ≡ read_objects xs ++ read_objects ys
+read_objects_joined [] ys = refl
+read_objects_joined (x ∷ xs) ys = ap (λ (zs : List terms.Object). read_object x ∷ zs) (read_objects_joined xs ys)

@@ -27,7 +27,7 @@ use Rattle.board_meaning.specs.Machine.{EditCall, edit_event, edit_reply, event_
 use Rattle.board_meaning.specs.Legal.{IsLegal}
 use Rattle.board_machine_laws.proofs.Histories.{log_some, text_entry}
 use Rattle.board_laws.proofs.Standings.{standing_grounded}
-use Rattle.board_laws.proofs.Following.{edit_leaves}
+use Rattle.board_laws.proofs.Following.{installs_last, edit_leaves}
 use Rattle.verdict_board.specs.declared.stage.Stage.{Stage}
 use Rattle.verdict_board.specs.declared.stage.Stage.TheVariants.{Waiting, Claimed, Standing, Cyclic}
 use Rattle.verdict_board.specs.Entries.{entry}
@@ -35,7 +35,7 @@ use Rattle.verdict_board.specs.Stages.{stage_after, HasSortedInputs, IsCurrent, 
 use Rattle.verdict_board.specs.Keeping.{IsKept, HasRoom}
 use Rattle.verdict_board.proofs.Currents.{current_more, current_less, claim_more, current_grounded, current_reach, current_stands_not, one_current}
 use Rattle.verdict_board.proofs.Reports.{ungrounded_not}
-use Rattle.verdict_board.proofs.Rooms.{closed_more, installs_more, opened_same}
+use Rattle.verdict_board.proofs.Rooms.{closed_more, opened_same}
 use Rattle.verdict_board.proofs.Calls.{legal_with}
 use Rattle.verdict_board.proofs.Transitions.{present_of}
 
@@ -152,7 +152,7 @@ module _ {Answer Meaning : Type 0} (subject : Subject Meaning) (meaning : Answer
     closed_is = k.closed_is ∙ sym (closed_more H e ∙ or-false (is_closed H));
     opened_all = let a = opened_same H e refl in let b = k.opened_all in omega (arith, a, b);
     counted = let a = length-append H (e ∷ []) in let b = k.counted in omega (arith, a, b);
-    installed_all = let a = installs_more H e in let b = k.installed_all in omega (arith, a, b);
+    installed_all = let a = installs_last H e in let b = k.installed_all in omega (arith, a, b);
     room = room closed;
     none_left = λ h. absurd (true≢false (sym h));
   }

@@ -1,5 +1,5 @@
 -- How many claims are open and how many verdicts were installed, after one more entry.
-use Rattle.std.proofs.Common.{◌≡◌, ℕ, suc, ◌+◌, ◌<◌, ◌≤◌, Bool, true, false, List, [], ◌∷◌, ◌++◌, length, filter, Option, Some, None, option_map, option_to_list, is_some, cond, ◌||◌, inl, inr, ⊎_elim, refl, sym, ap, ◌∙◌, true≢false, arith, length-append}
+use Rattle.std.proofs.Common.{◌≡◌, ℕ, suc, ◌+◌, ◌<◌, ◌≤◌, Bool, true, false, List, [], ◌∷◌, ◌++◌, length, filter, Option, Some, None, option_map, is_some, cond, ◌||◌, inl, inr, ⊎_elim, refl, sym, ap, ◌∙◌, true≢false, arith, length-append}
 use Rattle.std.specs.List.{cons_option}
 use Rattle.std.proofs.Math.Bool.{or-false}
 use Rattle.std.proofs.lemmas.Bool.{or_parts}
@@ -15,15 +15,11 @@ use Rattle.board_meaning.specs.Standing.{installed_claim, installed_claims, inst
 use Rattle.board_meaning.specs.Ready.{is_close, is_closed}
 use Rattle.board_machine_laws.proofs.Claiming.{claim_entry, claim_front}
 use Rattle.board_machine_laws.proofs.Earlier.{claims_in}
-use Rattle.board_laws.proofs.Following.{installed_last}
 use Rattle.verdict_board.proofs.Currents.{open_parts, open_from, ended_more}
 
 pub closed_more : (H : History) (e : Entry) → is_closed (H ++ e ∷ []) ≡ (is_closed H || is_close e.event)
 unfolding is_closed
 closed_more H e = list_any-append (λ (entry : Entry). is_close entry.event) H (e ∷ []) ∙ ap (λ b. is_closed H || b) (or-false (is_close e.event))
-
-pub installs_more : (H : History) (e : Entry) → installs (H ++ e ∷ []) ≡ installs H + length (option_to_list (installed_claim e.event))
-installs_more H e = ap length (installed_last H e) ∙ length-append (installed_claims H) (option_to_list (installed_claim e.event))
 
 -- no more verdicts were installed than there are entries
 pub installs_within : (H : History) → installs H ≤ length H

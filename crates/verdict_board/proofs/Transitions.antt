@@ -21,14 +21,14 @@ use Rattle.board_machine_laws.proofs.Histories.{log_none}
 use Rattle.board_machine_laws.proofs.Claiming.{some_is_name, is_name_some, installed_unedited, unedited_installed}
 use Rattle.board_laws.proofs.Legality.{legal_empty, least_is_ready}
 use Rattle.board_laws.proofs.Standings.{ready_parts, reach_now, grounded_now}
-use Rattle.board_laws.proofs.Following.{others_leave, install_makes}
+use Rattle.board_laws.proofs.Following.{installs_last, others_leave, install_makes}
 use Rattle.verdict_board.specs.declared.stage.Stage.{Stage}
 use Rattle.verdict_board.specs.declared.stage.Stage.TheVariants.{Waiting, Claimed, Standing}
 use Rattle.verdict_board.specs.Stages.{IsCurrent}
 use Rattle.verdict_board.specs.Keeping.{IsKept, HasRoom}
 use Rattle.verdict_board.proofs.Currents.{new_current, current_less, current_stands_not, one_current, claim_more}
 use Rattle.verdict_board.proofs.Kept.{same_library, no_claim, stages_kept, stages_replaced}
-use Rattle.verdict_board.proofs.Rooms.{closed_more, installs_more, opened_more, opened_same, opened_less}
+use Rattle.verdict_board.proofs.Rooms.{closed_more, opened_more, opened_same, opened_less}
 use Rattle.verdict_board.proofs.Calls.{legal_with}
 use Rattle.verdict_board.specs.Entries.{entry}
 
@@ -86,7 +86,7 @@ module _ {Answer Meaning : Type 0} (subject : Subject Meaning) (meaning : Answer
 
     installed_on : (event : Event) → installed_claim event ≡ None → installed ≡ installs (H ++ entry pass version event ∷ [])
     installed_on event h =
-        let a = installs_more H (entry pass version event) in
+        let a = installs_last H (entry pass version event) in
         let b = ap (λ (o : Option ℕ). length (option_to_list o)) h in
         let c = k.installed_all in
         omega (arith, a, b, c)
@@ -192,7 +192,7 @@ module _ {Answer Meaning : Type 0} (subject : Subject Meaning) (meaning : Answer
         closed_is = closed_on (Install c) refl;
         opened_all = let f = fewer (Install c) refl (eq-eqb c c refl) in omega (arith, f);
         counted = more (Install c);
-        installed_all = let i = installs_more H e in let j = k.installed_all in omega (arith, i, j);
+        installed_all = let i = installs_last H e in let j = k.installed_all in omega (arith, i, j);
         room = room_less closed k.room;
         none_left = λ h. absurd (true≢false (sym h));
       }

@@ -1,13 +1,9 @@
-use Rattle.std.proofs.Common.{◌≡◌, ◌∷◌, ◌++◌, [], None, Result, Ok, Err, sym, ◌∙◌, true≢false, arith}
+use Rattle.std.proofs.Common.{◌≡◌, ◌∷◌, ◌++◌, [], None, ◌∙◌, arith}
 use Rattle.std.specs.Map.{lookup}
-use Rattle.std.specs.Result.{IsOk, OnOk}
 use Rattle.indexmap.proofs.CallerLemmas.{insert_entry-new}
+use Rattle.list_laws.proofs.Answers.{at_ok}
 use Rattle.lf_terms.specs.Tables.{same_path}
 use Rattle.lf_terms.proofs.flat_sig.insert_first.Goals as goal
-
-at_ok : {T E : Type 0} (r : Result T E) (P : Type 0) → IsOk r → OnOk r P → P
-at_ok (Ok x) P h p = p
-at_ok (Err e) P h p = absurd (true≢false (sym h))
 
 pub returns-clause-ok_path : goal.returns-clause-ok_path
 returns-clause-ok_path c =

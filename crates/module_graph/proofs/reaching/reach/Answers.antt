@@ -1,7 +1,8 @@
 use Rattle.std.proofs.Common.{◌≡◌, subst, sym, ap, ◌∙◌, arith, rules}
 use Rattle.indexmap.specs.IndexSet.{insert_key, insert_all}
 use Rattle.name_meaning.specs.Names.{same_name, is_among}
-use Rattle.module_graph.proofs.Reached.{IsReaching, reaching_first, reaching_row, reaching_no_row, reaching_within, reaching_done, sorted_ascending}
+use Rattle.name_laws.proofs.Sorted.{sorted_ascending}
+use Rattle.module_graph.proofs.Reached.{IsReaching, reaching_first, reaching_row, reaching_no_row, reaching_within, reaching_done}
 use Rattle.module_graph.proofs.reaching.reach.Goals as goal
 
 pub loop-next-init : goal.loop-next-init

@@ -6,7 +6,8 @@ use Rattle.mmt_syntax.specs.Readings as trees
 use Rattle.morphism.specs.Readings.{read_all_assigned, read_assigned, read_setting}
 use Rattle.morphism.specs.Steps.{earlier_targets}
 use Rattle.morphism.proofs.AssignmentsLeft.{all_given, goes_on_with, next_given, none_given}
-use Rattle.morphism.proofs.FirstRefusals.{goes_on, refuses_first}
+use Rattle.list_laws.proofs.Answers.{goes_on}
+use Rattle.morphism.proofs.FirstRefusals.{refuses_first}
 use Rattle.morphism.proofs.assignments.read_assigns.Goals as goal
 
 pub loop-assign-init : goal.loop-assign-init

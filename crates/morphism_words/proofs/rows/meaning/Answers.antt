@@ -11,7 +11,8 @@ use Rattle.mmt_syntax.specs.declared.written.Written.{Written}
 use Rattle.mmt_interface.specs.Readings.{environment_of, read_theory}
 use Rattle.morphism_words.specs.Steps.{row_answer, word_answer}
 use Rattle.morphism_words.proofs.ListsLeft.{first_and_rest}
-use Rattle.morphism_words.proofs.Refusals.{first_fault, goes_on, refuses_first, refuses_same}
+use Rattle.list_laws.proofs.Answers.{goes_on}
+use Rattle.morphism_words.proofs.Refusals.{first_fault, refuses_first, refuses_same}
 use Rattle.morphism_words.proofs.RowsOfWords.{row_begins}
 use Rattle.morphism_words.proofs.rows.meaning.Goals as goal
 

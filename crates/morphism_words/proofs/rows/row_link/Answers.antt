@@ -12,7 +12,8 @@ use Rattle.mmt_interface.specs.Readings.{environment_of, read_theory}
 use Rattle.morphism_words.specs.LentLinks.{read_lent}
 use Rattle.morphism_words.specs.Steps.{next_answer, row_answer}
 use Rattle.morphism_words.proofs.ListsLeft.{left}
-use Rattle.morphism_words.proofs.Refusals.{goes_on, refuses_first}
+use Rattle.list_laws.proofs.Answers.{goes_on}
+use Rattle.morphism_words.proofs.Refusals.{refuses_first}
 use Rattle.morphism_words.proofs.rows.row_link.Goals as goal
 
 next : (environment : Environment) (here : Option TheoryFace) (label : Path) (link : Link) (words : List Written) (i : ℕ) (word : Written) → i < length words → word ≡ get_or words i word

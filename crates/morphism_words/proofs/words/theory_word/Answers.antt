@@ -6,7 +6,8 @@ use Rattle.mmt_interface.specs.Readings.{environment_of}
 use Rattle.morphism_words.specs.LentLinks.{read_lent}
 use Rattle.morphism_words.specs.Steps.{known_interface, word_answer}
 use Rattle.morphism_words.proofs.KnownWords.{longer_known}
-use Rattle.morphism_words.proofs.Refusals.{answers_same, goes_on, refuses_first}
+use Rattle.list_laws.proofs.Answers.{goes_on}
+use Rattle.morphism_words.proofs.Refusals.{answers_same, refuses_first}
 use Rattle.morphism_words.proofs.words.theory_word.Goals as goal
 
 pub returns-in_err-face : goal.returns-in_err-face

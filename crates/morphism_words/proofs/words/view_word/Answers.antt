@@ -5,7 +5,8 @@ use Rattle.mmt_syntax.specs.Readings.{read_span}
 use Rattle.mmt_interface.specs.Readings.{environment_of}
 use Rattle.morphism_words.specs.Steps.{known_interface, word_answer}
 use Rattle.morphism_words.proofs.KnownWords.{simple_known}
-use Rattle.morphism_words.proofs.Refusals.{goes_on, refuses_first}
+use Rattle.list_laws.proofs.Answers.{goes_on}
+use Rattle.morphism_words.proofs.Refusals.{refuses_first}
 use Rattle.morphism_words.proofs.words.view_word.Goals as goal
 
 pub returns-in_err-view : goal.returns-in_err-view

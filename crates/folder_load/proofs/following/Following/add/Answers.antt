@@ -3,7 +3,8 @@ use Rattle.run_meaning.specs.Files.{text_in}
 use Rattle.twelf_reader.specs.Division.{read_piece}
 use Rattle.folder_load.specs.Ahead.{ahead, word_of}
 use Rattle.folder_load.specs.Shown.{file_of, shown_word, shown_piece_fault}
-use Rattle.folder_load.proofs.Mapped.{mapped_none, mapped_some}
+use Rattle.list_laws.proofs.Options.{mapped_none}
+use Rattle.folder_load.proofs.Mapped.{mapped_some}
 use Rattle.folder_load.proofs.NextModules.{follows_after}
 use Rattle.folder_load.proofs.following.Following.add.Goals as goal
 
