@@ -60,37 +60,90 @@ fn rings(alloc: Global) -> Result<Graph, Fail> {
     Ok(graph)
 }
 
-#[test]
-fn cycles_and_absent_names(rt: HostRuntime) -> Result<(), Fail> {
-    let alloc = rt.alloc();
-    let mut graph = rings(alloc)?;
-    for (name, expected) in [
+/// Whether each of these names reaches just the names beside it.
+fn each_reaches(alloc: Global, graph: &Graph, cases: &[(&str, &str)]) -> Result<bool, Fail> {
+    for case in cases {
+        if !reaches(alloc, graph, case.0, case.1)? {
+            return Ok(false);
+        }
+    }
+    Ok(true)
+}
+
+/// Whether in each of these lists the first ungrounded name stands at the place beside it.
+fn each_first(
+    alloc: Global,
+    graph: &Graph,
+    cases: &[(&str, Option<usize>)],
+) -> Result<bool, Fail> {
+    for case in cases {
+        if first(alloc, graph, case.0)? != case.1 {
+            return Ok(false);
+        }
+    }
+    Ok(true)
+}
+
+/// Whether a name has a row that can be removed, and then none.
+fn removed_once(alloc: Global, graph: &mut Graph, name: &str) -> Result<bool, Fail> {
+    let name = Name::new(alloc, name)?;
+    let there = graph.remove(&name);
+    let again = graph.remove(&name);
+    Ok(there && !again)
+}
+
+// Each graph is let go before the first assertion, which else has a proof for each of its parts.
+
+/// Whether names reach what they should, over the rings.
+fn reach_as_they_should(alloc: Global, graph: &Graph) -> Result<bool, Fail> {
+    let cases = [
         ("Into", "A Absent B C Into Leaf"),
         ("Top", "Absent Gone Leaf Next Top"),
         ("Own", "Own"),
         ("Leaf", "Leaf"),
         ("Absent", "Absent"),
-    ] {
-        assert!(rt;
-            reaches(alloc, &graph, name, expected)?,
-            "the reach of {name}"
-        );
-    }
-    for (dependencies, expected) in [
+    ];
+    each_reaches(alloc, graph, &cases)
+}
+
+/// Whether the first ungrounded names stand where they should, over the rings.
+fn are_placed(alloc: Global, graph: &Graph) -> Result<bool, Fail> {
+    let lists = [
         ("Leaf Absent Own A", Some(2)),
         ("B", Some(0)),
         ("Absent Next Leaf", None),
         ("", None),
-    ] {
-        assert_eq!(rt; first(alloc, &graph, dependencies)?, expected);
-    }
-    assert!(rt; grounds(alloc, &graph, "Leaf Next Top")?);
-    let ring = Name::new(alloc, "B")?;
-    let there = graph.remove(&ring);
-    let gone = graph.remove(&ring);
-    set(alloc, &mut graph, "Own", "Leaf")?;
-    assert!(rt; there && !gone && grounds(alloc, &graph, "A C Into Leaf Next Own Top")?);
+    ];
+    each_first(alloc, graph, &lists)
+}
+
+/// Whether the rings are grounded once they are opened.
+fn are_opened(alloc: Global, graph: &mut Graph) -> Result<bool, Fail> {
+    let known = grounds(alloc, graph, "Leaf Next Top")?;
+    let removed = removed_once(alloc, graph, "B")?;
+    set(alloc, graph, "Own", "Leaf")?;
+    Ok(known && removed && grounds(alloc, graph, "A C Into Leaf Next Own Top")?)
+}
+
+#[test]
+fn cycles_and_absent_names(rt: HostRuntime) -> Result<(), Fail> {
+    let alloc = rt.alloc();
+    let mut graph = rings(alloc)?;
+    let reached = reach_as_they_should(alloc, &graph)?;
+    let placed = are_placed(alloc, &graph)?;
+    let opened = are_opened(alloc, &mut graph)?;
+    drop(graph);
+    assert!(rt; reached, "what names reach");
+    assert!(rt; placed, "the first ungrounded names");
+    assert!(rt; opened, "the grounded names");
     Ok(())
+}
+
+/// Whether a copy of the rings is as they were.
+fn is_kept(alloc: Global, copy: &Graph) -> Result<bool, Fail> {
+    let known = grounds(alloc, copy, "Leaf Next Top")?;
+    let cases = [("Top", "Absent Gone Leaf Next Top"), ("Own", "Own")];
+    Ok(copy.len() == 8 && known && each_reaches(alloc, copy, &cases)?)
 }
 
 /// A copy has the rows of the graph, and stays as it is where the graph changes.
@@ -100,9 +153,11 @@ fn copied(rt: HostRuntime) -> Result<(), Fail> {
     let mut graph = rings(alloc)?;
     let copy = graph.copy(alloc)?;
     set(alloc, &mut graph, "Own", "Leaf")?;
-    assert!(rt; copy.len() == 8 && grounds(alloc, &copy, "Leaf Next Top")?);
-    assert!(rt; reaches(alloc, &copy, "Top", "Absent Gone Leaf Next Top")?);
-    assert!(rt; reaches(alloc, &copy, "Own", "Own")? && reaches(alloc, &graph, "Own", "Leaf Own")?);
+    let changed = reaches(alloc, &graph, "Own", "Leaf Own")?;
+    drop(graph);
+    let kept = is_kept(alloc, &copy)?;
+    drop(copy);
+    assert!(rt; changed && kept);
     Ok(())
 }
 
@@ -114,22 +169,41 @@ fn counts(alloc: Global, graph: &Graph, name: &str) -> Result<(usize, usize), Fa
     Ok((known.len(), reached.len()))
 }
 
+/// Sets a chain of so many: each name depends on the next one.
+fn set_chain(alloc: Global, graph: &mut Graph, count: u32) -> Result<(), Fail> {
+    for i in 0..count {
+        let name = format!(in alloc; "M{i:04}")?;
+        let next = i.wrapping_add(1);
+        let dependency = format!(in alloc; "M{next:04}")?;
+        set(alloc, graph, name.as_str(), dependency.as_str())?;
+    }
+    Ok(())
+}
+
 /// A chain of 4,000: each name depends on the next, and the last one on the first once the chain is closed.
 #[test]
 fn chain(rt: HostRuntime) -> Result<(), Fail> {
     let alloc = rt.alloc();
     let mut graph = Graph::new(alloc);
-    for i in 0..4_000u32 {
-        let name = format!(in alloc; "M{i:04}")?;
-        let next = i.wrapping_add(1);
-        let dependency = format!(in alloc; "M{next:04}")?;
-        set(alloc, &mut graph, name.as_str(), dependency.as_str())?;
-    }
+    set_chain(alloc, &mut graph, 4_000)?;
     let open = counts(alloc, &graph, "M0000")?;
     set(alloc, &mut graph, "M4000", "M0000")?;
     let closed = counts(alloc, &graph, "M2000")?;
+    drop(graph);
     assert!(rt; open == (4_000, 4_001) && closed == (0, 4_001));
     Ok(())
+}
+
+/// Sets so many names that depend on one, and one that depends on all of them.
+fn set_level(alloc: Global, graph: &mut Graph, count: u32) -> Result<(), Fail> {
+    let mut all = String::new(alloc);
+    for i in 0..count {
+        let name = format!(in alloc; "M{i}")?;
+        all.push_str(name.as_str())?;
+        all.push_str(" ")?;
+        set(alloc, graph, name.as_str(), "Base")?;
+    }
+    set(alloc, graph, "Top", all.as_str())
 }
 
 /// One name that depends on 3,999 others, and these on one more, which is absent at first and then depends on itself.
@@ -137,17 +211,11 @@ fn chain(rt: HostRuntime) -> Result<(), Fail> {
 fn wide_level(rt: HostRuntime) -> Result<(), Fail> {
     let alloc = rt.alloc();
     let mut graph = Graph::new(alloc);
-    let mut all = String::new(alloc);
-    for i in 0..3_999u32 {
-        let name = format!(in alloc; "M{i}")?;
-        all.push_str(name.as_str())?;
-        all.push_str(" ")?;
-        set(alloc, &mut graph, name.as_str(), "Base")?;
-    }
-    set(alloc, &mut graph, "Top", all.as_str())?;
+    set_level(alloc, &mut graph, 3_999)?;
     let absent = counts(alloc, &graph, "Top")?;
     set(alloc, &mut graph, "Base", "Base")?;
     let cyclic = counts(alloc, &graph, "Top")?;
+    drop(graph);
     assert!(rt; absent == (4_000, 4_001) && cyclic == (0, 4_001));
     Ok(())
 }

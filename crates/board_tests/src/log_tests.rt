@@ -71,24 +71,30 @@ fn named(log: &Log, i: usize) -> &str {
     }
 }
 
+/// Puts and drops a name twice, with other names between; whether each edit is answered as it should be.
+fn in_turn(alloc: Global, log: &mut Log) -> Result<bool, Fail> {
+    let first = is_made(alloc, log, ("Nat", b'a', Some(3)), 1)?;
+    let again = answers(alloc, log, ("Nat", b'a', Some(3)), Ok(Edited::Same(1)))?;
+    let other = is_made(alloc, log, ("Zero", b'a', Some(0)), 2)?;
+    let dropped = is_made(alloc, log, ("Nat", b'a', None), 3)?;
+    let absent = answers(alloc, log, ("Nat", b'a', None), Ok(Edited::Absent(3)))?;
+    let last = is_made(alloc, log, ("M", b'a', Some(1)), 4)?;
+    Ok(first && again && other && dropped && absent && last)
+}
+
+// Each log is let go before the first assertion, which else has a proof for each of its parts.
+
 /// Put twice and dropped twice, with other names between, and the names that are left.
 #[test]
 fn edits_are_answered_in_turn(rt: HostRuntime) -> Result<(), Fail> {
     let alloc = rt.alloc();
     let mut log = Log::new(alloc);
-    let first = is_made(alloc, &mut log, ("Nat", b'a', Some(3)), 1)?;
-    let again = answers(alloc, &mut log, ("Nat", b'a', Some(3)), Ok(Edited::Same(1)))?;
-    let other = is_made(alloc, &mut log, ("Zero", b'a', Some(0)), 2)?;
-    let dropped = is_made(alloc, &mut log, ("Nat", b'a', None), 3)?;
-    let absent = answers(alloc, &mut log, ("Nat", b'a', None), Ok(Edited::Absent(3)))?;
-    let last = is_made(alloc, &mut log, ("M", b'a', Some(1)), 4)?;
-    assert!(rt; first && again && other && dropped && absent && last);
-    assert!(rt;
-        log.version() == 4
-            && named(&log, 0) == "M"
-            && named(&log, 1) == "Zero"
-            && named(&log, 2) == ""
-    );
+    let answered = in_turn(alloc, &mut log)?;
+    let left = named(&log, 0) == "M" && named(&log, 1) == "Zero" && named(&log, 2) == "";
+    let version = log.version();
+    drop(log);
+    assert!(rt; answered && left);
+    assert_eq!(rt; version, 4);
     Ok(())
 }
 
@@ -109,25 +115,35 @@ fn size_at(log: &Log, version: u32) -> Option<usize> {
     Some(log.entry(version)?.size())
 }
 
+/// Puts a name, another one, the first one again, and drops the other; whether each edit is made.
+fn four_edits(alloc: Global, log: &mut Log) -> Result<bool, Fail> {
+    let first = is_made(alloc, log, ("Nat", b'a', Some(2)), 1)?;
+    let other = is_made(alloc, log, ("Ab", b'b', Some(1)), 2)?;
+    let again = is_made(alloc, log, ("Nat", b'c', Some(1)), 3)?;
+    let dropped = is_made(alloc, log, ("Ab", b'b', None), 4)?;
+    Ok(first && other && again && dropped)
+}
+
+/// Whether the texts and stamps after these edits are as they should be.
+fn are_looked_up(alloc: Global, log: &Log) -> Result<bool, Fail> {
+    let put_twice = has(alloc, log, "Nat", 3, Some(b"c".as_slice()))?;
+    let dropped = has(alloc, log, "Ab", 4, None)?;
+    let other = has(alloc, log, "Other", 0, None)?;
+    Ok(put_twice && dropped && other)
+}
+
 /// Texts, stamps and entries after a put, another put of the same name, and a drop of another.
 #[test]
 fn looked_up(rt: HostRuntime) -> Result<(), Fail> {
     let alloc = rt.alloc();
     let mut log = Log::new(alloc);
-    let _ = put(alloc, &mut log, "Nat", b'a', 2)?;
-    let _ = put(alloc, &mut log, "Ab", b'b', 1)?;
-    let _ = put(alloc, &mut log, "Nat", b'c', 1)?;
-    let _ = take_out(alloc, &mut log, "Ab")?;
-    let put_twice = has(alloc, &log, "Nat", 3, Some(b"c".as_slice()))?;
-    let dropped = has(alloc, &log, "Ab", 4, None)?;
-    let other = has(alloc, &log, "Other", 0, None)?;
-    assert!(rt; put_twice && dropped && other);
-    assert!(rt;
-        size_at(&log, 0) == None
-            && size_at(&log, 1) == Some(2)
-            && size_at(&log, 4) == Some(0)
-            && size_at(&log, 5) == None
-    );
+    let made = four_edits(alloc, &mut log)?;
+    let found = are_looked_up(alloc, &log)?;
+    let ends = size_at(&log, 0) == None && size_at(&log, 5) == None;
+    let between = size_at(&log, 1) == Some(2) && size_at(&log, 4) == Some(0);
+    drop(log);
+    assert!(rt; made && found);
+    assert!(rt; ends && between);
     Ok(())
 }
 
@@ -156,9 +172,11 @@ fn copied_and_shared(rt: HostRuntime) -> Result<(), Fail> {
     assert!(rt; is_copied(alloc, "Nat", Some(b"ab".as_slice()))?);
     assert!(rt; is_copied(alloc, "Nat", Some(b"".as_slice()))? && is_copied(alloc, "Nat", None)?);
     let mut log = Log::new(alloc);
-    let _ = put(alloc, &mut log, "Nat", b'a', 2)?;
-    assert!(rt; is_shared(alloc, &log, "Nat", Some(b"aa".as_slice()))?);
-    assert!(rt; is_shared(alloc, &log, "Zero", None)?);
+    let put = is_made(alloc, &mut log, ("Nat", b'a', Some(2)), 1)?;
+    let there = is_shared(alloc, &log, "Nat", Some(b"aa".as_slice()))?;
+    let absent = is_shared(alloc, &log, "Zero", None)?;
+    drop(log);
+    assert!(rt; put && there && absent);
     Ok(())
 }
 
@@ -178,6 +196,7 @@ fn long_texts_are_refused(rt: HostRuntime) -> Result<(), Fail> {
     let mut log = Log::new(alloc);
     let more = put(alloc, &mut log, "Big", b'a', 1_048_577)?;
     let most = put(alloc, &mut log, "Big", b'a', 1_048_576)?;
+    drop(log);
     assert!(rt; more == Err(EditFault::TooLong) && most == Ok(Edited::Made(1)));
     Ok(())
 }
@@ -210,6 +229,7 @@ fn full_of_edits(rt: HostRuntime) -> Result<(), Fail> {
     let all_made = alternate(alloc, &mut log, 65_536)?;
     let one_more = put(alloc, &mut log, "N", b'a', 5)?;
     let absent = take_out(alloc, &mut log, "N")?;
+    drop(log);
     assert!(rt;
         all_made && one_more == Err(EditFault::Full) && absent == Ok(Edited::Absent(65_536))
     );
@@ -221,17 +241,32 @@ fn full_of_edits(rt: HostRuntime) -> Result<(), Fail> {
 fn full_of_names(rt: HostRuntime) -> Result<(), Fail> {
     let alloc = rt.alloc();
     let mut log = Log::new(alloc);
-    for i in 0..4_096u32 {
-        let name = format!(in alloc; "N{i}")?;
-        let _ = put(alloc, &mut log, name.as_str(), b'a', 5)?;
-    }
-    let many = is_refused(alloc, &mut log, ("New", b'a', Some(5)), EditFault::TooMany)?;
-    let there = is_made(alloc, &mut log, ("N7", b'b', Some(5)), 4_097)?;
-    let dropped = is_made(alloc, &mut log, ("N8", b'a', None), 4_098)?;
-    let new = is_made(alloc, &mut log, ("New", b'a', Some(5)), 4_099)?;
-    let again = is_refused(alloc, &mut log, ("N8", b'a', Some(5)), EditFault::TooMany)?;
-    assert!(rt; many && there && dropped && new && again);
+    let full = put_names(alloc, &mut log, 4_096)?;
+    let further = no_more_names(alloc, &mut log)?;
+    drop(log);
+    assert!(rt; full && further);
     Ok(())
+}
+
+/// Puts so many names; whether each edit is made.
+fn put_names(alloc: Global, log: &mut Log, count: u32) -> Result<bool, Fail> {
+    let mut all_made = true;
+    for i in 0..count {
+        let name = format!(in alloc; "N{i}")?;
+        let version = i.wrapping_add(1);
+        all_made = all_made && is_made(alloc, log, (name.as_str(), b'a', Some(5)), version)?;
+    }
+    Ok(all_made)
+}
+
+/// Whether a full library takes no new name, until one is dropped.
+fn no_more_names(alloc: Global, log: &mut Log) -> Result<bool, Fail> {
+    let many = is_refused(alloc, log, ("New", b'a', Some(5)), EditFault::TooMany)?;
+    let there = is_made(alloc, log, ("N7", b'b', Some(5)), 4_097)?;
+    let dropped = is_made(alloc, log, ("N8", b'a', None), 4_098)?;
+    let new = is_made(alloc, log, ("New", b'a', Some(5)), 4_099)?;
+    let again = is_refused(alloc, log, ("N8", b'a', Some(5)), EditFault::TooMany)?;
+    Ok(many && there && dropped && new && again)
 }
 
 /// All texts ever put have at most 2^28 bytes: 256 texts of 2^20 bytes are put, and then no byte more.
@@ -239,13 +274,28 @@ fn full_of_names(rt: HostRuntime) -> Result<(), Fail> {
 fn full_of_bytes(rt: HostRuntime) -> Result<(), Fail> {
     let alloc = rt.alloc();
     let mut log = Log::new(alloc);
+    let filled = fill(alloc, &mut log)?;
+    let refused = no_more_bytes(alloc, &mut log)?;
+    drop(log);
+    assert!(rt; filled && refused);
+    Ok(())
+}
+
+/// Puts 256 texts of 2^20 bytes; whether each edit is made.
+fn fill(alloc: Global, log: &mut Log) -> Result<bool, Fail> {
+    let mut all_made = true;
     for i in 0..256u32 {
         let byte = if i % 2 == 0 { b'a' } else { b'b' };
-        let _ = put(alloc, &mut log, "N", byte, 1_048_576)?;
+        let version = i.wrapping_add(1);
+        all_made = all_made && is_made(alloc, log, ("N", byte, Some(1_048_576)), version)?;
     }
-    let full = is_refused(alloc, &mut log, ("M", b'a', Some(1)), EditFault::Full)?;
-    let empty = is_made(alloc, &mut log, ("M", b'a', Some(0)), 257)?;
-    let dropped = is_made(alloc, &mut log, ("N", b'a', None), 258)?;
-    assert!(rt; full && empty && dropped);
-    Ok(())
+    Ok(all_made)
+}
+
+/// Whether a log that is full of bytes takes no byte more, but an empty text and a drop.
+fn no_more_bytes(alloc: Global, log: &mut Log) -> Result<bool, Fail> {
+    let full = is_refused(alloc, log, ("M", b'a', Some(1)), EditFault::Full)?;
+    let empty = is_made(alloc, log, ("M", b'a', Some(0)), 257)?;
+    let dropped = is_made(alloc, log, ("N", b'a', None), 258)?;
+    Ok(full && empty && dropped)
 }

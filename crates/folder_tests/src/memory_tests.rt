@@ -2,7 +2,14 @@
 
 use crate::writing::folder_of;
 use mmt_outside::{Folder, Inputs64, MemFiles, MemFolder};
+use std::alloc::Global;
 use std::test::Fail;
+
+/// How many names a folder lists.
+fn count(alloc: Global, folder: &mut MemFolder, name: &str) -> Result<usize, Fail> {
+    let names = folder.list(alloc, name)?;
+    Ok(names.len())
+}
 
 #[test]
 fn a_folder_lists_each_name_once(rt: HostRuntime) -> Result<(), Fail> {
@@ -14,8 +21,11 @@ fn a_folder_lists_each_name_once(rt: HostRuntime) -> Result<(), Fail> {
         ("lib", "b", "4"),
     ];
     let mut folder = folder_of(alloc, &files)?;
-    assert_eq!(rt; folder.list(alloc, "lib")?.len(), 2);
-    assert_eq!(rt; folder.list(alloc, "none")?.len(), 0);
+    let listed = count(alloc, &mut folder, "lib")?;
+    let none = count(alloc, &mut folder, "none")?;
+    drop(folder);
+    assert_eq!(rt; listed, 2);
+    assert_eq!(rt; none, 0);
     Ok(())
 }
 

@@ -2,7 +2,7 @@
 ghost use Rattle.std.specs.Prelude.{◌≡◌, ◌∷◌, ◌++◌, IfOk};
 ghost use Rattle.lf_meaning.specs.Terms.{Simple as SimpleType, SimpleContext};
 ghost use Rattle.lf_meaning.specs.Erasure.{erase as erased};
-ghost use Rattle.lf_meaning.specs.Substitution.{substitute_context};
+ghost use Rattle.lf_meaning.specs.Substitution.{substitute, substitute_context};
 ghost use Rattle.lf_meaning.specs.Judgements.{Checks, IsSignature, IsTyping};
 ghost use Rattle.lf_meaning.specs.Sorts.{HasSort, Sorts};
 ghost use Rattle.term_trees.specs.Readings.{read_context, read_family, read_object, read_signature, read_simple};
@@ -48,8 +48,39 @@ fn substituted(
     Ok(Box::new(alloc, Judgement { object, family })?)
 }
 
-/// Both orders of substitution: the inner value first, and then the outer one; or the outer one first, in the inner value too. They
-/// come to the same.
+/// The inner value substituted first, and then the outer one.
+fn inner_first(
+    alloc: Global,
+    outer: &Obj,
+    outer_type: &Simple,
+    inner: &Obj,
+    inner_type: &Simple,
+    into: &Obj,
+) -> Result<Box<Obj>, Memory>
+    ensures { IfOk result (λ found. read_object found.value ≡ substitute (read_object outer.now) (read_simple outer_type.now) 0 (substitute (read_object inner.now) (read_simple inner_type.now) 0 (read_object into.now))) }
+{
+    let inside = subst_obj(alloc, inner, inner_type, 0, into)?;
+    Ok(Box::new(alloc, subst_obj(alloc, outer, outer_type, 0, &inside)?)?)
+}
+
+/// The outer value substituted first, in the inner one too, and then what comes of the inner one.
+fn outer_first(
+    alloc: Global,
+    outer: &Obj,
+    outer_type: &Simple,
+    inner: &Obj,
+    inner_type: &Simple,
+    into: &Obj,
+) -> Result<Box<Obj>, Memory>
+    ensures { IfOk result (λ found. read_object found.value ≡ substitute (substitute (read_object outer.now) (read_simple outer_type.now) 0 (read_object inner.now)) (read_simple inner_type.now) 0
+        (substitute (read_object outer.now) (read_simple outer_type.now) 1 (read_object into.now))) }
+{
+    let raised = Box::new(alloc, subst_obj(alloc, outer, outer_type, 1, into)?)?;
+    let value = subst_obj(alloc, outer, outer_type, 0, inner)?;
+    Ok(Box::new(alloc, subst_obj(alloc, &value, inner_type, 0, &raised)?)?)
+}
+
+/// What comes of both orders of substitution. They come to the same.
 fn in_both_orders(
     alloc: Global,
     outer: &Obj,
@@ -57,20 +88,17 @@ fn in_both_orders(
     inner: &Obj,
     inner_type: &Simple,
     into: &Obj,
-) -> Result<Box<(Obj, Obj)>, Memory>
+) -> Result<(Box<Obj>, Box<Obj>), Memory>
     ensures { IfOk result (λ found. (sorts : Sorts) (context : SimpleContext) (sort : SimpleType)
         → HasSort sorts context (read_object outer.now) (read_simple outer_type.now)
         → HasSort sorts (read_simple outer_type.now ∷ context) (read_object inner.now) (read_simple inner_type.now)
         → HasSort sorts (read_simple inner_type.now ∷ read_simple outer_type.now ∷ context) (read_object into.now) sort
-        → read_object found.value.0 ≡ read_object found.value.1) }
+        → read_object found.0.value ≡ read_object found.1.value) }
 {
-    let inside = subst_obj(alloc, inner, inner_type, 0, into)?;
-    let first = subst_obj(alloc, outer, outer_type, 0, &inside)?;
-    let raised = subst_obj(alloc, outer, outer_type, 1, into)?;
-    let value = subst_obj(alloc, outer, outer_type, 0, inner)?;
-    let second = subst_obj(alloc, &value, inner_type, 0, &raised)?;
+    let first = inner_first(alloc, outer, outer_type, inner, inner_type, into)?;
+    let second = outer_first(alloc, outer, outer_type, inner, inner_type, into)?;
     law_commute(outer, outer_type, inner, inner_type, into);
-    Ok(Box::new(alloc, (first, second))?)
+    Ok((first, second))
 }
 
 /// A type with an element and a function of two arguments.

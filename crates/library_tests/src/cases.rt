@@ -129,12 +129,27 @@ pub fn long_chain(alloc: Global) -> Result<Faces, Fail> {
     let mut faces = Faces::new(alloc);
     accept(alloc, &mut faces, "T0", "", "")?;
     for before in 0..999 {
-        let next = before + 1;
-        let name = format!(in alloc; "T{next}")?;
-        let included = format!(in alloc; "T{before}")?;
-        accept(alloc, &mut faces, name.as_str(), included.as_str(), "")?;
+        add_link(alloc, &mut faces, before)?;
     }
     Ok(faces)
+}
+
+/// Accepts the theory that includes the one with this number.
+fn add_link(alloc: Global, faces: &mut Faces, before: usize) -> Result<(), Fail> {
+    let next = before.wrapping_add(1);
+    let name = format!(in alloc; "T{next}")?;
+    let included = format!(in alloc; "T{before}")?;
+    accept(alloc, faces, name.as_str(), included.as_str(), "")
+}
+
+/// Accepts the theory T with this number, which has a constant `c`, and adds its name to a text.
+fn add_ray(alloc: Global, faces: &mut Faces, all: &mut String, number: usize) -> Result<(), Fail> {
+    let name = format!(in alloc; "T{number}")?;
+    let own = format!(in alloc; "T{number}.c : type")?;
+    accept(alloc, faces, name.as_str(), "", own.as_str())?;
+    all.push_str(name.as_str())?;
+    all.push_str(" ")?;
+    Ok(())
 }
 
 /// Theories from T0 on, as many as are wanted, with a constant `c` each, and one, U, that includes all of them.
@@ -142,11 +157,7 @@ pub fn star(alloc: Global, count: usize) -> Result<Faces, Fail> {
     let mut faces = Faces::new(alloc);
     let mut all = String::new(alloc);
     for i in 0..count {
-        let name = format!(in alloc; "T{i}")?;
-        let own = format!(in alloc; "T{i}.c : type")?;
-        accept(alloc, &mut faces, name.as_str(), "", own.as_str())?;
-        all.push_str(name.as_str())?;
-        all.push_str(" ")?;
+        add_ray(alloc, &mut faces, &mut all, i)?;
     }
     let includes = names(alloc, all.as_str())?;
     accept_over(alloc, &mut faces, "U", includes, "U.c : type")?;

@@ -17,18 +17,35 @@ D A = A B C D
 A D = A B C D
 C A D B = A C B D";
 
+/// The first line whose closure is another one.
+fn wrong_closure(alloc: Global, faces: &Faces) -> Result<Option<&'static str>, Fail> {
+    for line in CLOSURES.lines() {
+        let (inclusions, wanted) = line.split_once(" = ").ok_or("no closure")?;
+        let includes = closure(alloc, faces, inclusions)?;
+        if !are(&includes, wanted) {
+            return Ok(Some(line));
+        }
+    }
+    Ok(None)
+}
+
+/// Whether a theory is seen through these inclusions.
+fn is_seen(alloc: Global, faces: &Faces, inclusions: &str, name: &str) -> Result<bool, Fail> {
+    let includes = closure(alloc, faces, inclusions)?;
+    let name = Name::new(alloc, name)?;
+    Ok(sees(&includes, &name))
+}
+
 #[test]
 fn closures_of_the_diamond(rt: HostRuntime) -> Result<(), Fail> {
     let alloc = rt.alloc();
     let faces = diamond(alloc)?;
-    for line in CLOSURES.lines() {
-        let (inclusions, wanted) = line.split_once(" = ").ok_or("no closure")?;
-        let includes = closure(alloc, &faces, inclusions)?;
-        assert!(rt; are(&includes, wanted), "{line}");
-    }
-    let includes = closure(alloc, &faces, "C")?;
-    assert!(rt; sees(&includes, &Name::new(alloc, "A")?));
-    assert!(rt; !sees(&includes, &Name::new(alloc, "B")?));
+    let wrong = wrong_closure(alloc, &faces)?;
+    let included = is_seen(alloc, &faces, "C", "A")?;
+    let beside = is_seen(alloc, &faces, "C", "B")?;
+    drop(faces);
+    assert_eq!(rt; wrong, None);
+    assert!(rt; included && !beside);
     Ok(())
 }
 
@@ -54,16 +71,26 @@ A = A.a
 B = A.a B.k B.b 
 D = A.a B.k B.b C.k C.A.a C.B.q D.d D.B.b D.A.z D.B.q ";
 
+/// The first line whose flat signature has other names.
+fn wrong_signature(alloc: Global, faces: &Faces) -> Result<Option<&'static str>, Fail> {
+    for line in FLAT.lines() {
+        let (name, wanted) = line.split_once(" = ").ok_or("no signature")?;
+        let signature = flat(alloc, faces, name)?;
+        let text = declared(alloc, &signature)?;
+        if text.as_str() != wanted {
+            return Ok(Some(line));
+        }
+    }
+    Ok(None)
+}
+
 #[test]
 fn flat_signatures_of_the_diamond(rt: HostRuntime) -> Result<(), Fail> {
     let alloc = rt.alloc();
     let faces = diamond(alloc)?;
-    for line in FLAT.lines() {
-        let (name, wanted) = line.split_once(" = ").ok_or("no signature")?;
-        let signature = flat(alloc, &faces, name)?;
-        let text = declared(alloc, &signature)?;
-        assert!(rt; text.as_str() == wanted, "{line}");
-    }
+    let wrong = wrong_signature(alloc, &faces)?;
+    drop(faces);
+    assert_eq!(rt; wrong, None);
     Ok(())
 }
 
@@ -77,8 +104,9 @@ pub fn flat(alloc: Global, faces: &Faces, name: &str) -> Result<FlatSig, Fail> {
 fn closure_of_a_long_chain(rt: HostRuntime) -> Result<(), Fail> {
     let alloc = rt.alloc();
     let faces = long_chain(alloc)?;
-    let includes = closure(alloc, &faces, "T999 T500")?;
-    assert!(rt; includes.len() == 1_000);
+    let closed = brought(alloc, &faces, "T999 T500")?;
+    drop(faces);
+    assert_eq!(rt; closed, 1_000);
     Ok(())
 }
 
@@ -90,16 +118,28 @@ fn theory_at(signature: &FlatSig, index: usize) -> &str {
     }
 }
 
+/// How many theories these inclusions bring.
+fn brought(alloc: Global, faces: &Faces, inclusions: &str) -> Result<usize, Fail> {
+    let includes = closure(alloc, faces, inclusions)?;
+    Ok(includes.len())
+}
+
+/// Whether the flat signature of U is that of a star of 1,000: the theories' constants in order, and U's own behind them.
+fn is_wide(alloc: Global, faces: &Faces) -> Result<bool, Fail> {
+    let signature = flat(alloc, faces, "U")?;
+    let in_order = theory_at(&signature, 0) == "T0" && theory_at(&signature, 500) == "T500";
+    Ok(signature.len() == 1_001 && in_order && theory_at(&signature, 1_000) == "U")
+}
+
 #[test]
 fn flat_signature_of_a_wide_theory(rt: HostRuntime) -> Result<(), Fail> {
     let alloc = rt.alloc();
     let faces = star(alloc, 1_000)?;
-    let includes = closure(alloc, &faces, "T500 U")?;
-    assert!(rt; includes.len() == 1_001);
-    let signature = flat(alloc, &faces, "U")?;
-    assert!(rt; signature.len() == 1_001);
-    assert!(rt; theory_at(&signature, 0) == "T0" && theory_at(&signature, 500) == "T500");
-    assert!(rt; theory_at(&signature, 1_000) == "U");
+    let closed = brought(alloc, &faces, "T500 U")?;
+    let wide = is_wide(alloc, &faces)?;
+    drop(faces);
+    assert_eq!(rt; closed, 1_001);
+    assert!(rt; wide);
     Ok(())
 }
 
@@ -129,13 +169,21 @@ fn deep_theory(alloc: Global, faces: &mut Faces, depth: usize) -> Result<String,
     Ok(term)
 }
 
+/// Whether the flat signature of A ends in a declaration with this value.
+fn ends_in(alloc: Global, faces: &Faces, term: &str) -> Result<bool, Fail> {
+    let wanted = value(alloc, term)?;
+    let signature = flat(alloc, faces, "A")?;
+    Ok(signature.len() == 4 && has_value(&signature, 3, &wanted))
+}
+
 #[test]
 fn flat_signature_with_a_deep_term(rt: HostRuntime) -> Result<(), Fail> {
     let alloc = rt.alloc();
     let mut faces = Faces::new(alloc);
     let term = deep_theory(alloc, &mut faces, 500)?;
-    let wanted = value(alloc, term.as_str())?;
-    let signature = flat(alloc, &faces, "A")?;
-    assert!(rt; signature.len() == 4 && has_value(&signature, 3, &wanted));
+    let deep = ends_in(alloc, &faces, term.as_str())?;
+    drop(term);
+    drop(faces);
+    assert!(rt; deep);
     Ok(())
 }

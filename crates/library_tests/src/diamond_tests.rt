@@ -30,18 +30,34 @@ fn brings(alloc: Global, faces: &Faces, names: &str, constants: &str) -> Result<
     Ok(are(&includes, names) && text.as_str() == constants)
 }
 
+/// Whether a path stands for this where B and C are included.
+fn stands(alloc: Global, faces: &Faces, written: &str, wanted: &str) -> Result<bool, Fail> {
+    let text = stands_for(alloc, faces, written)?;
+    Ok(text.as_str() == wanted)
+}
+
+/// Whether the diamond is as it is written, with a second `k` or without: its constants, and what `k` and `B.k` stand for.
+fn is_as_written(
+    alloc: Global,
+    second: bool,
+    constants: &str,
+    k: &str,
+    qualified: &str,
+) -> Result<bool, Fail> {
+    let faces = worked_diamond(alloc, second)?;
+    let brought = brings(alloc, &faces, "A B C", constants)?;
+    let a_stands = stands(alloc, &faces, "a", "A.a")?;
+    let k_stands = stands(alloc, &faces, "k", k)?;
+    Ok(brought && a_stands && k_stands && stands(alloc, &faces, "B.k", qualified)?)
+}
+
 #[test]
 fn the_worked_diamond(rt: HostRuntime) -> Result<(), Fail> {
     let alloc = rt.alloc();
-    for (second, constants, k, qualified) in [
-        (false, "A.a B.b C.c D.d ", "unknown", "unknown"),
-        (true, "A.a B.b B.k C.c C.k D.d ", "ambiguous", "B.k"),
-    ] {
-        let faces = worked_diamond(alloc, second)?;
-        assert!(rt; brings(alloc, &faces, "A B C", constants)?);
-        assert!(rt; stands_for(alloc, &faces, "a")?.as_str() == "A.a");
-        assert!(rt; stands_for(alloc, &faces, "k")?.as_str() == k);
-        assert!(rt; stands_for(alloc, &faces, "B.k")?.as_str() == qualified);
-    }
+    let one = is_as_written(alloc, false, "A.a B.b C.c D.d ", "unknown", "unknown")?;
+    let constants = "A.a B.b B.k C.c C.k D.d ";
+    let two = is_as_written(alloc, true, constants, "ambiguous", "B.k")?;
+    assert!(rt; one, "without a second k");
+    assert!(rt; two, "with a second k");
     Ok(())
 }

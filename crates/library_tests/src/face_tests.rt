@@ -41,20 +41,37 @@ fn added(alloc: Global, faces: &mut Faces, name: &str, verdict: Verdict) -> Resu
     }
 }
 
+/// Whether a refused module R and a view V can be added, and nothing more under a name that is there.
+fn added_once(alloc: Global, faces: &mut Faces) -> Result<bool, Fail> {
+    let refused_module = added(alloc, faces, "R", refused(alloc)?)?;
+    let view = added(alloc, faces, "V", viewed(alloc)?)?;
+    let again = added(alloc, faces, "V", refused(alloc)?)?;
+    Ok(refused_module && view && !again)
+}
+
+/// What the faces have under a name: anything, a view, a theory.
+fn kinds(alloc: Global, faces: &Faces, name: &str) -> Result<(bool, bool, bool), Fail> {
+    let name = Name::new(alloc, name)?;
+    let is_there = faces.get(&name).is_some();
+    let is_view = faces.view(&name).is_some();
+    let is_theory = faces.theory(&name).is_some();
+    Ok((is_there, is_view, is_theory))
+}
+
 #[test]
 fn modules_are_found_by_kind(rt: HostRuntime) -> Result<(), Fail> {
     let alloc = rt.alloc();
     let mut faces = diamond(alloc)?;
-    assert!(rt; added(alloc, &mut faces, "R", refused(alloc)?)?);
-    assert!(rt; added(alloc, &mut faces, "V", viewed(alloc)?)?);
-    assert!(rt; !added(alloc, &mut faces, "V", refused(alloc)?)?);
-    let view = Name::new(alloc, "V")?;
-    let theory = Name::new(alloc, "D")?;
-    let other = Name::new(alloc, "E")?;
-    assert!(rt; faces.view(&view).is_some() && faces.theory(&view).is_none());
-    assert!(rt; faces.theory(&theory).is_some() && faces.view(&theory).is_none());
-    assert!(rt; faces.get(&other).is_none() && faces.theory(&other).is_none());
-    assert!(rt; faces.len() == 6);
+    let once = added_once(alloc, &mut faces)?;
+    let view = kinds(alloc, &faces, "V")?;
+    let theory = kinds(alloc, &faces, "D")?;
+    let refused_module = kinds(alloc, &faces, "R")?;
+    let absent = kinds(alloc, &faces, "E")?;
+    let count = faces.len();
+    drop(faces);
+    assert!(rt; once && count == 6);
+    assert!(rt; view == (true, true, false) && theory == (true, false, true));
+    assert!(rt; refused_module == (true, false, false) && absent == (false, false, false));
     Ok(())
 }
 

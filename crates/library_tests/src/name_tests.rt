@@ -1,7 +1,7 @@
 //! Names in a scope.
 
 use crate::cases::{accept, closure, diamond, path};
-use lf_terms::{Fam, FlatDecl, Name, Names};
+use lf_terms::{Fam, FlatDecl, FlatSig, Name, Names};
 use mmt_interface::Faces;
 use mmt_syntax::Binder;
 use names::{Found, ResolveFault, Scope, Vars, resolve};
@@ -74,9 +74,34 @@ _ _ k _ : k = #1
 e : E.e = unknown
 x : x.y = unknown";
 
-#[test]
-fn paths_in_the_diamond(rt: HostRuntime) -> Result<(), Fail> {
-    let alloc = rt.alloc();
+/// Whether a line holds in a scope: among its variables, its path stands for what it says.
+fn holds(alloc: Global, scope: &Scope<'_>, line: &str) -> Result<bool, Fail> {
+    let (around, rest) = line.split_once(" : ").ok_or("no path")?;
+    let (written, wanted) = rest.split_once(" = ").ok_or("no answer")?;
+    let vars = variables(alloc, around)?;
+    if vars.len() >= 100 {
+        return Err("too many".into());
+    }
+    let text = told(alloc, resolve(scope, &vars, &path(alloc, written)?))?;
+    Ok(text.as_str() == wanted)
+}
+
+/// The first line that does not hold in a scope.
+fn first_wrong(
+    alloc: Global,
+    scope: &Scope<'_>,
+    lines: &'static str,
+) -> Result<Option<&'static str>, Fail> {
+    for line in lines.lines() {
+        if !holds(alloc, scope, line)? {
+            return Ok(Some(line));
+        }
+    }
+    Ok(None)
+}
+
+/// The first line that does not hold in the theory E.
+fn wrong_in_the_diamond(alloc: Global) -> Result<Option<&'static str>, Fail> {
     let faces = diamond(alloc)?;
     let includes = closure(alloc, &faces, "D")?;
     let own = signature(alloc, "E.e : type\nE.A.a : type")?;
@@ -85,38 +110,59 @@ fn paths_in_the_diamond(rt: HostRuntime) -> Result<(), Fail> {
         includes: &includes,
         faces: &faces,
     };
-    for line in FOUND.lines() {
-        let (around, rest) = line.split_once(" : ").ok_or("no path")?;
-        let (written, wanted) = rest.split_once(" = ").ok_or("no answer")?;
-        let vars = variables(alloc, around)?;
-        assert!(rt; vars.len() < 100);
-        let text = told(alloc, resolve(&scope, &vars, &path(alloc, written)?))?;
-        assert!(rt; text.as_str() == wanted, "{line}");
-    }
+    first_wrong(alloc, &scope, FOUND)
+}
+
+#[test]
+fn paths_in_the_diamond(rt: HostRuntime) -> Result<(), Fail> {
+    let wrong = wrong_in_the_diamond(rt.alloc())?;
+    assert_eq!(rt; wrong, None);
     Ok(())
 }
 
-/// Where there are so many variables `x` with a number behind it, and as many own constants `c`, what a path stands for.
-fn among_many(alloc: Global, count: usize, written: &str) -> Result<String, Fail> {
+/// So many names, `x` with a number behind it, with spaces between them.
+fn many_variables(alloc: Global, count: usize) -> Result<Vars, Fail> {
     let mut around = String::new(alloc);
-    let mut constants = String::new(alloc);
     for i in 0..count {
         around.push_str(format!(in alloc; "x{i} ")?.as_str())?;
+    }
+    variables(alloc, around.as_str())
+}
+
+/// As many own constants, `c` with a number behind it.
+fn many_constants(alloc: Global, count: usize) -> Result<Box<FlatSig>, Fail> {
+    let mut constants = String::new(alloc);
+    for i in 0..count {
         constants.push_str(format!(in alloc; "E.c{i} : type\n")?.as_str())?;
     }
-    let own = signature(alloc, constants.as_str())?;
-    let vars = variables(alloc, around.as_str())?;
+    signature(alloc, constants.as_str())
+}
+
+/// What a path stands for among these variables and own constants, where nothing is included.
+fn among(
+    alloc: Global,
+    own: &FlatSig,
+    vars: &Vars,
+    written: &str,
+) -> Result<String, Fail> {
     let includes = Names::new(alloc);
     let faces = Faces::new(alloc);
     let scope = Scope {
-        own: &own,
+        own,
         includes: &includes,
         faces: &faces,
     };
     if vars.len() > 10_000 {
         return Err("too many".into());
     }
-    told(alloc, resolve(&scope, &vars, &path(alloc, written)?))
+    told(alloc, resolve(&scope, vars, &path(alloc, written)?))
+}
+
+/// What a path stands for among so many variables and as many own constants.
+fn among_many(alloc: Global, count: usize, written: &str) -> Result<String, Fail> {
+    let own = many_constants(alloc, count)?;
+    let vars = many_variables(alloc, count)?;
+    among(alloc, &own, &vars, written)
 }
 
 #[test]

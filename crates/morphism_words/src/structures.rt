@@ -47,15 +47,18 @@ pub(crate) fn lent_structures_link<'a>(
     let Some(structure) = structure(structs, name) else {
         return Ok(None);
     };
-    let outer = structure_link(theory, structure);
     if rest.is_empty() {
-        return Ok(Some(outer));
+        return Ok(Some(structure_link(theory, structure)));
     }
     let Some(face) = faces.theory(&structure.domain) else {
         return Ok(None);
     };
     match lent_structures_link(alloc, faces, &structure.domain, &face.structs, rest)? {
-        Some(inner) => Ok(Some(inner.followed_by(alloc, &outer)?)),
+        Some(inner) => {
+            // Made here alone, since each exit with a link in hand has a proof for each form of its map.
+            let outer = structure_link(theory, structure);
+            Ok(Some(inner.followed_by(alloc, &outer)?))
+        }
         None => Ok(None),
     }
 }

@@ -2,7 +2,8 @@
 ghost use Rattle.std.specs.Prelude.{◌≡◌, ◌<◌};
 
 use lf_terms::{
-    Arc, FlatSig, HeadMap, Image, MapFault, Name, PushFault, QName, Steps, same_class, same_value,
+    Arc, FlatSig, HeadMap, Image, MapFault, MapPart, Name, PushFault, QName, Steps, same_class,
+    same_value,
 };
 use std::alloc::Global;
 use std::marker::Brand;
@@ -125,32 +126,46 @@ fn is_same_pair(pair: Option<(&QName, &Image)>, wanted: Option<(&QName, &Image)>
     }
 }
 
-#[test]
-fn maps_share_the_images_of_the_identity(rt: HostRuntime) -> Result<(), Fail> {
-    let alloc = rt.alloc();
-    let wanted = map(alloc, KEPT)?;
-    let mut sig = signature(alloc, DECLARED)?;
-    let unfinished = sig.identity().is_none();
-    sig.finish(alloc)?;
-    let part = sig.identity().ok_or("no identity")?;
+/// Whether a map that takes in this part alone, and its copy, are the map of a text, and the part is not taken in twice.
+fn shares(alloc: Global, part: &Arc<MapPart>, text: &str) -> Result<bool, Fail> {
+    let wanted = map(alloc, text)?;
     let mut shared = HeadMap::new(alloc);
     shared.push_part(alloc, part)?;
     let twice = shared.push_part(alloc, part).is_err();
+    let same = is_same_map(&shared, &wanted);
     let copied = shared.copy(alloc)?;
-    assert!(rt; unfinished && twice);
-    assert!(rt; is_same_map(&shared, &wanted) && is_same_map(&copied, &wanted));
+    Ok(twice && same && is_same_map(&copied, &wanted))
+}
+
+#[test]
+fn maps_share_the_images_of_the_identity(rt: HostRuntime) -> Result<(), Fail> {
+    let alloc = rt.alloc();
+    let mut sig = signature(alloc, DECLARED)?;
+    let unfinished = sig.identity().is_none();
+    sig.finish(alloc)?;
+    let shared = shares(alloc, sig.identity().ok_or("no identity")?, KEPT)?;
+    drop(sig);
+    assert!(rt; unfinished && shared);
     Ok(())
+}
+
+/// Whether a map of the first text that takes in this part behind its pairs is the map of the second one.
+fn is_copied(alloc: Global, part: &Arc<MapPart>, first: &str, text: &str) -> Result<bool, Fail> {
+    let wanted = map(alloc, text)?;
+    let mut behind = map(alloc, first)?;
+    behind.push_part(alloc, part)?;
+    Ok(is_same_map(&behind, &wanted))
 }
 
 #[test]
 fn a_part_behind_pairs_is_copied(rt: HostRuntime) -> Result<(), Fail> {
     let alloc = rt.alloc();
-    let wanted = map(alloc, BEHIND)?;
     let mut sig = signature(alloc, DECLARED)?;
     sig.finish(alloc)?;
-    let mut behind = map(alloc, MAPPED_FIRST)?;
-    behind.push_part(alloc, sig.identity().ok_or("no identity")?)?;
-    assert!(rt; is_same_map(&behind, &wanted));
+    let part = sig.identity().ok_or("no identity")?;
+    let copied = is_copied(alloc, part, MAPPED_FIRST, BEHIND)?;
+    drop(sig);
+    assert!(rt; copied);
     Ok(())
 }
 

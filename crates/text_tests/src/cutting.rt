@@ -60,6 +60,12 @@ fn push_kind(line: &mut String, kind: &TokenKind) -> Result<(), AllocError> {
     line.push_str(word)
 }
 
+/// Whether a text is cut into these tokens.
+fn is_cut(alloc: Global, text: &[u8], want: &str) -> Result<bool, AllocError> {
+    let line = cut(alloc, text)?;
+    Ok(line.as_str() == want)
+}
+
 #[test]
 fn the_table_of_tokens(rt: HostRuntime) -> Result<(), Fail> {
     let alloc = rt.alloc();
@@ -101,8 +107,7 @@ fn the_table_of_tokens(rt: HostRuntime) -> Result<(), Fail> {
             "ident/\u{0}\u{1} 1-3 ident/\u{7f} 4-5 end 5",
         ),
     ] {
-        let line = cut(alloc, text.as_bytes())?;
-        assert_eq!(rt; line.as_str(), want, "{text}");
+        assert!(rt; is_cut(alloc, text.as_bytes(), want)?, "{text}");
     }
     Ok(())
 }
@@ -110,10 +115,8 @@ fn the_table_of_tokens(rt: HostRuntime) -> Result<(), Fail> {
 #[test]
 fn bytes_that_are_no_text(rt: HostRuntime) -> Result<(), Fail> {
     let alloc = rt.alloc();
-    let line = cut(alloc, b"a %. \xff")?;
-    assert_eq!(rt; line.as_str(), "not UTF-8 at 5");
-    let line = cut(alloc, b"%{ \xc3")?;
-    assert_eq!(rt; line.as_str(), "not UTF-8 at 3");
+    assert!(rt; is_cut(alloc, b"a %. \xff", "not UTF-8 at 5")?);
+    assert!(rt; is_cut(alloc, b"%{ \xc3", "not UTF-8 at 3")?);
     Ok(())
 }
 

@@ -18,21 +18,27 @@ fn nested(alloc: Global, before: &str, count: u32, after: &str) -> Result<String
     Ok(text)
 }
 
+/// Whether this line is the answer to such a theory.
+fn is_answered(alloc: Global, before: &str, count: u32, after: &str, want: &str) -> Result<bool, Fail> {
+    let text = nested(alloc, before, count, after)?;
+    let line = answered(alloc, text.as_bytes())?;
+    Ok(line.as_str() == want)
+}
+
+/// Whether arrows are printed as they are written, and brackets are left out.
+fn are_read(alloc: Global, count: u32) -> Result<bool, Fail> {
+    let arrows = nested(alloc, "a -> ", count, "")?;
+    let bare = nested(alloc, "", 0, "")?;
+    let arrows_read = is_answered(alloc, "a -> ", count, "", arrows.as_str())?;
+    Ok(arrows_read && is_answered(alloc, "(", count, ")", bare.as_str())?)
+}
+
 #[test]
 fn the_limit_of_nesting(rt: HostRuntime) -> Result<(), Fail> {
     let alloc = rt.alloc();
-    let arrows = nested(alloc, "a -> ", 499, "")?;
-    let bare = nested(alloc, "", 0, "")?;
-    for (before, count, after, want) in [
-        ("a -> ", 499, "", arrows.as_str()),
-        ("a -> ", 500, "", "3:2505 too deep"),
-        ("(", 499, ")", bare.as_str()),
-        ("(", 500, ")", "3:505 too deep"),
-    ] {
-        let text = nested(alloc, before, count, after)?;
-        let line = answered(alloc, text.as_bytes())?;
-        assert_eq!(rt; line.as_str(), want);
-    }
+    assert!(rt; are_read(alloc, 499)?);
+    assert!(rt; is_answered(alloc, "a -> ", 500, "", "3:2505 too deep")?);
+    assert!(rt; is_answered(alloc, "(", 500, ")", "3:505 too deep")?);
     Ok(())
 }
 

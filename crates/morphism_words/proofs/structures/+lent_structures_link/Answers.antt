@@ -17,7 +17,7 @@ returns-in_default-structure t c =
 pub returns-then-is_empty : goal.returns-then-is_empty
 returns-then-is_empty t c =
     let path = c.args.path.now in
-    ap Some c.structure_link-outer.ensures
+    ap Some c.structure_link.ensures
     ∙ sym (alone (environment_of c.args.faces.now) c.args.theory.now (read_structures c.args.structs.now) path c.name-item.result c.in-len1-up.len_at_least c.name-item.is
     (read_structure c.in-Some.structure.now) c.in-Some.ensures (rest_empty path true (sym c.if-is_empty.true ∙ c.is_empty.ensures)))
 
@@ -31,8 +31,8 @@ returns-in_default-theory t c =
     structure None c.in-Some.ensures (rest_empty path false (sym c.if-is_empty.false ∙ c.is_empty.ensures)) c.in_default-theory.ensures.meaning
     ∙ ap (λ o. behind_structure o outer) (no_structures environment structure.domain (drop 1 path)))
 
-pub returns-in-Some-2 : goal.returns-in-Some-2
-returns-in-Some-2 t c =
+pub returns-in_ok-followed_by-in-Some-2 : goal.returns-in_ok-followed_by-in-Some-2
+returns-in_ok-followed_by-in-Some-2 t c =
     let environment = environment_of c.args.faces.now in
     let path = c.args.path.now in
     let structure = read_structure c.in-Some.structure.now in
@@ -44,8 +44,8 @@ returns-in-Some-2 t c =
     structure (Some face) c.in-Some.ensures (rest_empty path false (sym c.if-is_empty.false ∙ c.is_empty.ensures)) c.in-Some-theory.ensures.meaning
     ∙ ap (λ o. behind_structure o outer) (sym behind))
 
-pub returns : goal.returns
-returns t c =
+pub returns-in-None : goal.returns-in-None
+returns-in-None t c =
     let environment = environment_of c.args.faces.now in
     let path = c.args.path.now in
     let structure = read_structure c.in-Some.structure.now in
