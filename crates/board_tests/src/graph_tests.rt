@@ -71,11 +71,7 @@ fn each_reaches(alloc: Global, graph: &Graph, cases: &[(&str, &str)]) -> Result<
 }
 
 /// Whether in each of these lists the first ungrounded name stands at the place beside it.
-fn each_first(
-    alloc: Global,
-    graph: &Graph,
-    cases: &[(&str, Option<usize>)],
-) -> Result<bool, Fail> {
+fn each_first(alloc: Global, graph: &Graph, cases: &[(&str, Option<usize>)]) -> Result<bool, Fail> {
     for case in cases {
         if first(alloc, graph, case.0)? != case.1 {
             return Ok(false);

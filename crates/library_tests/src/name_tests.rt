@@ -139,12 +139,7 @@ fn many_constants(alloc: Global, count: usize) -> Result<Box<FlatSig>, Fail> {
 }
 
 /// What a path stands for among these variables and own constants, where nothing is included.
-fn among(
-    alloc: Global,
-    own: &FlatSig,
-    vars: &Vars,
-    written: &str,
-) -> Result<String, Fail> {
+fn among(alloc: Global, own: &FlatSig, vars: &Vars, written: &str) -> Result<String, Fail> {
     let includes = Names::new(alloc);
     let faces = Faces::new(alloc);
     let scope = Scope {

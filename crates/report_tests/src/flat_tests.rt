@@ -165,31 +165,38 @@ fn a_carried_judgement(rt: HostRuntime) -> Result<(), Fail> {
     let alloc = rt.alloc();
     let faces = library(alloc)?;
     let carried = judged(alloc, "U.g (U.g U.z U.z) (U.g U.z U.z)", "U.u")?;
-    assert!(rt;
-        carries(
-            alloc,
-            &faces,
-            "F",
-            carried,
-            "F @3 carries g (g z z) (g z z) : u\n"
-        )?
-    );
+    let line = "F @3 carries g (g z z) (g z z) : u\n";
+    let is_carried = carries(alloc, &faces, "F", carried, line)?;
+    drop(faces);
+    assert!(rt; is_carried);
     Ok(())
+}
+
+/// Whether the line says so that S is no view.
+fn is_no_view(alloc: Global, faces: &Faces) -> Result<bool, Fail> {
+    let name = Name::new(alloc, "S")?;
+    let line = carry_text(alloc, faces, &name, 3, &Err(CarryFault::NoView))?;
+    Ok(line.as_slice() == "S @3 no-view\n".as_bytes())
+}
+
+/// Whether the line says so that a judgement is ill, with the byte counted from 1.
+fn is_ill(alloc: Global, faces: &Faces) -> Result<bool, Fail> {
+    let name = Name::new(alloc, "F")?;
+    let ill = CarryFault::Ill {
+        span: Span { from: 2, to: 3 },
+        rule: Rule::Mismatch,
+    };
+    let line = carry_text(alloc, faces, &name, 3, &Err(ill))?;
+    Ok(line.as_slice() == "F @3 ill 3 mismatch\n".as_bytes())
 }
 
 #[test]
 fn no_view_and_an_ill_judgement(rt: HostRuntime) -> Result<(), Fail> {
     let alloc = rt.alloc();
     let faces = library(alloc)?;
-    let name = Name::new(alloc, "S")?;
-    let line = carry_text(alloc, &faces, &name, 3, &Err(CarryFault::NoView))?;
-    assert!(rt; line.as_slice() == "S @3 no-view\n".as_bytes());
-    let name = Name::new(alloc, "F")?;
-    let ill = CarryFault::Ill {
-        span: Span { from: 2, to: 3 },
-        rule: Rule::Mismatch,
-    };
-    let line = carry_text(alloc, &faces, &name, 3, &Err(ill))?;
-    assert!(rt; line.as_slice() == "F @3 ill 3 mismatch\n".as_bytes());
+    let no_view = is_no_view(alloc, &faces)?;
+    let ill = is_ill(alloc, &faces)?;
+    drop(faces);
+    assert!(rt; no_view && ill);
     Ok(())
 }

@@ -58,18 +58,28 @@ fn a_damaged_file(rt: HostRuntime) -> Result<(), Fail> {
     Ok(())
 }
 
+/// Appends a put of the natural numbers; whether it is made.
+fn put(alloc: Global, log: &mut Log) -> Result<bool, Fail> {
+    let name = Name::new(alloc, "Nat")?;
+    let bytes = Bytes::from_vec(Vec::from_slice(alloc, NAT)?);
+    let text = Arc::new(alloc, bytes)?;
+    Ok(log.append(alloc, Edit::Put { name, text }).is_ok())
+}
+
+/// Whether the text of a log is this.
+fn is_told(alloc: Global, log: &Log, wanted: &str) -> Result<bool, Fail> {
+    let text = log_text(alloc, log)?;
+    Ok(is(&text, wanted))
+}
+
 #[test]
 fn a_log_of_one_edit(rt: HostRuntime) -> Result<(), Fail> {
     let alloc = rt.alloc();
     let mut log = Log::new(alloc);
-    let bytes = Bytes::from_vec(Vec::from_slice(alloc, NAT)?);
-    let name = Name::new(alloc, "Nat")?;
-    let text = Arc::new(alloc, bytes)?;
-    match log.append(alloc, Edit::Put { name, text }) {
-        Ok(_) => {}
-        Err(_) => return Err("not put".into()),
-    }
-    assert!(rt; is(&log_text(alloc, &log)?, "@1 log\n1 put Nat 53\n"));
+    let made = put(alloc, &mut log)?;
+    let told = is_told(alloc, &log, "@1 log\n1 put Nat 53\n")?;
+    drop(log);
+    assert!(rt; made && told);
     Ok(())
 }
 

@@ -19,7 +19,13 @@ fn nested(alloc: Global, before: &str, count: u32, after: &str) -> Result<String
 }
 
 /// Whether this line is the answer to such a theory.
-fn is_answered(alloc: Global, before: &str, count: u32, after: &str, want: &str) -> Result<bool, Fail> {
+fn is_answered(
+    alloc: Global,
+    before: &str,
+    count: u32,
+    after: &str,
+    want: &str,
+) -> Result<bool, Fail> {
     let text = nested(alloc, before, count, after)?;
     let line = answered(alloc, text.as_bytes())?;
     Ok(line.as_str() == want)
