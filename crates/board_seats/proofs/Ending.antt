@@ -44,7 +44,8 @@ at_point subject seen pass point job p m =
 
 -- ---- what a claim hands out
 
-claim_stands_last : {Meaning : Type 0} (subject : Subject Meaning) (H : History) (job : Job Meaning) → claim_reply subject H ≡ Some job → job.claim ≡ length H
+-- the claim of the job is the last entry
+pub claim_stands_last : {Meaning : Type 0} (subject : Subject Meaning) (H : History) (job : Job Meaning) → claim_reply subject H ≡ Some job → job.claim ≡ length H
 claim_stands_last {Meaning} subject H job h = by (least_ready subject.dependencies H) h
   where
     by : (o : Option Name) → option_and_then (job_after subject H) o ≡ Some job → job.claim ≡ length H

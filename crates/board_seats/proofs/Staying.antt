@@ -10,7 +10,7 @@ use Rattle.list_laws.proofs.Places.{get_front, take_front}
 use Rattle.board_meaning.specs.Events.{Event, Release, Entry, History, entry_of}
 use Rattle.board_meaning.specs.Claims.{ends_claim, is_ended, is_open}
 use Rattle.board_meaning.specs.Ready.{is_closed, least_ready}
-use Rattle.board_meaning.specs.Machine.{Job, job_after, job_of, edit_reply, Installed, IsInstalled, IsStale, install_event, install_reply, Call, EditCall, ClaimCall, InstallCall, ReleaseCall, CloseCall, event_of, is_by, may_call}
+use Rattle.board_meaning.specs.Machine.{Job, job_after, job_of, edit_reply, Installed, IsInstalled, IsStale, install_event, install_reply, Call, EditCall, ClaimCall, InstallCall, ReleaseCall, CloseCall, event_of, is_by, may_call, after_call}
 use Rattle.board_meaning.specs.Legal.{IsLegal}
 use Rattle.board_meaning.specs.Points.{number_of, BoardCall, Makes, Reports, AsksAnswers, AsksClosed, Reply, added_by}
 use Rattle.board_machine_laws.proofs.Claiming.{claim_front}
@@ -78,6 +78,13 @@ module _ {Meaning : Type 0} (subject : Subject Meaning) (H : History) (pass : �
         installs = same_call ∙ may.installs;
         releases = same_call ∙ may.releases;
       }
+
+-- after a call, by any pass, that does not end its claim
+pub stays_after : {Meaning : Type 0} (subject : Subject Meaning) (H : History) (pass : ℕ) (job : Job Meaning) (caller : ℕ) (call : Call) → is_end job.claim call ≡ false
+    → MayEnd subject H pass job → MayEnd subject (after_call subject.dependencies H caller call) pass job
+unfolding after_call
+stays_after subject H pass job caller call h may =
+    stays subject H pass job may (added_by subject.dependencies H caller (Makes call)) (none_ends subject.dependencies H caller job.claim (Makes call) h)
 
 -- ---- the laws
 

@@ -1,12 +1,13 @@
 //! Judgements carried along views.
 ghost use Rattle.mmt_interface.specs.CoherentFaces.{AreCoherent};
 
+use crate::judged::{Judged, judge_all};
 use crate::link_tests::CARRIED;
 use lf_terms::{Name, same_fam, same_obj};
 use mmt_interface::{Carried, CarryFault};
+use module_check::carry;
 use std::alloc::Global;
 use std::test::Fail;
-use test_libraries::{Judged, carry, judge_all};
 use test_texts::{family, object};
 
 /// What the judgement of a text comes to along the view of a name.

@@ -1,11 +1,11 @@
 //! What the verdicts of libraries tell.
 
+use crate::judged::{Judged, judge_all};
 use lf_terms::{Name, Path};
 use mmt_interface::{Interface, Refusal, Verdict};
 use mmt_syntax::place_of;
 use std::alloc::Global;
 use std::test::Fail;
-use test_libraries::{Judged, judge_all};
 
 /// The names of a path, joined by dots.
 fn dotted(alloc: Global, path: &Path) -> Result<String, Fail> {

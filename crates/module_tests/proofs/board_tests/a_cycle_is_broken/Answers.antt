@@ -1,0 +1,10 @@
+use denote.Exit.{yes}
+use denote.Param.Send.{arg_send, arg_sync, param_send, param_sync}
+use Rattle.module_check.proofs.Crossing.{verdict_row_send, verdict_row_sync}
+use Rattle.module_tests.proofs.board_tests.a_cycle_is_broken.Goals as goal
+
+pub a_cycle_is_broken-requires-send-S-Answer : goal.a_cycle_is_broken-requires-send-S-Answer
+a_cycle_is_broken-requires-send-S-Answer c κs = param_send _ _ (arg_send _ yes _ verdict_row_send)
+
+pub a_cycle_is_broken-requires-sync-S-Answer : goal.a_cycle_is_broken-requires-sync-S-Answer
+a_cycle_is_broken-requires-sync-S-Answer c κs = param_sync _ _ (arg_sync _ yes _ verdict_row_sync)
