@@ -1,1 +1,2 @@
+pub mod HeldNames
 pub mod SharedText

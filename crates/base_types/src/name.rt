@@ -1,8 +1,7 @@
 //! Names: identifiers. The bytes of a short one stand in the name itself, and those of a longer one are shared, so that a
 //! copy costs the same for a name of any length.
-ghost use Rattle.std.specs.Prelude.{◌≡◌, ◌↔◌, ◌<◌, IfOk, IfSome, OnOk, IsErrOf, IsNone, IsTrue, length, not, nat_eq, refl, Some};
+ghost use Rattle.std.specs.Prelude.{◌≡◌, ◌↔◌, ◌<◌, ◌∷◌, [], IfOk, IfSome, OnOk, IsErrOf, IsNone, IsTrue, length, not, nat_eq, refl, Some};
 ghost use Rattle.std.specs.Ordering.{nat_cmp};
-ghost use Rattle.std.specs.Hash as fed;
 ghost use Rattle.std.specs.Cmp.{partial_equiv_from_equiv};
 ghost use Rattle.std.specs.Cmp.Rules.{hashing};
 ghost use Rattle.std.specs.Cmp.Lexicographic.{pointwise, slice_cmp, nat_list_eq_equiv, nat_list_cmp_total, texts_ties, texts_po};
@@ -175,11 +174,13 @@ impl Ord for Name {
 impl Hash for Name {
     ghost use Rattle.std.proofs.Common.{rules};
 
-    ghost hash_input = { fed.str };
+    // The bytes alone, which need no test of UTF-8, and no mark of their end, since a hasher tells writes of one length from those of
+    // another.
+    ghost hash_input = { λ name. name ∷ [] };
 
     ghost respects_eq = { Prim.search (hashing, rules) };
 
     fn hash<H: Hasher>(&self, state: &mut H) {
-        self.as_str().hash(state);
+        state.write(self.as_bytes());
     }
 }

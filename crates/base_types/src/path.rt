@@ -1,30 +1,44 @@
-//! Paths: names that are joined by dots where they are written. Most have one or two, and take no memory of their own.
+//! Paths: names that are joined by dots where they are written. Most have one or two, and take no memory of their own. Copies of a
+//! longer one share its names.
 ghost use Rattle.std.specs.Prelude.{◌≡◌, ◌<◌, ◌∷◌, ◌++◌, [], length, nat_eq, IfErr, IfOk, OnErr, OnOk};
 ghost use Rattle.std.specs.Hash as fed;
 ghost use Rattle.std.specs.Cmp.Rules.{hashing};
 ghost use Rattle.std.specs.Cmp.{partial_equiv_from_equiv};
 ghost use Rattle.std.specs.Cmp.Lexicographic.{pointwise, lists_equiv, nat_list_eq_equiv};
+ghost use Rattle.base_types.specs.HeldNames.{held_names};
 
 use crate::{Memory, Name};
 use smallvec::SmallVec;
 use std::alloc::Global;
 use std::hash::{Hash, Hasher};
 use std::marker::Model;
+use std::sync::ArcSlice;
 
 /// At least one name, seen as the list of them.
 #[derive(Debug, Drop)]
 pub struct Path {
-    names: SmallVec<Name, 2>,
+    names: Held,
+}
+
+/// How names are held: by the path alone, or shared by copies of it.
+#[derive(Debug, Drop)]
+enum Held {
+    Own(SmallVec<Name, 2>),
+    Shared {
+        names: ArcSlice<Name>,
+        alloc: Global,
+    },
 }
 
 impl Model for Path {
     ghost use Rattle.std.specs.Prelude.{List, ℕ, ◌<◌, length};
+    ghost use Rattle.base_types.specs.HeldNames.{held_names};
 
     ghost Value = { List (List ℕ) };
 
-    ghost view = { λ p. p.names.items };
+    ghost view = { λ p. held_names p.names };
 
-    ghost invariant = { λ p. 0 < length p.names.items };
+    ghost invariant = { λ p. 0 < length (held_names p.names) };
 }
 
 impl Path {
@@ -34,7 +48,26 @@ impl Path {
     {
         let mut names = SmallVec::new(alloc);
         names.push(first)?;
-        Ok(Path { names })
+        Ok(Path {
+            names: Held::Own(names),
+        })
+    }
+
+    /// The path of copies of these names. Its copies share them.
+    pub fn of(alloc: Global, first: &Name, more: &[Name]) -> Result<Path, Memory>
+        ensures { IfOk result (λ path. path ≡ first.now ∷ more.now) }
+    {
+        let mut names = Vec::with_capacity(alloc, more.len() + 1)?;
+        names.push_reserved(first.copy(alloc)?);
+        for name in more {
+            names.push(name.copy(alloc)?)?;
+        }
+        Ok(Path {
+            names: Held::Shared {
+                names: ArcSlice::from_vec(names)?,
+                alloc,
+            },
+        })
     }
 
     /// Adds a name at the end, or hands it back for want of memory.
@@ -43,9 +76,23 @@ impl Path {
         ensures err { OnErr result (self.new ≡ self.old) }
         ensures back { IfErr result (λ back. back ≡ name) }
     {
-        match self.names.push(name) {
-            Ok(()) => Ok(()),
-            Err(failed) => Err(failed.value),
+        match &mut self.names {
+            Held::Own(names) => match names.push(name) {
+                Ok(()) => Ok(()),
+                Err(failed) => Err(failed.value),
+            },
+            Held::Shared { names, alloc } => {
+                let Ok(mut own) = copies(*alloc, names.as_slice()) else {
+                    return Err(name);
+                };
+                match own.push(name) {
+                    Ok(()) => {
+                        self.names = Held::Own(own);
+                        Ok(())
+                    }
+                    Err(failed) => Err(failed.value),
+                }
+            }
         }
     }
 
@@ -54,7 +101,7 @@ impl Path {
         ensures len { result ≡ length self.now }
         ensures some { 0 < result }
     {
-        self.names.len()
+        self.as_slice().len()
     }
 
     /// The names, from the first to the last.
@@ -62,19 +109,51 @@ impl Path {
         ensures names { result.now ≡ self.now }
         ensures some { 0 < length result.now }
     {
-        self.names.as_slice()
+        match &self.names {
+            Held::Own(names) => names.as_slice(),
+            Held::Shared { names, .. } => names.as_slice(),
+        }
     }
 
-    /// An equal path, of copies of the names.
+    /// An equal path. It shares the names where there are more than two, with the path if that was made from names, and with its
+    /// own copies in any case.
     pub fn copy(&self, alloc: Global) -> Result<Path, Memory>
         ensures { IfOk result (λ path. path ≡ self.now) }
     {
-        let mut names = SmallVec::new(alloc);
-        for name in self.names.as_slice() {
-            names.push(name.copy(alloc)?)?;
-        }
+        let names = match &self.names {
+            Held::Own(names) => held_copies(alloc, names.as_slice())?,
+            Held::Shared { names, alloc } => Held::Shared {
+                names: names.clone()?,
+                alloc: *alloc,
+            },
+        };
         Ok(Path { names })
     }
+}
+
+/// Copies of names, for one owner if there are at most two.
+fn held_copies(alloc: Global, names: &[Name]) -> Result<Held, Memory>
+    ensures { IfOk result (λ held. held_names held ≡ names.now) }
+{
+    let own = copies(alloc, names)?;
+    if own.len() <= 2 {
+        return Ok(Held::Own(own));
+    }
+    Ok(Held::Shared {
+        names: ArcSlice::from_vec(own.into_vec()?)?,
+        alloc,
+    })
+}
+
+/// Copies of names.
+fn copies(alloc: Global, names: &[Name]) -> Result<SmallVec<Name, 2>, Memory>
+    ensures { IfOk result (λ copies. copies.items ≡ names.now) }
+{
+    let mut copies = SmallVec::with_capacity(alloc, names.len())?;
+    for name in names {
+        copies.push(name.copy(alloc)?)?;
+    }
+    Ok(copies)
 }
 
 impl PartialEq for Path {
@@ -83,7 +162,7 @@ impl PartialEq for Path {
     ghost laws = { partial_equiv_from_equiv (lists_equiv nat_list_eq_equiv) };
 
     fn eq(&self, other: &Self) -> bool {
-        self.names == other.names
+        self.as_slice() == other.as_slice()
     }
 }
 
@@ -95,11 +174,11 @@ impl Hash for Path {
     ghost use Rattle.std.proofs.Common.{rules};
     ghost use Rattle.std.specs.Hash.{items_Alike};
 
-    ghost hash_input = { fed.slice fed.str };
+    ghost hash_input = { fed.slice (λ name. name ∷ []) };
 
-    ghost respects_eq = { (items_Alike {E = pointwise nat_eq} {F = fed.str} (record { fed = Prim.search (hashing, rules) })).fed };
+    ghost respects_eq = { (items_Alike {E = pointwise nat_eq} {F = λ name. name ∷ []} (record { fed = Prim.search (hashing, rules) })).fed };
 
     fn hash<H: Hasher>(&self, state: &mut H) {
-        self.names.hash(state);
+        self.as_slice().hash(state);
     }
 }

@@ -1,6 +1,5 @@
 //! Names in the place of the path that they make.
-ghost use Rattle.std.specs.Prelude.{nat_eq};
-ghost use Rattle.std.specs.Hash as fed;
+ghost use Rattle.std.specs.Prelude.{◌∷◌, [], nat_eq};
 ghost use Rattle.std.specs.Cmp.Rules.{hashing};
 ghost use Rattle.std.specs.Cmp.Lexicographic.{pointwise, lists_equiv, nat_list_eq_equiv};
 
@@ -17,7 +16,7 @@ impl Equivalent<Path> for PathNames<'_> {
 
     ghost equivalent = { λ q. pointwise (pointwise nat_eq) q.0.now };
 
-    ghost respects_hash = { λ q. (items_Alike {E = pointwise nat_eq} {F = fed.str} (record { fed = Prim.search (hashing, rules) })).fed q.0.now };
+    ghost respects_hash = { λ q. (items_Alike {E = pointwise nat_eq} {F = λ name. name ∷ []} (record { fed = Prim.search (hashing, rules) })).fed q.0.now };
 
     ghost respects_eq = { λ q. (lists_equiv nat_list_eq_equiv).congr q.0.now };
 

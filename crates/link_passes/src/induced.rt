@@ -2,7 +2,6 @@
 ghost use Rattle.std.specs.Prelude.{◌≡◌, ◌∷◌, IfOk};
 ghost use Rattle.term_trees.specs.Readings.{read_constant};
 
-use crate::labels::path_of;
 use lf_terms::{Memory, Name, Path, QName};
 use std::alloc::Global;
 
@@ -18,6 +17,6 @@ pub fn induced_constant(
 {
     Ok(QName {
         theory: codomain.copy(alloc)?,
-        path: path_of(alloc, structure, path.as_slice())?,
+        path: Path::of(alloc, structure, path.as_slice())?,
     })
 }

@@ -1,5 +1,4 @@
-//! Paths, and refusals that are labelled by them.
-ghost use Rattle.std.specs.Prelude.{◌≡◌, ◌∷◌, ◌++◌, [], IfOk, OnOk};
+//! Refusals that are labelled by paths.
 ghost use Rattle.link_meaning.specs.Assignments.{label_along};
 ghost use Rattle.link_meaning.specs.Refusals as refusals;
 ghost use Rattle.mmt_syntax.specs.Readings.{read_span};
@@ -8,31 +7,10 @@ ghost use Rattle.morphism.specs.Readings.{read_setting};
 ghost use Rattle.morphism.specs.Answers.{Links};
 ghost use Rattle.link_passes.specs.Answers.{Refuses};
 
-use lf_terms::{Memory, Name, Path, Span};
+use lf_terms::{Memory, Path, Span};
 use mmt_interface::{Refusal, Rule};
-use morphism::{LinkFault, Setting};
+use morphism::{LinkFault, Setting, label_along};
 use std::alloc::Global;
-
-/// The path of these names.
-pub(crate) fn path_of(alloc: Global, first: &Name, more: &[Name]) -> Result<Path, Memory>
-    ensures { IfOk result (λ path. path ≡ first.now ∷ more.now) }
-{
-    let mut path = Path::new(alloc, first.copy(alloc)?)?;
-    for name in more {
-        add_name(&mut path, name.copy(alloc)?)?;
-    }
-    Ok(path)
-}
-
-/// The label of an assignment of this link.
-fn label(alloc: Global, setting: &Setting<'_>, target: &Path) -> Result<Path, Memory>
-    ensures { IfOk result (λ label. label ≡ label_along (read_setting setting.now) target.now) }
-{
-    match setting.structure {
-        Some(structure) => path_of(alloc, structure, target.as_slice()),
-        None => target.copy(alloc),
-    }
-}
 
 /// A rule that is broken at a place, with the label of an assignment of this link.
 pub(crate) fn refused(
@@ -44,7 +22,7 @@ pub(crate) fn refused(
 ) -> LinkFault
     ensures { Refuses result (read_span span) (read_rule rule) (label_along (read_setting setting.now) target.now) }
 {
-    match label(alloc, setting, target) {
+    match label_along(alloc, setting, target) {
         Ok(label) => LinkFault::Broken(Refusal { span, rule, label }),
         Err(_) => LinkFault::Memory,
     }
@@ -65,15 +43,5 @@ pub(crate) fn demand(
         Ok(())
     } else {
         Err(refused(alloc, setting, target, span, rule))
-    }
-}
-
-/// Adds a name at the end, or lets it go for want of memory.
-fn add_name(path: &mut Path, name: Name) -> Result<(), Memory>
-    ensures { OnOk result (path.new ≡ path.old ++ name ∷ []) }
-{
-    match path.push(name) {
-        Ok(()) => Ok(()),
-        Err(_) => Err(Memory),
     }
 }

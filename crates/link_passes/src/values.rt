@@ -14,7 +14,7 @@ ghost use Rattle.link_passes.specs.Reaching.{read_rest, or_reached};
 ghost use Rattle.link_passes.specs.Steps.{assigned_value, shared_value, translated_definition, value_if_definition, value_reached};
 
 use crate::induced::induced_constant;
-use crate::labels::{demand, path_of, refused};
+use crate::labels::{demand, refused};
 use crate::reached::{Reached, Rest};
 use crate::translated::translated_value;
 use elaborate::{ElabFault, elab_value};
@@ -119,7 +119,7 @@ fn shared_value(
 {
     let constant = QName {
         theory: structure.domain.copy(alloc)?,
-        path: path_of(alloc, rest.first, rest.more)?,
+        path: Path::of(alloc, rest.first, rest.more)?,
     };
     match by.map.get(&constant) {
         Some(image) => Ok(image.value.copy(alloc)?),

@@ -1,5 +1,5 @@
 //! Modules on cycles.
-ghost use Rattle.std.specs.Prelude.{◌≡◌, ◌≤◌, ◌∷◌, ◌++◌, [], Some, length, true, IfOk, OnOk};
+ghost use Rattle.std.specs.Prelude.{◌≡◌, ◌≤◌, Some, length, true, IfOk};
 ghost use Rattle.name_meaning.specs.Limits.{text_limit};
 ghost use Rattle.name_meaning.specs.Names.{is_among, is_ascending};
 ghost use Rattle.log_meaning.specs.Log.{Library};
@@ -82,31 +82,7 @@ fn label_of(alloc: Global, found: &Mention<'_>) -> Result<Path, Memory>
     ensures { IfOk result (λ path. path ≡ (read_mention found.now).label) }
 {
     match found.structure {
-        Some(structure) => behind(alloc, structure, found.label),
+        Some(structure) => Path::of(alloc, structure, found.label.as_slice()),
         None => found.label.copy(alloc),
-    }
-}
-
-/// A path behind the name of a structure.
-fn behind(alloc: Global, structure: &Name, label: &Path) -> Result<Path, Memory>
-    ensures { IfOk result (λ path. path ≡ structure.now ∷ label.now) }
-{
-    let mut path = Path::new(alloc, structure.copy(alloc)?)?;
-    for name in label.as_slice() {
-        push(&mut path, name.copy(alloc)?)?;
-    }
-    Ok(path)
-}
-
-/// Adds a name at the end of a path.
-fn push(path: &mut Path, name: Name) -> Result<(), Memory>
-    ensures { OnOk result (path.new ≡ path.old ++ name ∷ []) }
-{
-    match path.push(name) {
-        Ok(()) => Ok(()),
-        Err(back) => {
-            drop(back);
-            Err(Memory)
-        }
     }
 }

@@ -1,5 +1,5 @@
 //! Refusals of links and of their assignments.
-ghost use Rattle.std.specs.Prelude.{◌≡◌, ◌∷◌, ◌++◌, [], IfOk, OnOk};
+ghost use Rattle.std.specs.Prelude.{◌≡◌, IfOk};
 ghost use Rattle.std.specs.Option.{option_copied};
 ghost use Rattle.link_meaning.specs.Assignments as passes;
 ghost use Rattle.link_meaning.specs.Refusals as refusals;
@@ -10,7 +10,7 @@ ghost use Rattle.morphism.specs.Answers.{Links};
 ghost use Rattle.morphism.specs.Steps.{IsRefused, label_of};
 
 use crate::{LinkFault, Setting};
-use lf_terms::{Memory, Name, Path, Span};
+use lf_terms::{Memory, Path, Span};
 use mmt_interface::{Refusal, Rule};
 use std::alloc::Global;
 
@@ -18,26 +18,9 @@ use std::alloc::Global;
 pub fn label_along(alloc: Global, setting: &Setting<'_>, path: &Path) -> Result<Path, Memory>
     ensures { IfOk result (λ label. label ≡ passes.label_along (read_setting setting.now) path.now) }
 {
-    let Some(structure) = setting.structure else {
-        return path.copy(alloc);
-    };
-    let mut label = Path::new(alloc, structure.copy(alloc)?)?;
-    for name in path.as_slice() {
-        add(&mut label, name.copy(alloc)?)?;
-    }
-    Ok(label)
-}
-
-/// Adds a name at the end of a path.
-fn add(path: &mut Path, name: Name) -> Result<(), Memory>
-    ensures { OnOk result (path.new ≡ path.old ++ name ∷ []) }
-{
-    match path.push(name) {
-        Ok(()) => Ok(()),
-        Err(name) => {
-            drop(name);
-            Err(Memory)
-        }
+    match setting.structure {
+        Some(structure) => Path::of(alloc, structure, path.as_slice()),
+        None => path.copy(alloc),
     }
 }
 

@@ -94,6 +94,26 @@ fn paths_grow_and_are_copied(rt: HostRuntime) -> Result<(), Fail> {
     Ok(())
 }
 
+/// A copy of the path behind a name, which has grown by a name more. The path behind the name is as it was.
+fn grown(alloc: Global, path: &Path) -> Result<usize, Fail> {
+    let first = Box::new(alloc, Name::new(alloc, "s")?)?;
+    let behind = Box::new(alloc, Path::of(alloc, &first, path.as_slice())?)?;
+    let mut copy = Box::new(alloc, behind.copy(alloc)?)?;
+    copy.push(Name::new(alloc, "d")?)?;
+    Ok(copy.len() - behind.len())
+}
+
+#[test]
+fn paths_are_made_of_names(rt: HostRuntime) -> Result<(), Fail> {
+    let alloc = rt.alloc();
+    let path = long_path(alloc)?;
+    assert_eq!(rt; grown(alloc, &path)?, 1);
+    let first = Box::new(alloc, Name::new(alloc, "s")?)?;
+    let short = Box::new(alloc, Path::of(alloc, &first, &[])?)?;
+    assert_eq!(rt; grown(alloc, &short)?, 1);
+    Ok(())
+}
+
 fn bytes(alloc: Global) -> Result<Box<Bytes>, Fail> {
     let mut bytes = Box::new(alloc, Bytes::new(alloc))?;
     bytes.push(7)?;
