@@ -4,6 +4,7 @@ pub mod Places
 pub mod RowSteps
 pub mod RowLoops
 pub mod Marks
+mod OnlyCut
 pub mod Props
 pub mod CommentSteps
 pub mod StepLemmas

@@ -1,7 +1,7 @@
 //! The lexer: it reads a text once, from left to right.
 ghost use Rattle.std.specs.Prelude.{◌≡◌, ◌≤◌, ◌^◌, ℕ, false, length, IfErr, IfOk};
-ghost use Rattle.text_meaning.specs.Cut.{IsLexed, Tokens};
-ghost use Rattle.twelf_lexer.specs.Answers.{IsCutOf, IsFaultOf};
+ghost use Rattle.text_meaning.specs.Cut.{IsLexed, Lexed, Tokens};
+ghost use Rattle.twelf_lexer.specs.Answers.{AnswersSo, IsCutOf, IsFaultOf};
 ghost use Rattle.twelf_lexer.specs.Lexemes.{IsLexeme, is_last, lexeme_token};
 ghost use Rattle.twelf_lexer.specs.Steps.{token_of, tokens_of};
 
@@ -21,8 +21,12 @@ pub fn tokens(alloc: Global, text: &[u8]) -> Result<TokenList, LexFault>
     requires small { length text.now ≤ 2 ^ 26 }
     ensures ok { IfOk result (λ tokens. (end : ℕ) × IsLexed text.now (Tokens (tokens_of text.now tokens) end)) }
     ensures fault { IfErr result (λ fault. IsFaultOf text.now fault) }
+    ensures only { (lexed : Lexed) → IsLexed text.now lexed → AnswersSo text.now lexed result }
 {
-    Ok(lex(alloc, text)?.tokens)
+    match lex(alloc, text) {
+        Ok(cut) => Ok(cut.tokens),
+        Err(fault) => Err(fault),
+    }
 }
 
 /// The tokens of a text, and where its input ends.
