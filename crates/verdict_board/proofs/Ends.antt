@@ -16,6 +16,7 @@ use Rattle.board_meaning.specs.Legal.{IsLegal}
 use Rattle.board_machine_laws.proofs.Claiming.{installed_unedited}
 use Rattle.board_laws.proofs.Standings.{grounded_now}
 use Rattle.module_graph.specs.Subjects.{IsGiven, read_answers}
+use Rattle.verdict_board.specs.declared.candidates.Candidates.{Candidates}
 use Rattle.verdict_board.specs.declared.stage.Stage.{Stage}
 use Rattle.verdict_board.specs.declared.stage.Stage.TheVariants.{Waiting, Claimed, Standing, Cyclic}
 use Rattle.verdict_board.specs.Readings.{read_job, read_inputs}
@@ -85,8 +86,8 @@ module _ {Answer Meaning : Type 0} (subject : Subject Meaning) (meaning : Answer
 
 -- ---- the counts of a board
 
-module _ {Answer Meaning : Type 0} (subject : Subject Meaning) (meaning : Answer → Meaning) (H : History) (log : Log) (graph : Graph) (stages : Rows (Stage Answer)) (closed : Bool) (opened entries installed : ℕ) {exhausted : Bool}
-    (k : IsKept subject meaning H log graph stages closed opened entries installed exhausted) where
+module _ {Answer Meaning : Type 0} (subject : Subject Meaning) (meaning : Answer → Meaning) (H : History) (log : Log) (graph : Graph) (stages : Rows (Stage Answer)) (closed : Bool) (opened entries installed : ℕ) {candidates : Candidates}
+    (k : IsKept subject meaning H log graph stages closed opened entries installed candidates) where
   pub entries_fit : 0 < opened → entries + 1 < 2 ^ 64
   entries_fit o = by closed k.room
     where

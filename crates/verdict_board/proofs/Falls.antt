@@ -16,7 +16,7 @@ use Rattle.verdict_board.specs.declared.stage.Stage.{Stage}
 use Rattle.verdict_board.specs.declared.stage.Stage.TheVariants.{Waiting, Claimed, Standing, Cyclic}
 use Rattle.verdict_board.specs.Stages.{changed, falls, fallen, is_new, stages_added, stages_with, stage_after, HasSortedInputs, HaveSortedInputs, IsStage, AreStages, IsAnew, after_edit_of}
 use Rattle.verdict_board.proofs.Edits.{library_edited, grounded_after, new_after, sorted_inputs}
-use Rattle.verdict_board.proofs.Ready.{named_at}
+use Rattle.verdict_board.proofs.Parking.{named_at}
 use Rattle.verdict_board.proofs.Reports.{absent_row}
 
 pub stage_falls : {A : Type 0} (m : Name) (stage : Stage A) → stage_after m stage ≡ cond (falls m stage) Waiting stage

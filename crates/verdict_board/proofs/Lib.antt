@@ -4,6 +4,8 @@ pub mod Kept
 pub mod Rooms
 pub mod Calls
 pub mod Jobs
+pub mod Writing
+pub mod Parking
 pub mod Transitions
 pub mod Reports
 pub mod Ready
@@ -13,3 +15,4 @@ pub mod Edits
 pub mod EditSteps
 pub mod Rings
 pub mod Falls
+pub mod Pendings

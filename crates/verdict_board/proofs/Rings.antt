@@ -29,7 +29,7 @@ use Rattle.verdict_board.specs.declared.stage.Stage.TheVariants.{Waiting, Claime
 use Rattle.verdict_board.specs.Stages.{is_cyclic, IsStage, AreStages}
 use Rattle.verdict_board.proofs.Currents.{current_grounded}
 use Rattle.verdict_board.proofs.EditSteps.{ungrounded_present}
-use Rattle.verdict_board.proofs.Ready.{named_at}
+use Rattle.verdict_board.proofs.Parking.{named_at}
 use Rattle.verdict_board.proofs.Reports.{grounded_not}
 
 -- ---- no module was ungrounded before the edit

@@ -3,7 +3,7 @@ use Rattle.std.proofs.Common.{◌≡◌, ℕ, ◌+◌, ◌-◌, ◌<◌, ◌^◌
 use Rattle.std.proofs.Math.Bool.{or-false}
 use Rattle.std.proofs.lemmas.Bool.{and_parts, and_from, false_from_ne_true, or_right}
 use Rattle.std.proofs.lemmas.Option.{same_Some}
-use Rattle.name_meaning.specs.Names.{Name, same_name}
+use Rattle.name_meaning.specs.Names.{Name, same_name, is_ascending}
 use Rattle.name_meaning.specs.Rows.{Rows, row_of, with_row}
 use Rattle.name_laws.proofs.Order.{same_itself}
 use Rattle.log_meaning.specs.Log.{Log, Library, library_of, is_present}
@@ -24,9 +24,13 @@ use Rattle.board_laws.proofs.Standings.{ready_parts, reach_now, grounded_now}
 use Rattle.board_laws.proofs.Following.{installs_last, others_leave, install_makes}
 use Rattle.verdict_board.specs.declared.stage.Stage.{Stage}
 use Rattle.verdict_board.specs.declared.stage.Stage.TheVariants.{Waiting, Claimed, Standing}
+use Rattle.verdict_board.specs.declared.candidates.Candidates.{Candidates}
 use Rattle.verdict_board.specs.Stages.{IsCurrent}
+use Rattle.verdict_board.specs.Searching.{AreKept, AreNew}
 use Rattle.verdict_board.specs.Keeping.{IsKept, HasRoom}
 use Rattle.verdict_board.proofs.Currents.{new_current, current_less, current_stands_not, one_current, claim_more}
+use Rattle.verdict_board.proofs.Parking.{all_kept, put_claimed}
+use Rattle.verdict_board.proofs.Reports.{staged_present}
 use Rattle.verdict_board.proofs.Kept.{same_library, no_claim, stages_kept, stages_replaced}
 use Rattle.verdict_board.proofs.Rooms.{closed_more, opened_more, opened_same, opened_less}
 use Rattle.verdict_board.proofs.Calls.{legal_with}
@@ -36,9 +40,9 @@ pub present_of : (D : Dependencies) (L : Library) (n : Name) → is_grounded D L
 present_of D L n h = (and_parts (is_present L n) (not (is_ungrounded D L n)) h).0
 
 module _ {Answer Meaning : Type 0} (subject : Subject Meaning) (meaning : Answer → Meaning) where
-  pub kept_new : IsKept {Answer = Answer} subject meaning [] [] [] [] false 0 0 0 false
-  unfolding log_of library_of row_of is_closed installed_claims claims_from
-  kept_new = record {
+  pub kept_new : (candidates : Candidates) → AreNew 0 candidates → IsKept {Answer = Answer} subject meaning [] [] [] [] false 0 0 0 candidates
+  unfolding log_of library_of row_of is_closed installed_claims claims_from is_ascending
+  kept_new candidates new = record {
     legal = legal_empty subject.dependencies;
     logged = refl;
     holds = empty_holds subject.dependencies;
@@ -48,27 +52,10 @@ module _ {Answer Meaning : Type 0} (subject : Subject Meaning) (meaning : Answer
     counted = refl;
     installed_all = refl;
     room = omega arith;
-    none_left = λ h. absurd (true≢false (sym h));
+    candidates_all = all_kept {Answer = Answer} [] [] (λ list. list.items) 0 candidates.candidate.items candidates.parked.items refl refl refl new;
   }
 
-  -- a claim that finds no module ready leaves word of it
-  pub kept_exhausted : (H : History) {log : Log} {graph : Graph} {stages : Rows (Stage Answer)} {closed : Bool} {opened entries installed : ℕ} {exhausted : Bool}
-      → IsKept subject meaning H log graph stages closed opened entries installed exhausted → least_ready subject.dependencies H ≡ None
-      → IsKept subject meaning H log graph stages closed opened entries installed true
-  kept_exhausted H k none = record {
-    legal = k.legal;
-    logged = k.logged;
-    holds = k.holds;
-    staged = k.staged;
-    closed_is = k.closed_is;
-    opened_all = k.opened_all;
-    counted = k.counted;
-    installed_all = k.installed_all;
-    room = k.room;
-    none_left = λ h. none;
-  }
-
-  module _ (H : History) (log : Log) (graph : Graph) (stages : Rows (Stage Answer)) (closed : Bool) (opened entries installed : ℕ) {exhausted : Bool} (k : IsKept subject meaning H log graph stages closed opened entries installed exhausted) (pass version : ℕ) (v : version ≡ version_after H) where
+  module _ (H : History) (log : Log) (graph : Graph) (stages : Rows (Stage Answer)) (closed : Bool) (opened entries installed : ℕ) {candidates : Candidates} (k : IsKept subject meaning H log graph stages closed opened entries installed candidates) (pass version : ℕ) (v : version ≡ version_after H) where
     abbrev D : Dependencies
     D = subject.dependencies
 
@@ -93,7 +80,7 @@ module _ {Answer Meaning : Type 0} (subject : Subject Meaning) (meaning : Answer
 
     -- ---- close
 
-    pub kept_close : closed ≡ false → pass ≡ 0 → IsKept subject meaning (H ++ entry pass version Close ∷ []) log graph stages true opened (entries + 1) installed false
+    pub kept_close : closed ≡ false → pass ≡ 0 → IsKept subject meaning (H ++ entry pass version Close ∷ []) log graph stages true opened (entries + 1) installed candidates
     unfolding event_of may_call
     kept_close unclosed front = record {
       legal = legal_with D H pass CloseCall Close version (ap (λ (b : Bool). cond b None (Some Close)) (sym k.closed_is ∙ unclosed)) v k.legal (eq-eqb pass 0 front);
@@ -106,13 +93,13 @@ module _ {Answer Meaning : Type 0} (subject : Subject Meaning) (meaning : Answer
       counted = more Close;
       installed_all = installed_on Close refl;
       room = let room : HasRoom false opened entries = subst (λ (b : Bool). HasRoom b opened entries) unclosed k.room in omega (arith, room);
-      none_left = λ h. absurd (true≢false (sym h));
+      candidates_all = k.candidates_all;
     }
 
     -- ---- claim
 
     pub kept_claim : (n : Name) (names : List Name) → least_ready D H ≡ Some n → names ≡ reach D (library_after H) n → entries < 2 ^ 62 → opened < 2 ^ 62
-        → IsKept subject meaning (H ++ entry pass version (Claim n) ∷ []) log graph (with_row n (Claimed entries names) stages) closed (opened + 1) (entries + 1) installed false
+        → IsKept subject meaning (H ++ entry pass version (Claim n) ∷ []) log graph (with_row n (Claimed entries names) stages) closed (opened + 1) (entries + 1) installed candidates
     unfolding event_of may_call
     kept_claim n names least reached few less = record {
       legal = legal_with D H pass ClaimCall (Claim n) version (ap (option_map Claim) least) v k.legal refl;
@@ -133,7 +120,7 @@ module _ {Answer Meaning : Type 0} (subject : Subject Meaning) (meaning : Answer
       counted = more (Claim n);
       installed_all = installed_on (Claim n) refl;
       room = room_more closed;
-      none_left = λ h. absurd (true≢false (sym h));
+      candidates_all = put_claimed stages graph (λ list. list.items) candidates.candidate.items candidates.parked.items k.candidates_all n (Claimed entries names) (staged_present subject meaning H k.legal stages k.staged n ∙ present) refl refl;
     }
       where
         present : is_present (library_after H) n ≡ true
@@ -171,11 +158,11 @@ module _ {Answer Meaning : Type 0} (subject : Subject Meaning) (meaning : Answer
           (λ e. let same : n ≡ m = same_Some _ _ (sym at ∙ ap (claim_at H) (sym (eqb-true d c e)) ∙ i.claimed) in
           true≢false (sym (same_itself n) ∙ ap (λ (z : Name). same_name z n) same ∙ q))
 
-      pub kept_install : (names : List Name) (answer : Answer) → install_reply D H c ≡ IsInstalled → names ≡ reach D (library_after (take c H)) n
+      pub kept_install : (names : List Name) (answer : Answer) (found : Candidates) → AreKept (with_row n (Standing answer names) stages) graph found → install_reply D H c ≡ IsInstalled → names ≡ reach D (library_after (take c H)) n
           → subject.answer (library_after H) n ≡ Some (meaning answer)
-          → IsKept subject meaning (H ++ entry pass version (Install c) ∷ []) log graph (with_row n (Standing answer names) stages) closed (opened - 1) (entries + 1) (installed + 1) false
+          → IsKept subject meaning (H ++ entry pass version (Install c) ∷ []) log graph (with_row n (Standing answer names) stages) closed (opened - 1) (entries + 1) (installed + 1) found
       unfolding event_of
-      kept_install names answer r reached a = record {
+      kept_install names answer found kept r reached a = record {
         legal = legal_with D H pass (InstallCall c) (Install c) version (ap (λ z. Some (install_event c z)) r) v k.legal may_install;
         logged = logged_on (Install c) refl;
         holds = holds_on (Install c) refl;
@@ -194,7 +181,7 @@ module _ {Answer Meaning : Type 0} (subject : Subject Meaning) (meaning : Answer
         counted = more (Install c);
         installed_all = let i = installs_last H e in let j = k.installed_all in omega (arith, i, j);
         room = room_less closed k.room;
-        none_left = λ h. absurd (true≢false (sym h));
+        candidates_all = kept;
       }
         where
           e : Entry
@@ -216,7 +203,7 @@ module _ {Answer Meaning : Type 0} (subject : Subject Meaning) (meaning : Answer
               true≢false (sym (same_itself n) ∙ ap (λ (z : Name). same_name z n) same ∙ q))
 
       pub kept_stale : (name : Name) (newer : ℕ) → install_reply D H c ≡ IsStale name newer
-          → IsKept subject meaning (H ++ entry pass version (Stale c name newer) ∷ []) log graph stages closed (opened - 1) (entries + 1) installed false
+          → IsKept subject meaning (H ++ entry pass version (Stale c name newer) ∷ []) log graph stages closed (opened - 1) (entries + 1) installed candidates
       unfolding event_of
       kept_stale name newer r = record {
         legal = legal_with D H pass (InstallCall c) (Stale c name newer) version (ap (λ z. Some (install_event c z)) r) v k.legal may_install;
@@ -231,7 +218,7 @@ module _ {Answer Meaning : Type 0} (subject : Subject Meaning) (meaning : Answer
         counted = more (Stale c name newer);
         installed_all = installed_on (Stale c name newer) refl;
         room = room_less closed k.room;
-        none_left = λ h. absurd (true≢false (sym h));
+        candidates_all = k.candidates_all;
       }
         where
           clash : IsInstalled ≡ IsStale name newer → ⊥
@@ -242,10 +229,10 @@ module _ {Answer Meaning : Type 0} (subject : Subject Meaning) (meaning : Answer
           stale_not d m i s = clash (sym (unedited_installed D H d m i.claimed i.unedited) ∙ ap (install_reply D H) s ∙ r)
 
       -- a release of a claim that is current
-      pub kept_release_current : IsCurrent D H n c
-          → IsKept subject meaning (H ++ entry pass version (Release c) ∷ []) log graph (with_row n Waiting stages) closed (opened - 1) (entries + 1) installed false
+      pub kept_release_current : (found : Candidates) → AreKept (with_row n Waiting stages) graph found → IsCurrent D H n c
+          → IsKept subject meaning (H ++ entry pass version (Release c) ∷ []) log graph (with_row n Waiting stages) closed (opened - 1) (entries + 1) installed found
       unfolding event_of
-      kept_release_current current = record {
+      kept_release_current found kept current = record {
         legal = legal_with D H pass (ReleaseCall c) (Release c) version refl v k.legal may_release;
         logged = logged_on (Release c) refl;
         holds = holds_on (Release c) refl;
@@ -266,7 +253,7 @@ module _ {Answer Meaning : Type 0} (subject : Subject Meaning) (meaning : Answer
         counted = more (Release c);
         installed_all = installed_on (Release c) refl;
         room = room_less closed k.room;
-        none_left = λ h. absurd (true≢false (sym h));
+        candidates_all = kept;
       }
         where
           e : Entry
@@ -277,7 +264,7 @@ module _ {Answer Meaning : Type 0} (subject : Subject Meaning) (meaning : Answer
 
       -- a release of one that is not
       pub kept_release : (IsCurrent D H n c → ⊥)
-          → IsKept subject meaning (H ++ entry pass version (Release c) ∷ []) log graph stages closed (opened - 1) (entries + 1) installed false
+          → IsKept subject meaning (H ++ entry pass version (Release c) ∷ []) log graph stages closed (opened - 1) (entries + 1) installed candidates
       unfolding event_of
       kept_release not_current = record {
         legal = legal_with D H pass (ReleaseCall c) (Release c) version refl v k.legal may_release;
@@ -292,7 +279,7 @@ module _ {Answer Meaning : Type 0} (subject : Subject Meaning) (meaning : Answer
         counted = more (Release c);
         installed_all = installed_on (Release c) refl;
         room = room_less closed k.room;
-        none_left = λ h. absurd (true≢false (sym h));
+        candidates_all = k.candidates_all;
       }
         where
           other : (m : Name) (d : ℕ) → IsCurrent D H m d → d ≡ c → ⊥

@@ -1,5 +1,5 @@
 -- What the tables of a board keep true of its history (this profile).
-use Rattle.std.specs.Prelude.{◌≡◌, ℕ, ◌+◌, ◌<◌, ◌≤◌, ◌^◌, Bool, true, None, length, if◌then◌else◌}
+use Rattle.std.specs.Prelude.{◌≡◌, ℕ, ◌+◌, ◌<◌, ◌≤◌, ◌^◌, Bool, length, if◌then◌else◌}
 use Rattle.name_meaning.specs.Rows.{Rows}
 use Rattle.log_meaning.specs.Log.{Log}
 use Rattle.walk_meaning.specs.Graphs.{Graph, HoldsDependencies}
@@ -7,17 +7,19 @@ use Rattle.walk_meaning.specs.Subject.{Subject}
 use Rattle.board_meaning.specs.Events.{History, log_of, library_after}
 use Rattle.board_meaning.specs.Claims.{open_claims}
 use Rattle.board_meaning.specs.Standing.{installs}
-use Rattle.board_meaning.specs.Ready.{is_closed, least_ready}
+use Rattle.board_meaning.specs.Ready.{is_closed}
 use Rattle.board_meaning.specs.Legal.{IsLegal}
+use Rattle.verdict_board.specs.declared.candidates.Candidates.{Candidates}
 use Rattle.verdict_board.specs.declared.stage.Stage.{Stage}
 use Rattle.verdict_board.specs.Stages.{AreStages}
+use Rattle.verdict_board.specs.Searching.{AreKept}
 
 -- There is a number left for the end of each open claim, and for the close.
 abbrev pub HasRoom : (closed : Bool) (opened entries : ℕ) → Type 0
 HasRoom closed opened entries = entries + opened + (if closed then 0 else 1) < 2 ^ 64
 
 module _ {Answer Meaning : Type 0} (subject : Subject Meaning) (meaning : Answer → Meaning) (history : History) where
-  pub record IsKept (log : Log) (graph : Graph) (stages : Rows (Stage Answer)) (closed : Bool) (opened entries installed : ℕ) (exhausted : Bool) : Type 0 where
+  pub record IsKept (log : Log) (graph : Graph) (stages : Rows (Stage Answer)) (closed : Bool) (opened entries installed : ℕ) (candidates : Candidates) : Type 0 where
     pub legal : IsLegal subject.dependencies history
     pub logged : log ≡ log_of history
     pub holds : HoldsDependencies graph subject.dependencies (library_after history)
@@ -27,4 +29,4 @@ module _ {Answer Meaning : Type 0} (subject : Subject Meaning) (meaning : Answer
     pub counted : entries ≡ length history
     pub installed_all : installed ≡ installs history
     pub room : HasRoom closed opened entries
-    pub none_left : exhausted ≡ true → least_ready subject.dependencies history ≡ None
+    pub candidates_all : AreKept stages graph candidates

@@ -1,8 +1,8 @@
 -- How a module stands after a history (this profile).
-use Rattle.std.specs.Prelude.{◌≡◌, ℕ, suc, [], ◌∷◌, ◌++◌, Bool, true, false, ◌&&◌, not, List, map, Option, Some, None, is_some, if◌then◌else◌}
+use Rattle.std.specs.Prelude.{◌≡◌, ℕ, suc, [], ◌∷◌, ◌++◌, Bool, true, false, not, List, map, Option, Some, None, is_some, if◌then◌else◌}
 use Rattle.name_meaning.specs.Names.{Name, is_among, is_ascending}
 use Rattle.name_meaning.specs.Rows.{Rows, row_names, row_of, with_row, without_row}
-use Rattle.log_meaning.specs.Log.{Edit, Put, Drop, edited, edited_name, names_of, is_present}
+use Rattle.log_meaning.specs.Log.{Edit, Put, Drop, edited, edited_name, names_of}
 use Rattle.walk_meaning.specs.Walks.{Dependencies, is_grounded, is_ungrounded}
 use Rattle.walk_meaning.specs.Reach.{reach}
 use Rattle.walk_meaning.specs.Subject.{Subject}
@@ -40,10 +40,6 @@ claim_in Waiting = None
 claim_in (Claimed claim inputs) = Some claim
 claim_in (Standing answer inputs) = None
 claim_in (Cyclic answer) = None
-
--- The name is present and has no standing verdict.
-abbrev pub waits : Dependencies → History → Name → Bool
-waits dependencies history name = is_present (library_after history) name && not (stands dependencies history name)
 
 -- The names of the inputs of the standing verdict, if there is one.
 abbrev pub standing_in : {Answer : Type 0} → Stage Answer → Option (List Name)

@@ -7,6 +7,7 @@ ghost use Rattle.board_meaning.specs.Machine.{CloseCall, after_call};
 ghost use Rattle.board_meaning.specs.Legal.{IsLegal};
 
 use crate::Event;
+use crate::candidates::Candidates;
 use crate::stage::Stage;
 use crate::trail::{Trail, noted};
 use edit_log::Log;
@@ -30,9 +31,8 @@ pub struct Board<S: Subject> {
     pub(crate) opened: u64,
     pub(crate) entries: u64,
     pub(crate) installed: u64,
-    /// Whether a claim has found that no module is ready, and no entry came since. A worker that asks again is then told so at
-    /// once.
-    pub(crate) exhausted: bool,
+    /// The modules that may be ready.
+    pub(crate) candidates: Candidates,
     /// The entries themselves, of which only their number is kept.
     pub(crate) history: Trail,
 }
@@ -46,7 +46,7 @@ impl<S: Subject> Model for Board<S> {
 
     ghost view = { λ b. b.history.entries };
 
-    ghost invariant = { λ b. IsKept S.subject S.meaning b.history.entries b.log b.graph b.stages b.closed b.opened b.entries b.installed b.exhausted };
+    ghost invariant = { λ b. IsKept S.subject S.meaning b.history.entries b.log b.graph b.stages b.closed b.opened b.entries b.installed b.candidates };
 }
 
 impl<S: Subject> Board<S> {
@@ -63,7 +63,7 @@ impl<S: Subject> Board<S> {
             opened: 0,
             entries: 0,
             installed: 0,
-            exhausted: false,
+            candidates: Candidates::new(alloc, 0)?,
             history: Trail::new(),
         })
     }
@@ -116,6 +116,5 @@ impl<S: Subject> Board<S> {
         self.history = noted(&self.history, pass, version, Event::Close);
         self.entries += 1;
         self.closed = true;
-        self.exhausted = false;
     }
 }

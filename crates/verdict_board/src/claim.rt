@@ -1,14 +1,13 @@
 //! Claims of modules that are ready to be judged.
 ghost use Rattle.std.specs.Prelude.{◌≡◌, true, IfOk, IfSome, OnErr, OnOk};
-ghost use Rattle.std.specs.Option.{option_copied, option_map};
-ghost use Rattle.log_meaning.specs.Log.{is_present};
+ghost use Rattle.std.specs.Option.{option_map};
 ghost use Rattle.board_meaning.specs.Events.{library_after};
-ghost use Rattle.board_meaning.specs.Ready.{dependencies_stand, least_ready};
+ghost use Rattle.board_meaning.specs.Ready.{least_ready};
 ghost use Rattle.board_meaning.specs.Machine.{claim_reply, ClaimCall, after_call};
 ghost use Rattle.module_graph.specs.Subjects.{IsGiven};
 ghost use Rattle.verdict_board.specs.Readings.{read_inputs, read_job, inputs_of_names};
-ghost use Rattle.verdict_board.specs.Stages.{waits};
 
+use crate::candidates::first_ready;
 use crate::stage::Stage;
 use crate::trail::noted;
 use crate::{Board, Event, Input, Inputs, Job};
@@ -30,12 +29,8 @@ impl<S: Subject> Board<S> {
         ensures history { OnOk result (self.new ≡ after_call S.subject.dependencies self.old pass ClaimCall) }
         ensures unchanged { OnErr result (self.new ≡ self.old) }
     {
-        let name = match self.least_ready() {
-            Some(name) => name.copy(alloc)?,
-            None => {
-                self.exhausted = true;
-                return Ok(None);
-            }
+        let Some(name) = self.least_ready(alloc)? else {
+            return Ok(None);
         };
         if self.entries >= MOST || self.opened >= MOST {
             return Err(Memory);
@@ -58,7 +53,6 @@ impl<S: Subject> Board<S> {
         self.history = noted(&self.history, pass, version, Event::Claim(claimed));
         self.entries += 1;
         self.opened += 1;
-        self.exhausted = false;
         Ok(Some(Job {
             claim,
             name,
@@ -70,47 +64,17 @@ impl<S: Subject> Board<S> {
     }
 
     /// The least ready name in byte order, if one is ready.
-    fn least_ready(&self) -> Option<&Name>
-        ensures { option_copied result ≡ least_ready S.subject.dependencies self.now }
+    fn least_ready(&mut self, alloc: Global) -> Result<Option<Name>, Memory>
+        ensures least { IfOk result (λ name. name ≡ least_ready S.subject.dependencies self.old) }
+        ensures unchanged { self.new ≡ self.old }
     {
         if self.closed {
-            return None;
+            return Ok(None);
         }
-        if self.exhausted {
-            return None;
-        }
-        for place in 0..self.stages.len() {
-            let (name, stage) = self.stages.row_at(place);
-            if stage.is_waiting() && self.rests(name) {
-                return Some(name);
-            }
-        }
-        None
-    }
-
-    /// Whether each present direct dependency of a name has a standing verdict.
-    fn rests(&self, name: &Name) -> bool
-        requires { is_present (library_after self.now) name.now ≡ true }
-        ensures { result ≡ dependencies_stand S.subject.dependencies self.now name.now }
-    {
-        let Some(dependencies) = self.graph.row(name) else {
-            unreachable!();
-        };
-        for other in dependencies.as_slice() {
-            if self.waits_for(other) {
-                return false;
-            }
-        }
-        true
-    }
-
-    /// Whether a name is present and has no standing verdict.
-    fn waits_for(&self, name: &Name) -> bool
-        ensures { result ≡ waits S.subject.dependencies self.now name.now }
-    {
-        match self.stages.get(name) {
-            Some(stage) => stage.standing().is_none(),
-            None => false,
+        match first_ready(&self.stages, &self.graph, &mut self.candidates) {
+            Ok(Some(place)) => Ok(Some(self.stages.row_at(place).0.copy(alloc)?)),
+            Ok(None) => Ok(None),
+            Err(fault) => Err(fault),
         }
     }
 

@@ -16,6 +16,7 @@ ghost use Rattle.verdict_board.specs.Entries.{read_event};
 ghost use Rattle.verdict_board.specs.Stages.{IsStage, AreStages, IsAnew, after_edit_of};
 ghost use Rattle.board_meaning.specs.Events as board;
 
+use crate::candidates::Candidates;
 use crate::claim::MOST;
 use crate::in_place::change;
 use crate::search::contains;
@@ -47,15 +48,16 @@ impl<S: Subject> Board<S> {
         }
         let graph = self.graph_after(alloc, &edit)?;
         let event = event_of(alloc, &edit)?;
+        let candidates = Candidates::new(alloc, graph.len())?;
         let anew = self.stages_anew(alloc, &edit, &graph)?;
         match change(alloc, &mut self.log, &mut self.stages, &graph, anew, edit) {
             Ok(_) => {}
             Err(fault) => return Err(fault),
         }
         self.graph = graph;
+        self.candidates = candidates;
         self.history = noted(&self.history, pass, version, event);
         self.entries += 1;
-        self.exhausted = false;
         Ok(answer)
     }
 

@@ -8,6 +8,7 @@ ghost use Rattle.verdict_board.specs.Readings.{read_inputs, read_installed, read
 ghost use Rattle.verdict_board.specs.Stages.{IsCurrent};
 ghost use Rattle.verdict_board.specs.Changes.{IsFirstChanged};
 
+use crate::candidates::{stand, wait};
 use crate::stage::Stage;
 use crate::trail::{Trail, noted};
 use crate::{Board, Entry, Event, Input, Inputs, Installed, Job};
@@ -56,9 +57,8 @@ impl<S: Subject> Board<S> {
         self.history = noted(&self.history, pass, version, Event::Release { claim });
         self.entries += 1;
         self.opened -= 1;
-        self.exhausted = false;
         if current {
-            self.stages.replace(&name, Stage::Waiting);
+            wait(&mut self.stages, &mut self.candidates, &name);
         }
     }
 
@@ -82,13 +82,12 @@ impl<S: Subject> Board<S> {
             answer: verdict,
             inputs: names,
         };
-        self.stages.replace(&name, stage);
+        stand(&mut self.stages, &mut self.candidates, &name, stage);
         let version = self.log.version();
         self.history = noted(&self.history, pass, version, Event::Install { claim });
         self.entries += 1;
         self.opened -= 1;
         self.installed += 1;
-        self.exhausted = false;
     }
 
     /// Ends a claim whose input at this place is the first that has changed, to this stamp.
@@ -117,7 +116,6 @@ impl<S: Subject> Board<S> {
         self.history = Trail::with(&self.history, &entry);
         self.entries += 1;
         self.opened -= 1;
-        self.exhausted = false;
         let Entry { event, .. } = entry;
         match event {
             Event::Stale { name, newer, .. } => Installed::Stale { name, newer },

@@ -2,6 +2,7 @@
 #![tactic(auto)]
 
 mod board;
+mod candidates;
 mod claim;
 mod edit;
 mod event;
@@ -9,6 +10,7 @@ mod in_place;
 mod inputs;
 mod install;
 mod job;
+mod pending;
 mod replies;
 mod report;
 mod search;

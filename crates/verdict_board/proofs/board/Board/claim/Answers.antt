@@ -1,4 +1,4 @@
-use Rattle.std.proofs.Common.{◌≡◌, Option, None, Some, IfSome, sym, ap, ◌∙◌, length, subst, arith}
+use Rattle.std.proofs.Common.{◌≡◌, Option, Some, IfSome, sym, ap, ◌∙◌, length, subst, arith}
 use Rattle.log_meaning.specs.Log.{library_of, text_of}
 use Rattle.walk_laws.proofs.Graphs.{graph_reaches}
 use Rattle.board_meaning.specs.Claims.{input_names}
@@ -6,42 +6,40 @@ use Rattle.board_meaning.specs.Ready.{least_ready}
 use Rattle.name_meaning.specs.Names.{Text}
 use Rattle.verdict_board.specs.Readings.{IsShort, read_inputs}
 use Rattle.verdict_board.proofs.Calls.{none_claimed, claim_after}
-use Rattle.verdict_board.proofs.Transitions.{kept_claim, kept_exhausted}
+use Rattle.verdict_board.proofs.Transitions.{kept_claim}
 use Rattle.verdict_board.proofs.Reports.{staged_present}
 use Rattle.verdict_board.proofs.Handing.{names_of_inputs, least_known, least_present, text_not_missing, job_told, job_given}
 use Rattle.verdict_board.proofs.board.Board.claim.Goals as goal
 
-pub returns-in-None-clause-history : goal.returns-in-None-clause-history
-returns-in-None-clause-history g c =
-    let none : least_ready g.S.Subject.subject.dependencies c.self.inside.history.entries ≡ None = rw c.self.view_is (sym c.in-None.ensures) in
-    rw (← c.self.view_is) (sym (none_claimed g.S.Subject.subject.dependencies c.self.inside.history.entries c.args.pass none))
-
-pub invariant_of-self : goal.invariant_of-self
-invariant_of-self g c =
-    let none : least_ready g.S.Subject.subject.dependencies c.self.inside.history.entries ≡ None = rw c.self.view_is (sym c.in-None.ensures) in
-    kept_exhausted g.S.Subject.subject g.S.Subject.meaning c.self.inside.history.entries c.self.invariant none
+pub returns-in_default-clause-history : goal.returns-in_default-clause-history
+returns-in_default-clause-history g c =
+    let none = sym c.in_ok-name.ensures.least ∙ c.in_default.is in
+    c.in_ok-name.ensures.unchanged ∙ sym (none_claimed g.S.Subject.subject.dependencies c.args.self.now c.args.pass none)
 
 pub answers_among-requires-clause-reached : goal.answers_among-requires-clause-reached
 answers_among-requires-clause-reached g c κs b =
     c.get-2.ensures ∙ c.in_ok-names.ensures ∙ c.in_ok-reach.ensures
-    ∙ rw (← c.self.view_is) (graph_reaches c.self.inside.graph g.S.Subject.subject.dependencies _ c.self.invariant.holds c.in_ok-name-in-Some.name)
+    ∙ rw (← c.self.view_is) (graph_reaches c.self.inside.graph g.S.Subject.subject.dependencies _ c.self.invariant.holds c.in-Some.name)
 
 pub answers_among-requires-clause-known : goal.answers_among-requires-clause-known
 answers_among-requires-clause-known g c κs b =
-    let least : least_ready g.S.Subject.subject.dependencies c.self.inside.history.entries ≡ Some c.in_ok-name-in-Some.name = rw (c.self.view_is, c.in_ok-name-in-Some.ensures) (sym c.in-Some.ensures) in
-    let reached = c.get-2.ensures ∙ c.in_ok-names.ensures ∙ c.in_ok-reach.ensures ∙ graph_reaches c.self.inside.graph g.S.Subject.subject.dependencies _ c.self.invariant.holds c.in_ok-name-in-Some.name in
-    rw (← c.self.view_is) (least_known g.S.Subject.subject c.self.inside.history.entries c.self.invariant.legal c.in_ok-name-in-Some.name least c.get-2.result.now reached)
+    let same = c.self.view_is ∙ c.in_ok-name.ensures.unchanged in
+    let least = ap (least_ready g.S.Subject.subject.dependencies) same ∙ sym c.in_ok-name.ensures.least ∙ c.in-Some.is in
+    let reached = c.get-2.ensures ∙ c.in_ok-names.ensures ∙ c.in_ok-reach.ensures ∙ graph_reaches c.self.inside.graph g.S.Subject.subject.dependencies _ c.self.invariant.holds c.in-Some.name in
+    rw (← c.self.view_is) (least_known g.S.Subject.subject c.self.inside.history.entries c.self.invariant.legal c.in-Some.name least c.get-2.result.now reached)
 
 pub unreachable-requires : goal.unreachable-requires
 unreachable-requires g c =
-    let least : least_ready g.S.Subject.subject.dependencies c.self.inside.history.entries ≡ Some c.in_ok-name-in-Some.name = rw (c.self.view_is, c.in_ok-name-in-Some.ensures) (sym c.in-Some.ensures) in
-    text_not_missing g.S.Subject.subject c.self.inside.history.entries c.self.invariant.legal c.in_ok-name-in-Some.name least
-    (sym c.in_default.is ∙ c.in_ok-text.ensures.text ∙ ap (λ log. text_of (library_of log) c.in_ok-name-in-Some.name) c.self.invariant.logged)
+    let same = c.self.view_is ∙ c.in_ok-name.ensures.unchanged in
+    let least = ap (least_ready g.S.Subject.subject.dependencies) same ∙ sym c.in_ok-name.ensures.least ∙ c.in-Some.is in
+    text_not_missing g.S.Subject.subject c.self.inside.history.entries c.self.invariant.legal c.in-Some.name least
+    (sym c.in_default-2.is ∙ c.in_ok-text.ensures.text ∙ ap (λ log. text_of (library_of log) c.in-Some.name) c.self.invariant.logged)
 
 pub replace-requires : goal.replace-requires
 replace-requires g c =
-    let least : least_ready g.S.Subject.subject.dependencies c.self.inside.history.entries ≡ Some c.in_ok-name-in-Some.name = rw (c.self.view_is, c.in_ok-name-in-Some.ensures) (sym c.in-Some.ensures) in
-    staged_present g.S.Subject.subject g.S.Subject.meaning c.self.inside.history.entries c.self.invariant.legal c.self.inside.stages c.self.invariant.staged c.in_ok-name-in-Some.name ∙ least_present g.S.Subject.subject c.self.inside.history.entries c.self.invariant.legal c.in_ok-name-in-Some.name least
+    let same = c.self.view_is ∙ c.in_ok-name.ensures.unchanged in
+    let least = ap (least_ready g.S.Subject.subject.dependencies) same ∙ sym c.in_ok-name.ensures.least ∙ c.in-Some.is in
+    staged_present g.S.Subject.subject g.S.Subject.meaning c.self.inside.history.entries c.self.invariant.legal c.self.inside.stages c.self.invariant.staged c.in-Some.name ∙ least_present g.S.Subject.subject c.self.inside.history.entries c.self.invariant.legal c.in-Some.name least
 
 short_of : (o : Option Text) (text : Text) → o ≡ Some text → IfSome o (λ t. IsShort t) → IsShort text
 short_of o text e h = subst (λ (z : Option Text). IfSome z (λ t. IsShort t)) e h
@@ -49,37 +47,41 @@ short_of o text e h = subst (λ (z : Option Text). IfSome z (λ t. IsShort t)) e
 pub invariant_of-result : goal.invariant_of-result
 invariant_of-result g c = (
   short_of c.in_ok-text.field-0 c.in-Some-2.text c.in-Some-2.is c.in_ok-text.ensures.short,
-  sym (ap input_names c.in_ok-inputs.ensures ∙ names_of_inputs c.args.self.now c.get.result.now ∙ c.get.ensures),
+  sym (ap input_names c.in_ok-inputs.ensures ∙ names_of_inputs c.least_ready.new.self c.get.result.now ∙ c.get.ensures),
 )
 
-pub invariant_of-self-2 : goal.invariant_of-self-2
-invariant_of-self-2 g c =
-    let least : least_ready g.S.Subject.subject.dependencies c.self.inside.history.entries ≡ Some c.in_ok-name-in-Some.name = rw (c.self.view_is, c.in_ok-name-in-Some.ensures) (sym c.in-Some.ensures) in
-    let reached = c.in_ok-kept.ensures ∙ c.in_ok-names.ensures ∙ c.in_ok-reach.ensures ∙ graph_reaches c.self.inside.graph g.S.Subject.subject.dependencies _ c.self.invariant.holds c.in_ok-name-in-Some.name in
+pub invariant_of-self : goal.invariant_of-self
+invariant_of-self g c =
+    let same = c.self.view_is ∙ c.in_ok-name.ensures.unchanged in
+    let least = ap (least_ready g.S.Subject.subject.dependencies) same ∙ sym c.in_ok-name.ensures.least ∙ c.in-Some.is in
+    let reached = c.in_ok-kept.ensures ∙ c.in_ok-names.ensures ∙ c.in_ok-reach.ensures ∙ graph_reaches c.self.inside.graph g.S.Subject.subject.dependencies _ c.self.invariant.holds c.in-Some.name in
     let v = c.version-version.ensures.version ∙ ap length c.self.invariant.logged in
     let few = c.if-self-ge-MOST.false in
     let less = c.if-self-ge-MOST-2.false in
     rw (c.noted-self-inside.ensures, c.replace.ensures, c.in_ok-claimed.ensures)
-    (kept_claim g.S.Subject.subject g.S.Subject.meaning c.self.inside.history.entries c.self.inside.log c.self.inside.graph c.self.inside.stages c.self.inside.closed c.self.inside.opened c.self.inside.entries c.self.inside.installed c.self.invariant c.args.pass c.version-version.result v c.in_ok-name-in-Some.name c.in_ok-kept.kept least reached (omega (arith, few)) (omega (arith, less)))
+    (kept_claim g.S.Subject.subject g.S.Subject.meaning c.self.inside.history.entries c.self.inside.log c.self.inside.graph c.self.inside.stages c.self.inside.closed c.self.inside.opened c.self.inside.entries c.self.inside.installed c.self.invariant c.args.pass c.version-version.result v c.in-Some.name c.in_ok-kept.kept least reached (omega (arith, few)) (omega (arith, less)))
 
 pub returns-clause-job : goal.returns-clause-job
 returns-clause-job g c =
-    let least : least_ready g.S.Subject.subject.dependencies c.self.inside.history.entries ≡ Some c.in_ok-name-in-Some.name = rw (c.self.view_is, c.in_ok-name-in-Some.ensures) (sym c.in-Some.ensures) in
-    let reached = c.get.ensures ∙ c.in_ok-names.ensures ∙ c.in_ok-reach.ensures ∙ graph_reaches c.self.inside.graph g.S.Subject.subject.dependencies _ c.self.invariant.holds c.in_ok-name-in-Some.name in
-    let text = sym c.in-Some-2.is ∙ c.in_ok-text.ensures.text ∙ ap (λ log. text_of (library_of log) c.in_ok-name-in-Some.name) c.self.invariant.logged in
-    rw (← c.self.view_is) (job_told g.S.Subject.subject c.self.inside.history.entries c.self.invariant.legal c.in_ok-name-in-Some.name least g.S.Subject.meaning c.in-Some-2.text c.self.inside.entries c.get.result.now (read_inputs c.in_ok-inputs.inputs) c.in_ok-answers.answers text c.self.invariant.counted reached
+    let same = c.self.view_is ∙ c.in_ok-name.ensures.unchanged in
+    let least = ap (least_ready g.S.Subject.subject.dependencies) same ∙ sym c.in_ok-name.ensures.least ∙ c.in-Some.is in
+    let reached = c.get.ensures ∙ c.in_ok-names.ensures ∙ c.in_ok-reach.ensures ∙ graph_reaches c.self.inside.graph g.S.Subject.subject.dependencies _ c.self.invariant.holds c.in-Some.name in
+    let text = sym c.in-Some-2.is ∙ c.in_ok-text.ensures.text ∙ ap (λ log. text_of (library_of log) c.in-Some.name) c.self.invariant.logged in
+    rw (← same) (job_told g.S.Subject.subject c.self.inside.history.entries c.self.invariant.legal c.in-Some.name least g.S.Subject.meaning c.in-Some-2.text c.self.inside.entries c.get.result.now (read_inputs c.in_ok-inputs.inputs) c.in_ok-answers.answers text c.self.invariant.counted reached
     (rw c.self.view_is c.in_ok-inputs.ensures) (rw c.self.view_is c.in_ok-answers.ensures))
 
 pub returns-clause-given : goal.returns-clause-given
 returns-clause-given g c =
-    let least : least_ready g.S.Subject.subject.dependencies c.self.inside.history.entries ≡ Some c.in_ok-name-in-Some.name = rw (c.self.view_is, c.in_ok-name-in-Some.ensures) (sym c.in-Some.ensures) in
-    let reached = c.get.ensures ∙ c.in_ok-names.ensures ∙ c.in_ok-reach.ensures ∙ graph_reaches c.self.inside.graph g.S.Subject.subject.dependencies _ c.self.invariant.holds c.in_ok-name-in-Some.name in
-    let text = sym c.in-Some-2.is ∙ c.in_ok-text.ensures.text ∙ ap (λ log. text_of (library_of log) c.in_ok-name-in-Some.name) c.self.invariant.logged in
-    rw (← c.self.view_is) (job_given g.S.Subject.subject c.self.inside.history.entries c.self.invariant.legal c.in_ok-name-in-Some.name least g.S.Subject.meaning c.in-Some-2.text c.self.inside.entries c.get.result.now (read_inputs c.in_ok-inputs.inputs) c.in_ok-answers.answers text c.self.invariant.counted reached
+    let same = c.self.view_is ∙ c.in_ok-name.ensures.unchanged in
+    let least = ap (least_ready g.S.Subject.subject.dependencies) same ∙ sym c.in_ok-name.ensures.least ∙ c.in-Some.is in
+    let reached = c.get.ensures ∙ c.in_ok-names.ensures ∙ c.in_ok-reach.ensures ∙ graph_reaches c.self.inside.graph g.S.Subject.subject.dependencies _ c.self.invariant.holds c.in-Some.name in
+    let text = sym c.in-Some-2.is ∙ c.in_ok-text.ensures.text ∙ ap (λ log. text_of (library_of log) c.in-Some.name) c.self.invariant.logged in
+    rw (← same) (job_given g.S.Subject.subject c.self.inside.history.entries c.self.invariant.legal c.in-Some.name least g.S.Subject.meaning c.in-Some-2.text c.self.inside.entries c.get.result.now (read_inputs c.in_ok-inputs.inputs) c.in_ok-answers.answers text c.self.invariant.counted reached
     (rw c.self.view_is c.in_ok-inputs.ensures) (rw c.self.view_is c.in_ok-answers.ensures))
 
 pub returns-clause-history : goal.returns-clause-history
 returns-clause-history g c =
-    let least : least_ready g.S.Subject.subject.dependencies c.self.inside.history.entries ≡ Some c.in_ok-name-in-Some.name = rw (c.self.view_is, c.in_ok-name-in-Some.ensures) (sym c.in-Some.ensures) in
+    let same = c.self.view_is ∙ c.in_ok-name.ensures.unchanged in
+    let least = ap (least_ready g.S.Subject.subject.dependencies) same ∙ sym c.in_ok-name.ensures.least ∙ c.in-Some.is in
     let v = c.version-version.ensures.version ∙ ap length c.self.invariant.logged in
-    rw (← c.self.view_is, c.noted-self-inside.ensures, c.in_ok-claimed.ensures) (sym (claim_after g.S.Subject.subject.dependencies c.self.inside.history.entries c.args.pass c.version-version.result c.in_ok-name-in-Some.name least v))
+    rw (← same, c.noted-self-inside.ensures, c.in_ok-claimed.ensures) (sym (claim_after g.S.Subject.subject.dependencies c.self.inside.history.entries c.args.pass c.version-version.result c.in-Some.name least v))

@@ -1,4 +1,4 @@
-use Rattle.std.proofs.Common.{◌≡◌, ◌∷◌, ◌++◌, [], suc, Err, sym, ap, ◌∙◌, subst, arith}
+use Rattle.std.proofs.Common.{◌≡◌, ℕ, ◌∷◌, ◌++◌, [], suc, Err, sym, ap, ◌∙◌, subst, arith}
 use Rattle.log_meaning.specs.Log.{Log, edited}
 use Rattle.log_meaning.specs.Append.{Made, append_answer}
 use Rattle.log_laws.proofs.Libraries.{library_ascending}
@@ -8,6 +8,7 @@ use Rattle.board_meaning.specs.Events.{EditMade, Event, History, log_of, library
 use Rattle.edit_log.specs.Readings.{read_edit, read_edited, IsAnswer}
 use Rattle.verdict_board.specs.Entries.{entry}
 use Rattle.verdict_board.specs.Stages.{AreStages, after_edit_of}
+use Rattle.verdict_board.specs.Searching.{AreNew}
 use Rattle.verdict_board.proofs.Falls.{changed_staged, inputs_sorted, names_edited}
 use Rattle.verdict_board.proofs.Calls.{edit_after}
 use Rattle.verdict_board.proofs.Edits.{kept_edit}
@@ -64,8 +65,9 @@ invariant_of-self-2 g c =
     let holds : HoldsDependencies c.in_ok-graph.graph g.S.Subject.subject.dependencies (edited (library_after c.self.inside.history.entries) e) = rw c.self.view_is c.in_ok-graph.ensures in
     let few = c.if-self-ge-MOST.false in
     let less = c.if-self-ge-MOST-2.false in
+    let new = subst (λ (count : ℕ). AreNew count c.in_ok-candidates.candidates) c.len.ensures.len c.in_ok-candidates.ensures in
     rw (c.noted-self-inside.ensures, c.in_ok-event.ensures)
-    (kept_edit g.S.Subject.subject g.S.Subject.meaning c.self.inside.history.entries c.self.inside.log c.self.inside.graph c.self.inside.stages c.self.inside.closed c.self.inside.opened c.self.inside.entries c.self.inside.installed c.self.invariant e c.args.pass c.in-Made.version c.in-Made.version c.change.new.log c.in_ok-graph.graph c.change.new.stages c.requires reply v
+    (kept_edit g.S.Subject.subject g.S.Subject.meaning c.self.inside.history.entries c.self.inside.log c.self.inside.graph c.self.inside.stages c.self.inside.closed c.self.inside.opened c.self.inside.entries c.self.inside.installed c.self.invariant e c.args.pass c.in-Made.version c.in-Made.version c.change.new.log c.in_ok-graph.graph c.change.new.stages c.in_ok-candidates.candidates new c.requires reply v
     (c.in-Ok.ensures.log ∙ appended_made c.self.inside.log e c.in-Made.version made) holds stages (omega (arith, few)) (omega (arith, less)))
 
 pub returns-clause-history : goal.returns-clause-history

@@ -1,15 +1,19 @@
-use Rattle.std.proofs.Common.{sym, ap, ◌∙◌, length, arith}
+use Rattle.std.proofs.Common.{refl, sym, ap, ◌∙◌, length, arith}
 use Rattle.board_meaning.specs.Machine.{InstallCall, after_call}
 use Rattle.verdict_board.proofs.Calls.{install_after}
 use Rattle.verdict_board.proofs.Transitions.{kept_install, some_opened}
 use Rattle.verdict_board.proofs.Ends.{here_at, here_install, here_names, here_answer, here_reply, entries_fit, installed_fits, claimed_present}
 use Rattle.verdict_board.proofs.board.Board.end_installed.Goals as goal
 
-pub replace-requires : goal.replace-requires
-replace-requires g c =
-    claimed_present g.S.Subject.subject g.S.Subject.meaning c.self.inside.history.entries c.self.inside.log c.self.inside.graph c.self.inside.stages c.self.inside.closed c.self.inside.opened c.self.inside.entries c.self.inside.installed c.self.invariant
-    c.job.inside.name c.job.inside.claim (here_at g.S.Subject.subject g.S.Subject.meaning c.self.inside.history.entries c.args.self.now c.self.view_is c.args.pass _ c.args.job c.job.view_is c.requires.job)
-    (here_reply g.S.Subject.subject g.S.Subject.meaning c.self.inside.history.entries c.args.self.now c.self.view_is c.args.pass _ c.args.job c.job.view_is c.requires.job c.requires.unchanged)
+pub stand-requires : goal.stand-requires
+stand-requires g c =
+    record {
+      there = claimed_present g.S.Subject.subject g.S.Subject.meaning c.self.inside.history.entries c.self.inside.log c.self.inside.graph c.self.inside.stages c.self.inside.closed c.self.inside.opened c.self.inside.entries c.self.inside.installed c.self.invariant
+          c.job.inside.name c.job.inside.claim (here_at g.S.Subject.subject g.S.Subject.meaning c.self.inside.history.entries c.args.self.now c.self.view_is c.args.pass _ c.args.job c.job.view_is c.requires.job)
+          (here_reply g.S.Subject.subject g.S.Subject.meaning c.self.inside.history.entries c.args.self.now c.self.view_is c.args.pass _ c.args.job c.job.view_is c.requires.job c.requires.unchanged);
+      waits_not = refl;
+      kept = (c.self.inside.graph, c.self.invariant.candidates_all);
+    }
 
 pub overflow_add-self : goal.overflow_add-self
 overflow_add-self g c =
@@ -42,8 +46,9 @@ invariant_of-self g c =
     let open' = here_install g.S.Subject.subject g.S.Subject.meaning c.self.inside.history.entries c.args.self.now c.self.view_is c.args.pass _ c.args.job c.job.view_is c.requires.job c.requires.may in
     let some = some_opened g.S.Subject.subject g.S.Subject.meaning c.self.inside.history.entries c.self.inside.log c.self.inside.graph c.self.inside.stages c.self.inside.closed c.self.inside.opened c.self.inside.entries c.self.inside.installed c.self.invariant c.args.pass c.version-version.result v c.job.inside.name c.job.inside.claim at open'.0 open'.1 in
     let r = here_reply g.S.Subject.subject g.S.Subject.meaning c.self.inside.history.entries c.args.self.now c.self.view_is c.args.pass _ c.args.job c.job.view_is c.requires.job c.requires.unchanged in
-    rw (c.noted-self-inside.ensures, c.replace.ensures)
-    (kept_install g.S.Subject.subject g.S.Subject.meaning c.self.inside.history.entries c.self.inside.log c.self.inside.graph c.self.inside.stages c.self.inside.closed c.self.inside.opened c.self.inside.entries c.self.inside.installed c.self.invariant c.args.pass c.version-version.result v c.job.inside.name c.job.inside.claim at open'.0 open'.1 c.job.inside.names c.args.verdict r
+    let kept = rw c.stand.ensures.stages at c.stand.ensures.kept c.self.inside.graph c.self.invariant.candidates_all in
+    rw (c.noted-self-inside.ensures, c.stand.ensures.stages)
+    (kept_install g.S.Subject.subject g.S.Subject.meaning c.self.inside.history.entries c.self.inside.log c.self.inside.graph c.self.inside.stages c.self.inside.closed c.self.inside.opened c.self.inside.entries c.self.inside.installed c.self.invariant c.args.pass c.version-version.result v c.job.inside.name c.job.inside.claim at open'.0 open'.1 c.job.inside.names c.args.verdict c.stand.new.candidates kept r
     (c.job.invariant.1 ∙ here_names g.S.Subject.subject g.S.Subject.meaning c.self.inside.history.entries c.args.self.now c.self.view_is c.args.pass _ c.args.job c.job.view_is c.requires.job)
     (here_answer g.S.Subject.subject g.S.Subject.meaning c.self.inside.history.entries c.args.self.now c.self.view_is c.args.pass _ c.args.job c.job.view_is c.requires.job c.self.invariant.legal (g.met.S.Subject g.world.𝓛 g.world.𝓜 g.world.𝓡 ((λ s x. x), (λ x. x), (λ x. x), λ x. x)).lawful.reach c.args.verdict c.requires.verdict r))
 

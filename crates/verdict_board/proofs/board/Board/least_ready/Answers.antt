@@ -1,43 +1,33 @@
-use Rattle.std.proofs.Common.{◌≡◌, suc, ◌+◌, sym, ◌∙◌, arith}
-use Rattle.std.proofs.lemmas.Bool.{and_left, and_right}
-use Rattle.name_laws.proofs.Rows.{row_at}
-use Rattle.board_meaning.specs.Ready.{dependencies_stand}
-use Rattle.verdict_board.specs.Stages.{is_waiting}
-use Rattle.verdict_board.proofs.Reports.{present_row}
-use Rattle.verdict_board.proofs.Ready.{closed_unready, ready_next, least_found, none_ready}
+use Rattle.std.proofs.Common.{Some, sym, ap, ◌∙◌, arith}
+use Rattle.list_laws.proofs.Places.{place_within}
+use Rattle.name_meaning.specs.Rows.{row_names}
+use Rattle.verdict_board.proofs.Parking.{named_at, names_long}
+use Rattle.verdict_board.proofs.Ready.{closed_unready, least_told, none_told}
 use Rattle.verdict_board.proofs.board.Board.least_ready.Goals as goal
-use Rattle.verdict_board.proofs.board.Board.least_ready.Goals.{else-is_waiting-via-then-is_waiting+else-rests, else-is_waiting-via-else-is_waiting}
+use Rattle.verdict_board.proofs.board.Board.least_ready.Goals.{in-Ok-Some+in_ok-copy-in-Ok-Some, in-Ok-None, in-Err}
 
-pub returns-then-self : goal.returns-then-self
-returns-then-self g c =
+pub returns-then-self-clause-least : goal.returns-then-self-clause-least
+returns-then-self-clause-least g c =
     rw (← c.self.view_is) (closed_unready g.S.Subject.subject g.S.Subject.meaning c.self.inside.history.entries c.self.invariant.legal (sym c.self.invariant.closed_is ∙ c.if-self.true))
 
-pub returns-then-self-2 : goal.returns-then-self-2
-returns-then-self-2 g c = rw (← c.self.view_is) (sym (c.self.invariant.none_left c.if-self-2.true))
+pub row_at-requires : goal.row_at-requires
+row_at-requires g c =
+    let found = rw c.in-Ok-Some.field-0-is at c.in-Ok-Some.ensures.found in
+    let within = place_within (row_names c.self.inside.stages) c.in-Ok-Some.place found.ready.0 found.ready.1 in
+    let long = names_long c.self.inside.stages in
+    omega (arith, within, long)
 
-pub rests-requires-after_bounds : goal.rests-requires-after_bounds
-rests-requires-after_bounds g c κs b =
-    rw (← c.self.view_is) (present_row g.S.Subject.subject g.S.Subject.meaning c.self.inside.history.entries c.self.invariant.legal c.self.inside.stages c.self.invariant.staged c.row_at.result.0.now c.row_at.result.1.now
-    (row_at c.row_at.result.0.now c.row_at.result.1.now c.self.inside.stages c.loop-place.place c.len-place-end.ensures.ordered c.row_at.ensures))
-
-pub returns-then-rests : goal.returns-then-rests
-returns-then-rests g c =
-    rw (← c.self.view_is) (least_found g.S.Subject.subject g.S.Subject.meaning c.self.inside.history.entries c.self.invariant.legal c.self.inside.stages c.self.invariant.staged c.loop-place.place c.row_at.result.0.now c.row_at.result.1.now
-    c.len-place-end.ensures.ordered (sym c.self.invariant.closed_is ∙ c.if-self.false) c.row_at.ensures (sym c.is_waiting.ensures ∙ c.if-is_waiting.true) (rw c.self.view_is (sym c.rests.ensures ∙ c.if-rests.true)) c.loop-place.invariant)
-
-pub loop-place-preserved : goal.loop-place-preserved
-loop-place-preserved g c =
-    let one : c.loop-place.place + 1 ≡ suc c.loop-place.place = omega arith in
-    let next = ready_next g.S.Subject.subject g.S.Subject.meaning c.self.inside.history.entries c.self.invariant.legal c.self.inside.stages c.self.invariant.staged c.loop-place.place c.row_at.result.0.now c.row_at.result.1.now
-    c.len-place-end.ensures.ordered (sym c.self.invariant.closed_is ∙ c.if-self.false) c.row_at.ensures in
-    rw one (next
-    (elim c.else-is_waiting.branch [
-      | else-is_waiting-via-then-is_waiting+else-rests w ↦ and_right (is_waiting c.row_at.result.1.now) (dependencies_stand g.S.Subject.subject.dependencies c.self.inside.history.entries c.row_at.result.0.now) (rw c.self.view_is (sym w.rests.ensures ∙ w.if-rests.false))
-      | else-is_waiting-via-else-is_waiting w ↦ and_left (is_waiting c.row_at.result.1.now) (dependencies_stand g.S.Subject.subject.dependencies c.self.inside.history.entries c.row_at.result.0.now) (sym c.is_waiting.ensures ∙ w.if-is_waiting.false)
-    ]) c.loop-place.invariant)
-
-pub returns : goal.returns
-returns g c =
-    let past = c.loop-place-test.false in
-    let long = c.len-place-end.ensures.len in
-    rw (← c.self.view_is) (none_ready g.S.Subject.subject g.S.Subject.meaning c.self.inside.history.entries c.self.invariant.legal c.self.inside.stages c.self.invariant.staged c.loop-place.place (omega (arith, past, long)) c.loop-place.invariant)
+pub returns-clause-least : goal.returns-clause-least
+returns-clause-least g c =
+    elim c.match-first_ready.branch [
+      | in-Ok-Some+in_ok-copy-in-Ok-Some w ↦
+          let found = rw w.in-Ok-Some.field-0-is at w.in-Ok-Some.ensures.found in
+          rw w.result-is (ap Some w.in_ok-copy-in-Ok-Some.ensures
+          ∙ rw (← c.self.view_is) (least_told g.S.Subject.subject g.S.Subject.meaning c.self.inside.history.entries c.self.invariant.legal c.self.inside.stages c.self.invariant.staged c.self.inside.graph c.self.invariant.holds
+          (sym c.self.invariant.closed_is ∙ c.if-self.false) w.in-Ok-Some.place w.row_at.result.0.now (named_at c.self.inside.stages w.in-Ok-Some.place w.row_at.result.0.now w.row_at.result.1.now w.row_at.ensures) found))
+      | in-Ok-None w ↦
+          let found = rw w.in-Ok-None.field-0-is at w.in-Ok-None.ensures.found in
+          rw w.result-is (rw (← c.self.view_is) (none_told g.S.Subject.subject g.S.Subject.meaning c.self.inside.history.entries c.self.invariant.legal c.self.inside.stages c.self.invariant.staged c.self.inside.graph c.self.invariant.holds
+          (sym c.self.invariant.closed_is ∙ c.if-self.false) found))
+      | in-Err w ↦ rw w.result-is tt
+    ]

@@ -30,18 +30,22 @@ overflow_sub-self g c =
     let some = some_opened g.S.Subject.subject g.S.Subject.meaning c.self.inside.history.entries c.self.inside.log c.self.inside.graph c.self.inside.stages c.self.inside.closed c.self.inside.opened c.self.inside.entries c.self.inside.installed c.self.invariant c.args.pass c.version-version.result v c.job.inside.name c.job.inside.claim at open'.0 open'.1 in
     omega (arith, some)
 
-pub replace-requires : goal.replace-requires
-replace-requires g c =
-    current_present g.S.Subject.subject g.S.Subject.meaning c.self.inside.history.entries c.self.inside.log c.self.inside.graph c.self.inside.stages c.self.inside.closed c.self.inside.opened c.self.inside.entries c.self.inside.installed c.self.invariant c.job.inside.name c.job.inside.claim
-    (rw c.self.view_is (yes (IsCurrent g.S.Subject.subject.dependencies c.args.self.now c.job.inside.name c.job.inside.claim) (IsCurrent g.S.Subject.subject.dependencies c.args.self.now c.job.inside.name c.job.inside.claim → ⊥) c.is_current-current.result c.if-current.true c.is_current-current.ensures))
+pub wait-requires : goal.wait-requires
+wait-requires g c =
+    record {
+      there = current_present g.S.Subject.subject g.S.Subject.meaning c.self.inside.history.entries c.self.inside.log c.self.inside.graph c.self.inside.stages c.self.inside.closed c.self.inside.opened c.self.inside.entries c.self.inside.installed c.self.invariant c.job.inside.name c.job.inside.claim
+          (rw c.self.view_is (yes (IsCurrent g.S.Subject.subject.dependencies c.args.self.now c.job.inside.name c.job.inside.claim) (IsCurrent g.S.Subject.subject.dependencies c.args.self.now c.job.inside.name c.job.inside.claim → ⊥) c.is_current-current.result c.if-current.true c.is_current-current.ensures));
+      kept = (c.self.inside.graph, c.self.invariant.candidates_all);
+    }
 
 pub invariant_of-self : goal.invariant_of-self
 invariant_of-self g c =
     let v = c.version-version.ensures.version ∙ ap length c.self.invariant.logged in
     let at = here_at g.S.Subject.subject g.S.Subject.meaning c.self.inside.history.entries c.args.self.now c.self.view_is c.args.pass _ c.args.job c.job.view_is c.requires.job in
     let open' = here_release g.S.Subject.subject g.S.Subject.meaning c.self.inside.history.entries c.args.self.now c.self.view_is c.args.pass _ c.args.job c.job.view_is c.requires.job c.requires.may in
-    rw (c.noted-self-inside.ensures, c.replace.ensures)
-    (kept_release_current g.S.Subject.subject g.S.Subject.meaning c.self.inside.history.entries c.self.inside.log c.self.inside.graph c.self.inside.stages c.self.inside.closed c.self.inside.opened c.self.inside.entries c.self.inside.installed c.self.invariant c.args.pass c.version-version.result v c.job.inside.name c.job.inside.claim at open'.0 open'.1
+    let kept = rw c.wait.ensures.stages at c.wait.ensures.kept c.self.inside.graph c.self.invariant.candidates_all in
+    rw (c.noted-self-inside.ensures, c.wait.ensures.stages)
+    (kept_release_current g.S.Subject.subject g.S.Subject.meaning c.self.inside.history.entries c.self.inside.log c.self.inside.graph c.self.inside.stages c.self.inside.closed c.self.inside.opened c.self.inside.entries c.self.inside.installed c.self.invariant c.args.pass c.version-version.result v c.job.inside.name c.job.inside.claim at open'.0 open'.1 c.wait.new.candidates kept
     (rw c.self.view_is (yes (IsCurrent g.S.Subject.subject.dependencies c.args.self.now c.job.inside.name c.job.inside.claim) (IsCurrent g.S.Subject.subject.dependencies c.args.self.now c.job.inside.name c.job.inside.claim → ⊥) c.is_current-current.result c.if-current.true c.is_current-current.ensures)))
 
 pub invariant_of-self-else-current : goal.invariant_of-self-else-current

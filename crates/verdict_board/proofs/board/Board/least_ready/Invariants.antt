@@ -1,9 +1,0 @@
-use Rattle.std.proofs.Common.{◌≡◌, ℕ, ◌<◌, false, slice_get, Some}
-use Rattle.name_meaning.specs.Names.{Name}
-use Rattle.name_meaning.specs.Rows.{row_names}
-use Rattle.board_meaning.specs.Ready.{is_ready}
-use Rattle.verdict_board.proofs.board.Board.least_ready.Given as goal
-
-abbrev pub invariant-loop-place : goal.invariant-loop-place
-invariant-loop-place g l =
-    (j : ℕ) (n : Name) → j < l.place → slice_get (row_names l.self-inside.stages) j ≡ Some n → is_ready g.S.Subject.subject.dependencies l.self-inside.history.entries n ≡ false

@@ -1,0 +1,5 @@
+use Rattle.verdict_board.proofs.Writing.{AreEmpty}
+use Rattle.verdict_board.proofs.candidates.Candidates.new.Given as goal
+
+abbrev pub invariant-loop : goal.invariant-loop
+invariant-loop l = AreEmpty (λ list. list.items) l.parked.items l.counter

@@ -1,0 +1,155 @@
+//! Which modules may be ready: a claim looks at no others.
+ghost use Rattle.std.specs.Prelude.{◌≡◌, ◌<◌, ℕ, true, false, length, slice_get, is_some, IfOk, MatchBool, MatchOption, Some};
+ghost use Rattle.name_meaning.specs.Rows.{row_names, row_of, with_row, IsTable};
+ghost use Rattle.list_laws.proofs.Members.{Member};
+ghost use Rattle.verdict_board.specs.declared.stage.Stage.TheVariants.{Waiting};
+ghost use Rattle.verdict_board.specs.Stages.{is_waiting};
+ghost use Rattle.verdict_board.specs.Readiness.{AreMarked, IsFirstReady, IsLacking, IsReadyAt, IsUnreadyAt, NoneIsReady, NoneLacks};
+ghost use Rattle.verdict_board.specs.Searching.{AreKept, AreNew};
+
+use crate::stage::Stage;
+use lf_terms::{Memory, Name, Names};
+use module_graph::Graph;
+use name_table::NameTable;
+use std::alloc::Global;
+
+/// Modules are given by their places in the table of stages. One that is no candidate is known not to be ready: it does not wait for
+/// a claim, or it is parked at one of its direct dependencies, which is present without a standing verdict.
+#[derive(Drop)]
+pub struct Candidates {
+    /// Whether each module is a candidate.
+    candidate: Vec<bool>,
+    /// The modules that are parked at each module.
+    parked: Vec<Vec<usize>>,
+}
+
+impl Candidates {
+    /// So many modules, of which each is a candidate.
+    pub fn new(alloc: Global, count: usize) -> Result<Candidates, Memory>
+        ensures { IfOk result (λ candidates. AreNew count candidates) }
+    {
+        let mut parked = Vec::new(alloc);
+        for _ in 0..count {
+            parked.push(Vec::new(alloc))?;
+        }
+        Ok(Candidates {
+            candidate: vec![in alloc; true; count]?,
+            parked,
+        })
+    }
+
+    /// Whether the module at a place is ready. One that is not is a candidate no longer.
+    fn look<A: Drop>(
+        &mut self,
+        stages: &NameTable<Stage<A>>,
+        graph: &Graph,
+        place: usize,
+    ) -> Result<bool, Memory>
+        requires kept { AreKept stages.now graph.now self.old }
+        requires within { place < length stages.now }
+        ensures kept { AreKept stages.now graph.now self.new }
+        ensures ready { IfOk result (λ ready. MatchBool ready (IsReadyAt stages.now graph.now place) (IsUnreadyAt stages.now graph.now place)) }
+    {
+        if !self.candidate[place] {
+            return Ok(false);
+        }
+        if !stages.row_at(place).1.is_waiting() {
+            self.candidate[place] = false;
+            return Ok(false);
+        }
+        match first_lacking(stages, graph.dependencies_at(place)) {
+            Some(other) => {
+                self.parked[other].push(place)?;
+                self.candidate[place] = false;
+                Ok(false)
+            }
+            None => Ok(true),
+        }
+    }
+}
+
+/// The place of the first module in byte order that is ready, if one is.
+pub fn first_ready<A: Drop>(
+    stages: &NameTable<Stage<A>>,
+    graph: &Graph,
+    candidates: &mut Candidates,
+) -> Result<Option<usize>, Memory>
+    requires kept { AreKept stages.now graph.now candidates.old }
+    ensures kept { AreKept stages.now graph.now candidates.new }
+    ensures found { IfOk result (λ found. MatchOption found (NoneIsReady stages.now graph.now) (λ place. IsFirstReady stages.now graph.now place)) }
+{
+    for place in 0..stages.len() {
+        if candidates.look(stages, graph, place)? {
+            return Ok(Some(place));
+        }
+    }
+    Ok(None)
+}
+
+/// The place of the first of these names that is present and has no standing verdict, if there is one.
+fn first_lacking<A: Drop>(stages: &NameTable<Stage<A>>, names: &Names) -> Option<usize>
+    requires { IsTable stages.now }
+    ensures { MatchOption result (NoneLacks stages.now names.now) (λ place. IsLacking stages.now names.now place) }
+{
+    for name in names.as_slice() {
+        if let Ok(place) = stages.place(name) {
+            if stages.row_at(place).1.standing().is_none() {
+                return Some(place);
+            }
+        }
+    }
+    None
+}
+
+/// Gives a module a standing verdict. The modules that are parked at it are candidates again.
+pub fn stand<A: Drop>(
+    stages: &mut NameTable<Stage<A>>,
+    candidates: &mut Candidates,
+    name: &Name,
+    stage: Stage<A>,
+)
+    requires there { is_some (row_of stages.old name.now) ≡ true }
+    requires waits_not { is_waiting stage ≡ false }
+    requires kept { (graph : Graph) × AreKept stages.old graph candidates.old }
+    ensures stages { stages.new ≡ with_row name.now stage stages.old }
+    ensures kept { (graph : Graph) → AreKept stages.old graph candidates.old → AreKept stages.new graph candidates.new }
+{
+    let place = place_of(stages, name);
+    stages.replace(name, stage);
+    mark(&mut candidates.candidate, &candidates.parked[place]);
+}
+
+/// Has a module wait for a claim. It is a candidate again.
+pub fn wait<A: Drop>(stages: &mut NameTable<Stage<A>>, candidates: &mut Candidates, name: &Name)
+    requires there { is_some (row_of stages.old name.now) ≡ true }
+    requires kept { (graph : Graph) × AreKept stages.old graph candidates.old }
+    ensures stages { stages.new ≡ with_row name.now Waiting stages.old }
+    ensures kept { (graph : Graph) → AreKept stages.old graph candidates.old → AreKept stages.new graph candidates.new }
+{
+    let place = place_of(stages, name);
+    stages.replace(name, Stage::Waiting);
+    candidates.candidate[place] = true;
+}
+
+/// The place of a module that has a stage.
+fn place_of<A: Drop>(stages: &NameTable<Stage<A>>, name: &Name) -> usize
+    requires { is_some (row_of stages.now name.now) ≡ true }
+    ensures named { slice_get (row_names stages.now) result ≡ Some name.now }
+    ensures within { result < length stages.now }
+{
+    match stages.place(name) {
+        Ok(place) => place,
+        Err(_) => unreachable!(),
+    }
+}
+
+/// Has the modules at these places be candidates.
+fn mark(candidate: &mut [bool], places: &[usize])
+    requires { (place : ℕ) → Member place places.now → place < length candidate.old }
+    ensures length { length candidate.new ≡ length candidate.old }
+    ensures marked { AreMarked candidate.old candidate.new places.now }
+{
+    for place in places {
+        candidate[*place] = true;
+    }
+}
