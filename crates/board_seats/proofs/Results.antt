@@ -9,7 +9,7 @@ use Rattle.turn_meaning.specs.Passes.{Pass, Takes, MayGive, after_turn}
 use Rattle.board_meaning.specs.Events.{Event, Entry, History, library_after, entry_of}
 use Rattle.board_meaning.specs.Machine.{Job, edit_event, edit_reply, claim_reply, report_reply, answers_reply, event_of, Call, EditCall, ClaimCall, may_call, after_call}
 use Rattle.board_meaning.specs.Legal.{IsLegal}
-use Rattle.board_meaning.specs.Points.{number_of, is_made, is_verdict, Makes, Reports, AsksAnswers, EditReply, ClaimReply, ReportReply, AnswersReply}
+use Rattle.board_meaning.specs.Points.{number_of, are_below, IsPoint, is_made, is_verdict, Makes, Reports, AsksAnswers, EditReply, ClaimReply, ReportReply, AnswersReply}
 use Rattle.edit_log.specs.Readings.{read_edited, IsAnswer}
 use Rattle.edit_log.specs.declared.answers.Edited.{Edited}
 use Rattle.edit_log.specs.declared.answers.EditFault.{EditFault}
@@ -18,8 +18,8 @@ use Rattle.module_graph.specs.Subjects.{IsGiven, read_answers}
 use Rattle.verdict_board.specs.Readings.{read_told, read_job}
 use Rattle.verdict_board.specs.declared.replies.Told.{Told}
 use Rattle.board_seats.specs.Replies.{read_edit_reply, read_claim, read_report, read_question}
-use Rattle.board_seats.specs.Seats.{IsRepliedTo, IsCalled, MayEnd, IsGivenAtClaim}
-use Rattle.board_seats.proofs.Turns.{may_edit, may_claim, may_give, may_give_same, sees, made, told, wanted}
+use Rattle.board_seats.specs.Seats.{IsRepliedTo, IsCalled, LooksAt, MayEnd, IsGivenAtClaim}
+use Rattle.board_seats.proofs.Turns.{may_edit, may_claim, may_give, may_give_same, sees, keeps, made, told, wanted}
 use Rattle.board_seats.proofs.Ending.{handed_out, before_claim}
 
 module _ {Lock : Type 0} (before : Pass Lock Entry) (point : History) (taken : Pass Lock Entry) (takes : Takes number_of before point taken) (number : ℕ) (same : number ≡ taken.number) (after : History) where
@@ -95,3 +95,13 @@ module _ {Lock : Type 0} (before : Pass Lock Entry) (point : History) (taken : P
         → IsCalled subject before (AsksAnswers name) (read_question meaning result) given
     asked name (Ok answers) r = told before point taken takes after given idle gives subject legal (AsksAnswers name) (AnswersReply (option_map (read_answers meaning) answers)) refl (ap AnswersReply r) refl same
     asked name (Err error) r = wanted before point taken takes after given idle gives subject legal (AsksAnswers name) refl refl same
+
+  -- the pass has looked at the board, which is given back as it was
+  pub looked : (dependencies : Dependencies) → IsLegal dependencies point → after ≡ point → LooksAt dependencies before given
+  looked dependencies legal same =
+      let at = sees before point taken takes after given idle gives ∙ same in
+      record {
+        keeps = keeps before point taken takes after given idle gives;
+        at_point = subst (IsPoint dependencies before.seen before.number) (sym at) (record { goes_on = takes.goes_on; legal = legal });
+        below = λ zero. subst (λ (h : History). are_below before.made h ≡ true) (sym at) (takes.below zero);
+      }

@@ -1,10 +1,11 @@
 -- What a call through a pass of a shared board is, and which jobs a pass has (this profile).
 use Rattle.std.specs.Prelude.{◌≡◌, ℕ, true, take, Option, Some, None}
 use Rattle.walk_meaning.specs.Subject.{Subject}
+use Rattle.walk_meaning.specs.Walks.{Dependencies}
 use Rattle.turn_meaning.specs.Passes.{Pass}
 use Rattle.board_meaning.specs.Events.{Entry, History, library_after}
 use Rattle.board_meaning.specs.Machine.{Job, job_of, InstallCall, ReleaseCall, may_call}
-use Rattle.board_meaning.specs.Points.{are_below, BoardCall, Reply, Happens, FindsNoMemory}
+use Rattle.board_meaning.specs.Points.{are_below, IsPoint, BoardCall, Reply, Happens, FindsNoMemory}
 use Rattle.module_graph.specs.Subjects.{IsGiven}
 
 -- Of a pass only what it has seen has changed.
@@ -29,6 +30,13 @@ module _ {Lock Meaning : Type 0} (subject : Subject Meaning) (before : Pass Lock
   abbrev pub IsCalled : Option (Reply Meaning) → Pass Lock Entry → Type 0
   IsCalled (Some reply) after = IsRepliedTo reply after
   IsCalled None after = IsWithoutMemory after
+
+-- The pass has looked at the board at a point, which it has then seen. Where the pass is pass 0, each entry of the point is of a pass
+-- that was made.
+pub record LooksAt {Lock : Type 0} (dependencies : Dependencies) (before after : Pass Lock Entry) : Type 0 where
+  pub keeps : Keeps before after
+  pub at_point : IsPoint dependencies before.seen before.number after.seen
+  pub below : before.number ≡ 0 → are_below before.made after.seen ≡ true
 
 -- The job is that of a claim that is open after this history, and that this pass has made, so that the pass may end it.
 pub record MayEnd {Meaning : Type 0} (subject : Subject Meaning) (history : History) (pass : ℕ) (job : Job Meaning) : Type 0 where

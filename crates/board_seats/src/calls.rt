@@ -7,9 +7,10 @@ ghost use Rattle.board_meaning.specs.Machine.{EditCall, ClaimCall, InstallCall, 
 ghost use Rattle.board_meaning.specs.Points.{Makes, Reports, AsksAnswers, AsksClosed, ClosedReply, NoReply};
 ghost use Rattle.edit_log.specs.Readings.{read_edit};
 ghost use Rattle.module_graph.specs.Subjects.{IsGiven, read_answers};
+ghost use Rattle.verdict_board.specs.FirstPending.{IsFirstPending};
 ghost use Rattle.verdict_board.specs.Readings.{read_job};
 ghost use Rattle.board_seats.specs.Replies.{read_edit_reply, read_claim, read_report, read_question, read_install};
-ghost use Rattle.board_seats.specs.Seats.{IsCalled, MayEnd, IsGivenAtClaim};
+ghost use Rattle.board_seats.specs.Seats.{IsCalled, LooksAt, MayEnd, IsGivenAtClaim};
 
 use crate::{BoardPass, SharedBoard};
 use edit_log::{Edit, EditFault, Edited};
@@ -37,6 +38,7 @@ impl<S: Subject> SharedBoard<S> {
         let mut board = self.take(rt, pass);
         let answer = board.edit(alloc, Turns::number(pass), edit);
         self.give(pass, board);
+        self.wake_after_edit(&answer);
         answer
     }
 
@@ -56,6 +58,7 @@ impl<S: Subject> SharedBoard<S> {
         let mut board = self.take(rt, pass);
         let job = board.claim(alloc, Turns::number(pass));
         self.give(pass, board);
+        self.wake_after_claim(&job);
         job
     }
 
@@ -93,6 +96,7 @@ impl<S: Subject> SharedBoard<S> {
         let mut board = self.take(rt, pass);
         board.release(Turns::number(pass), job);
         self.give(pass, board);
+        self.changes.notify_one();
     }
 
     /// What is to be told of a name, with the version; see `Board::report`. Want of memory may come in place of a verdict alone.
@@ -128,6 +132,24 @@ impl<S: Subject> SharedBoard<S> {
         answers
     }
 
+    /// The place of the first module at a place or behind it whose verdict is to come; see `Board::first_pending`. It takes no
+    /// memory.
+    pub fn first_pending<R: Wait>(
+        &self,
+        rt: &R,
+        pass: &mut BoardPass<S>,
+        from: usize,
+    ) -> Option<usize>
+        requires idle { IsIdleOf self.now pass.old }
+        ensures looks { LooksAt S.subject.dependencies pass.old pass.new }
+        ensures pending { IsFirstPending S.subject.dependencies pass.new.seen from result }
+    {
+        let board = self.take(rt, pass);
+        let place = board.first_pending(from);
+        self.give(pass, board);
+        place
+    }
+
     /// Closes the board, through pass 0, if it is not closed. It takes no memory.
     pub fn close<R: Wait>(&self, rt: &R, pass: &mut BoardPass<S>)
         requires idle { IsIdleOf self.now pass.old }
@@ -137,6 +159,7 @@ impl<S: Subject> SharedBoard<S> {
         let mut board = self.take(rt, pass);
         board.close(Turns::number(pass));
         self.give(pass, board);
+        self.changes.notify_all();
     }
 
     /// Whether the board was closed.

@@ -6,7 +6,9 @@ mod entry;
 pub mod job_laws;
 mod seated;
 mod shared_board;
+mod waits;
 
 pub use entry::SeenEntry;
 pub use seated::{BoardPass, Seated};
 pub use shared_board::SharedBoard;
+pub use waits::Announced;

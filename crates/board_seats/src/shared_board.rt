@@ -7,6 +7,7 @@ ghost use Rattle.board_meaning.specs.Legal.{IsLegal};
 ghost use Rattle.turn_lock.specs.declared.turns.NewFault.TheVariants.{Memory as NoMemory};
 
 use crate::{BoardPass, Seated};
+use crossbeam_utils::sync::EventCount;
 use lf_terms::Memory;
 use module_graph::Subject;
 use std::alloc::Global;
@@ -20,6 +21,11 @@ use verdict_board::Board;
 #[derive(Drop)]
 pub struct SharedBoard<S: Subject> {
     turns: Turns<Seated<S>>,
+    /// Wakes those that wait until there may be a job. An edit that was made wakes one, a release one, and a claim that gave a job
+    /// or found no memory one: whoever is woken claims, and so wakes the next, for as long as there are jobs, and an edit that
+    /// gives few wakes no crowd. An install wakes nobody: who installed goes on, and its next claim wakes. A close wakes all. The
+    /// board is given back before a wake, so a turn behind it finds what changed.
+    pub(crate) changes: EventCount,
 }
 
 impl<S: Subject> Model for SharedBoard<S> {
@@ -42,7 +48,13 @@ impl<S: Subject> SharedBoard<S> {
         ensures back { IfErr result (λ fault. fault ≡ NoMemory board) }
     {
         match Turns::new(alloc, Seated::new(board)) {
-            Ok((turns, pass)) => Ok((SharedBoard { turns }, pass)),
+            Ok((turns, pass)) => Ok((
+                SharedBoard {
+                    turns,
+                    changes: EventCount::new(),
+                },
+                pass,
+            )),
             Err(NewFault::Memory(seated)) => Err(NewFault::Memory(seated.into_board())),
         }
     }
@@ -74,7 +86,7 @@ impl<S: Subject> SharedBoard<S> {
         ensures seen { result ≡ pass.seen }
         ensures legal { IsLegal S.subject.dependencies result }
     {
-        let SharedBoard { turns } = self;
+        let SharedBoard { turns, changes: _ } = self;
         turns.end(pass).into_board()
     }
 

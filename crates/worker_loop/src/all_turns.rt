@@ -5,8 +5,8 @@ ghost use Rattle.board_seats.specs.Seats.{Keeps};
 ghost use Rattle.worker_loop.specs.Work.{IsDone, IsStopped};
 
 use crate::one_turn::{TurnEnd, turn};
+use crate::rest::Rest;
 use board_seats::{BoardPass, SharedBoard};
-use crossbeam_utils::Backoff;
 use lf_terms::{Memory, Steps};
 use mmt_outside::Gate;
 use module_graph::Subject;
@@ -14,8 +14,8 @@ use std::alloc::Global;
 use std::sync::Wait;
 use std::sync::ledger::Ledger;
 
-/// Turns until one finds the board closed, backing off where no module is ready. It stops for want of memory alone. The counter
-/// ticks once for each module that was judged.
+/// Turns until one finds the board closed, sleeping where two in a row find no module ready, until there may be one. It stops for
+/// want of memory alone. The counter ticks once for each module that was judged.
 pub fn work<R: Wait, S: Subject, G: Gate, L: Ledger>(
     rt: &R,
     alloc: Global,
@@ -30,11 +30,11 @@ pub fn work<R: Wait, S: Subject, G: Gate, L: Ledger>(
     ensures done { OnOk result (IsDone S.subject pass.old.seen pass.old.number steps.old pass.new.seen steps.new) }
     ensures stopped { OnErr result (IsStopped S.subject pass.old.seen pass.old.number steps.old pass.new.seen steps.new) }
 {
-    let backoff = Backoff::new();
+    let mut rest = Rest::new();
     for _ in rt.forever() {
         match turn(rt, alloc, board, subject, pass, gate, steps)? {
-            TurnEnd::Worked { .. } => backoff.reset(),
-            TurnEnd::Idle => backoff.snooze(),
+            TurnEnd::Worked { .. } => rest.reset(),
+            TurnEnd::Idle => rest.pause(rt, board),
             TurnEnd::Closed => return Ok(()),
         }
     }
