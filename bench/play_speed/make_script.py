@@ -14,12 +14,21 @@ edited   NUMBER theories, each of which includes one of those before it, and as 
 applied  a theory of NUMBER declarations with a value of 400 applications, one in the other
 towers   NUMBER theories, each of which has a structure of the last
 copied   NUMBER copies of a small hierarchy of algebras, each with a view into a theory of its own, and a check
+algebras NUMBER copies, at most 315, of thirteen modules of the example library, from propositions to rings and modules over rings
+         with their views, and a check
 levels   300 theories, each of which includes the last, and NUMBER edits of the first, the middle and the last one, each with a check
 folder   NUMBER files of a megabyte
 """
 import pathlib
 import random
+import re
 import sys
+
+LIBRARY = pathlib.Path(__file__).resolve().parent.parent.parent / "examples/library"
+ALGEBRAS = (
+    "Prop", "Set", "Magma", "Semigroup", "CommutativeMagma", "Monoid", "Group", "AbelianGroup", "Ring", "LeftModule",
+    "OppositeMonoid", "RingItself", "RegularModule",
+)
 
 ALGEBRA = "a : type. op : a -> a -> a. e : a. i : a -> a. d : a = op e (i e)."
 TEN = (
@@ -142,6 +151,25 @@ def copied(count):
     yield "check\n"
 
 
+def library_modules(names):
+    """The texts of these modules of the example library."""
+    found = {}
+    for file in sorted(LIBRARY.glob("*.elf")):
+        text = re.sub(r"(?m)^ *%[ %].*\n", "", file.read_text())
+        for module in re.findall(r"(?ms)^%(?:sig|view) .*?^\}\.$", text):
+            found[re.match(r"%(?:sig|view) (\S+)", module)[1]] = module
+    return [(name, found[name]) for name in names]
+
+
+def algebras(count):
+    modules = library_modules(ALGEBRAS)
+    own = re.compile(r"(?<![^\s.(){}\[\]:])(" + "|".join(ALGEBRAS) + r")(?![^\s.(){}\[\]:])")
+    for i in range(count):
+        for name, text in modules:
+            yield put(f"{name}{i}", own.sub(rf"\g<1>{i}", text))
+    yield "check\n"
+
+
 def levels(count):
     for name, text in linked(300, "%include {last}. c : a."):
         yield put(name, text)
@@ -181,6 +209,8 @@ def pieces(shape, count):
             yield from edited(count)
         case "copied":
             yield from copied(count)
+        case "algebras":
+            yield from algebras(count)
         case "levels":
             yield from levels(count)
         case _:
