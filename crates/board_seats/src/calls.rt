@@ -12,6 +12,7 @@ ghost use Rattle.verdict_board.specs.Readings.{read_job};
 ghost use Rattle.board_seats.specs.Replies.{read_edit_reply, read_claim, read_report, read_question, read_install};
 ghost use Rattle.board_seats.specs.Seats.{IsCalled, LooksAt, MayEnd, IsGivenAtClaim};
 
+use crate::waits::puts_long;
 use crate::{BoardPass, SharedBoard};
 use edit_log::{Edit, EditFault, Edited};
 use lf_terms::{Memory, Name};
@@ -35,10 +36,11 @@ impl<S: Subject> SharedBoard<S> {
         requires front { pass.old.number ≡ 0 }
         ensures { IsCalled S.subject pass.old (Makes (EditCall (read_edit edit))) (read_edit_reply result) pass.new }
     {
+        let is_long = puts_long(&edit);
         let mut board = self.take(rt, pass);
         let answer = board.edit(alloc, Turns::number(pass), edit);
         self.give(pass, board);
-        self.wake_after_edit(&answer);
+        self.wake_after_edit(is_long, &answer);
         answer
     }
 
@@ -83,6 +85,7 @@ impl<S: Subject> SharedBoard<S> {
         let mut board = self.take(rt, pass);
         let reply = board.install(Turns::number(pass), job, verdict);
         self.give(pass, board);
+        self.ends.notify_all();
         reply
     }
 
@@ -96,7 +99,8 @@ impl<S: Subject> SharedBoard<S> {
         let mut board = self.take(rt, pass);
         board.release(Turns::number(pass), job);
         self.give(pass, board);
-        self.changes.notify_one();
+        self.wake_one();
+        self.ends.notify_all();
     }
 
     /// What is to be told of a name, with the version; see `Board::report`. Want of memory may come in place of a verdict alone.
@@ -112,6 +116,7 @@ impl<S: Subject> SharedBoard<S> {
         let board = self.take(rt, pass);
         let told = board.report(name);
         self.give(pass, board);
+        self.wake_after_report(&told);
         told
     }
 
@@ -159,7 +164,7 @@ impl<S: Subject> SharedBoard<S> {
         let mut board = self.take(rt, pass);
         board.close(Turns::number(pass));
         self.give(pass, board);
-        self.changes.notify_all();
+        self.wake_all();
     }
 
     /// Whether the board was closed.

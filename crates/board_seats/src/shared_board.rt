@@ -13,6 +13,7 @@ use module_graph::Subject;
 use std::alloc::Global;
 use std::marker::Model;
 use std::sync::Wait;
+use std::sync::atomic::AtomicBool;
 use turn_lock::{NewFault, Turns};
 use verdict_board::Board;
 
@@ -21,11 +22,18 @@ use verdict_board::Board;
 #[derive(Drop)]
 pub struct SharedBoard<S: Subject> {
     turns: Turns<Seated<S>>,
-    /// Wakes those that wait until there may be a job. An edit that was made wakes one, a release one, and a claim that gave a job
-    /// or found no memory one: whoever is woken claims, and so wakes the next, for as long as there are jobs, and an edit that
-    /// gives few wakes no crowd. An install wakes nobody: who installed goes on, and its next claim wakes. A close wakes all. The
-    /// board is given back before a wake, so a turn behind it finds what changed.
+    /// Wakes those that wait until there may be a job. A report that says that a verdict is to come wakes one, so does a claim that
+    /// gave a job or found no memory, and a release: whoever is woken claims, and so wakes the next, for as long as there are
+    /// jobs. An edit that puts a long text wakes one. A short one is judged in less time than it takes to wake somebody, and while
+    /// texts are put one after another the turns of those that were woken would only hold up the next edit: it waits until
+    /// somebody asks for its verdict. An install wakes nobody: who installed goes on, and its next claim wakes. A close wakes all.
+    /// The board is given back before a wake, so a turn behind it finds what changed.
     pub(crate) changes: EventCount,
+    /// Whether somebody was woken so far. Until then no worker claims: while texts are put and nobody asks for a verdict, the front
+    /// has the board for itself.
+    pub(crate) has_begun: AtomicBool,
+    /// Wakes those that wait for the end of a claim: each install and each release wakes all.
+    pub(crate) ends: EventCount,
 }
 
 impl<S: Subject> Model for SharedBoard<S> {
@@ -52,6 +60,8 @@ impl<S: Subject> SharedBoard<S> {
                 SharedBoard {
                     turns,
                     changes: EventCount::new(),
+                    has_begun: AtomicBool::new(false),
+                    ends: EventCount::new(),
                 },
                 pass,
             )),
@@ -86,7 +96,12 @@ impl<S: Subject> SharedBoard<S> {
         ensures seen { result ≡ pass.seen }
         ensures legal { IsLegal S.subject.dependencies result }
     {
-        let SharedBoard { turns, changes: _ } = self;
+        let SharedBoard {
+            turns,
+            changes: _,
+            has_begun: _,
+            ends: _,
+        } = self;
         turns.end(pass).into_board()
     }
 

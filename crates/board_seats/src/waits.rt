@@ -1,12 +1,16 @@
-//! Waits for a board that may have a job.
+//! Waits for a board that may have a job, and for claims that end.
 
 use crate::SharedBoard;
 use crossbeam_utils::sync::Key;
-use edit_log::{EditFault, Edited};
+use edit_log::{Edit, EditFault, Edited};
 use lf_terms::Memory;
 use module_graph::Subject;
 use std::sync::Wait;
-use verdict_board::Job;
+use std::sync::atomic::Ordering::SeqCst;
+use verdict_board::{Job, Told};
+
+/// A text of so many bytes takes longer to judge than it takes to wake somebody.
+const LONG: usize = 4_096;
 
 /// A wait that is announced. Letting it go cancels the wait.
 #[derive(Drop)]
@@ -15,8 +19,7 @@ pub struct Announced<'a> {
 }
 
 impl Announced<'_> {
-    /// Sleeps until the board wakes those that wait, if it has not done so since the wait was announced. There may be a job then,
-    /// or the board is closed.
+    /// Sleeps until the board wakes those that wait, if it has not done so since the wait was announced.
     pub fn wait<R: Wait>(self, rt: &R) {
         let Announced { key } = self;
         key.wait(rt);
@@ -24,25 +27,70 @@ impl Announced<'_> {
 }
 
 impl<S: Subject> SharedBoard<S> {
-    /// Announces a wait. A claim that comes behind it and finds no job may be followed by the wait: whatever gives a job later ends
-    /// it.
+    /// Announces a wait for a job. A claim that comes behind it and finds no job may be followed by the wait: a later report that
+    /// says that a verdict is to come ends it, a claim that gives a job, a release, an edit that puts a long text, and a close. An
+    /// edit that puts a short one does not, nor does a question for answers.
     pub fn announce(&self) -> Announced<'_> {
         Announced {
             key: self.changes.prepare_wait(),
         }
     }
 
-    /// Wakes one that waits, where an edit was made.
-    pub(crate) fn wake_after_edit(&self, answer: &Result<Edited, EditFault>) {
-        if matches!(answer, Ok(Edited::Made(_))) {
-            self.changes.notify_one();
+    /// Sleeps until somebody is woken for the first time, or the board is closed.
+    pub fn wait_for_begin<R: Wait>(&self, rt: &R) {
+        let announced = self.announce();
+        if !self.has_begun.load(SeqCst) {
+            announced.wait(rt);
+        }
+    }
+
+    /// Announces a wait for the end of a claim. Where a report that comes behind it says that a verdict is to come, and a claim
+    /// behind that one finds no job, another claim is open, unless the board is closed, and the wait may follow: an install or a
+    /// release ends it.
+    pub fn announce_end(&self) -> Announced<'_> {
+        Announced {
+            key: self.ends.prepare_wait(),
+        }
+    }
+
+    /// Wakes one that waits for a job.
+    pub(crate) fn wake_one(&self) {
+        self.has_begun.store(true, SeqCst);
+        self.changes.notify_one();
+    }
+
+    /// Wakes all that wait for a job.
+    pub(crate) fn wake_all(&self) {
+        self.has_begun.store(true, SeqCst);
+        self.changes.notify_all();
+    }
+
+    /// Wakes one that waits, where an edit was made that puts a long text.
+    pub(crate) fn wake_after_edit(&self, is_long: bool, answer: &Result<Edited, EditFault>) {
+        if is_long && matches!(answer, Ok(Edited::Made(_))) {
+            self.wake_one();
+        }
+    }
+
+    /// Wakes one that waits, where a report said that a verdict is to come.
+    pub(crate) fn wake_after_report(&self, told: &Result<Told<S::Answer>, Memory>) {
+        if matches!(told, Ok(Told::Pending { .. })) {
+            self.wake_one();
         }
     }
 
     /// Wakes one that waits, unless a claim found that no name is ready.
     pub(crate) fn wake_after_claim(&self, job: &Result<Option<Job<S>>, Memory>) {
         if !matches!(job, Ok(None)) {
-            self.changes.notify_one();
+            self.wake_one();
         }
+    }
+}
+
+/// Whether an edit puts a long text.
+pub(crate) fn puts_long(edit: &Edit) -> bool {
+    match edit {
+        Edit::Put { text, .. } => text.get().as_slice().len() >= LONG,
+        Edit::Drop { .. } => false,
     }
 }

@@ -52,6 +52,24 @@ pub fn put_all<R: Wait>(
     Ok(all)
 }
 
+/// Claims a module and releases it. The answer is the number of the claim, if a module was ready.
+pub fn claim_and_release<R: Wait>(
+    rt: &R,
+    alloc: Global,
+    board: &Shared,
+    pass: &mut Seat,
+) -> Result<Option<u64>, Memory>
+    requires idle { IsIdleOf board.now pass.old }
+    ensures { Keeps pass.old pass.new }
+{
+    let Some(job) = board.claim(rt, alloc, pass)? else {
+        return Ok(None);
+    };
+    let claim = job.claim();
+    board.release(rt, pass, job);
+    Ok(Some(claim))
+}
+
 /// Waits until the verdict of a name is told.
 pub fn wait_for<R: Wait>(
     rt: &R,

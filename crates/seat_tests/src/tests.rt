@@ -4,7 +4,7 @@ ghost use Rattle.board_meaning.specs.Legal.{IsLegal};
 ghost use Rattle.board_tests.specs.Sizes.{sizes};
 
 use crate::crews::by_crew;
-use crate::runs::{Seat, Shared, by_three, empty_module};
+use crate::runs::{Seat, Shared, by_three, claim_and_release, empty_module};
 use board_seats::SharedBoard;
 use board_tests::sizes::Sizes;
 use edit_log::Edited;
@@ -65,18 +65,14 @@ fn pass_0_makes_each_call(rt: HostRuntime) -> Result<(), Fail> {
     let name = Name::new(alloc, "A")?;
     let (shared, mut first) = shared_board(alloc)?;
     let put = shared.edit(&rt, alloc, &mut first, empty_module(alloc, &name)?);
-    let Some(job) = shared.claim(&rt, alloc, &mut first)? else {
-        return Err("no job".into());
-    };
-    let claim = job.claim();
-    shared.release(&rt, &mut first, job);
+    let claim = claim_and_release(&rt, alloc, &shared, &mut first)?;
     let told = shared.report(&rt, &mut first, &name)?;
     let answers = shared.answers(&rt, alloc, &mut first, &name)?;
     let open = !shared.closed(&rt, &mut first);
     shared.close(&rt, &mut first);
     let closed = shared.closed(&rt, &mut first);
     let board = shared.end(first);
-    assert!(rt; matches!(put, Ok(Edited::Made(1))) && claim == 1);
+    assert!(rt; matches!(put, Ok(Edited::Made(1))) && claim == Some(1));
     assert!(rt; matches!(told, Told::Pending { version: 1 }) && answers.is_none());
     assert!(rt; open && closed && board.entries() == 4 && board.installs() == 0);
     Ok(())

@@ -5,6 +5,7 @@
 mod pass;
 mod plays;
 mod rule;
+mod sleepers;
 mod steps;
 mod story;
 mod turns;

@@ -121,15 +121,15 @@ pub fn put_in<T: Story>(top: &Top<T>, place: &mut Place<T>, value: T)
     }
 }
 
-/// Gives the slot back, and the turn to the next ticket.
-pub fn pass_on<T: Story>(top: &Top<T>, place: &mut Place<T>)
+/// Gives the slot back, and the turn to the next ticket. The answer is the ticket whose turn it was.
+pub fn pass_on<T: Story>(top: &Top<T>, place: &mut Place<T>) -> u64
     requires table { IsTable top.now.table_id place.old.table_id }
     requires turn { has_turn place.old.me.0.stage ≡ true }
     requires hand { (x : T) × (place.old.me.1 ≡ (0, Some x) ∷ []) × (T.entries x ≡ place.old.me.0.seen) }
     ensures table { place.new.table_id ≡ place.old.table_id }
     ensures passed { place.new.me ≡ (at_stage Idle place.old.me.0, []) }
 {
-    top.fetch_add::<PassOn>(place, SERVING, 1);
+    top.fetch_add::<PassOn>(place, SERVING, 1)
 }
 
 /// A new seat, for the pass with the next number.

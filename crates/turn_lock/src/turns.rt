@@ -6,6 +6,7 @@ ghost use Rattle.turn_lock.specs.declared.turns.NewFault.TheVariants.{Memory as 
 
 use crate::pass::Pass;
 use crate::rule::TurnTable;
+use crate::sleepers::Sleepers;
 use crate::steps::{enter_new, join_in, note, pass_on, put_in, split_off, take_out};
 use crate::story::Story;
 use crate::waits::{draw_ticket, wait_for_turn};
@@ -21,6 +22,7 @@ use std::sync::Wait;
 #[derive(Drop)]
 pub struct Turns<T: Story> {
     table: TurnTable<T>,
+    sleepers: Sleepers,
 }
 
 impl<T: Story> Model for Turns<T> {
@@ -64,7 +66,13 @@ impl<T: Story> Turns<T> {
                     count,
                     place,
                 };
-                Ok((Turns { table }, pass))
+                Ok((
+                    Turns {
+                        table,
+                        sleepers: Sleepers::new(),
+                    },
+                    pass,
+                ))
             }
             Err(Refused { mut slots }) => {
                 let value = slots.pop().unwrap();
@@ -82,7 +90,7 @@ impl<T: Story> Turns<T> {
     {
         let top = &self.table.shared;
         let own = draw_ticket(rt, top, &mut pass.place);
-        wait_for_turn(rt, top, &mut pass.place, own);
+        wait_for_turn(rt, top, &self.sleepers, &mut pass.place, own);
         pass.count = note(top, &mut pass.place);
         take_out(top, &mut pass.place)
     }
@@ -96,7 +104,8 @@ impl<T: Story> Turns<T> {
         let top = &self.table.shared;
         pass.count = enter_new(top, &mut pass.place, &value, pass.number, pass.count);
         put_in(top, &mut pass.place, value);
-        pass_on(top, &mut pass.place);
+        let ended = pass_on(top, &mut pass.place);
+        self.sleepers.wake(ended.wrapping_add(1));
     }
 
     /// A pass with the next number, which has seen what pass 0 has. `Memory` never comes: a pass takes no memory.
@@ -155,7 +164,7 @@ impl<T: Story> Turns<T> {
         requires joined { HasJoinedAll pass }
         ensures seen { T.entries result ≡ pass.seen }
     {
-        let Turns { table } = self;
+        let Turns { table, sleepers: _ } = self;
         let Pass {
             number: _,
             made: _,

@@ -5,7 +5,6 @@ ghost use Rattle.board_seats.specs.Seats.{Keeps};
 ghost use Rattle.worker_loop.specs.Work.{IsDone, IsStopped};
 
 use crate::one_turn::{TurnEnd, turn};
-use crate::rest::Rest;
 use board_seats::{BoardPass, SharedBoard};
 use lf_terms::{Memory, Steps};
 use mmt_outside::Gate;
@@ -14,8 +13,8 @@ use std::alloc::Global;
 use std::sync::Wait;
 use std::sync::ledger::Ledger;
 
-/// Turns until one finds the board closed, sleeping where two in a row find no module ready, until there may be one. It stops for
-/// want of memory alone. The counter ticks once for each module that was judged.
+/// Turns until one finds the board closed, sleeping where one finds no module ready, until there may be one; before the first one
+/// it sleeps until somebody asks for a verdict. It stops for want of memory alone. The counter ticks once for each module that was judged.
 pub fn work<R: Wait, S: Subject, G: Gate, L: Ledger>(
     rt: &R,
     alloc: Global,
@@ -30,11 +29,12 @@ pub fn work<R: Wait, S: Subject, G: Gate, L: Ledger>(
     ensures done { OnOk result (IsDone S.subject pass.old.seen pass.old.number steps.old pass.new.seen steps.new) }
     ensures stopped { OnErr result (IsStopped S.subject pass.old.seen pass.old.number steps.old pass.new.seen steps.new) }
 {
-    let mut rest = Rest::new();
+    board.wait_for_begin(rt);
     for _ in rt.forever() {
+        let announced = board.announce();
         match turn(rt, alloc, board, subject, pass, gate, steps)? {
-            TurnEnd::Worked { .. } => rest.reset(),
-            TurnEnd::Idle => rest.pause(rt, board),
+            TurnEnd::Worked { .. } => {}
+            TurnEnd::Idle => announced.wait(rt),
             TurnEnd::Closed => return Ok(()),
         }
     }

@@ -3,7 +3,6 @@
 
 mod all_turns;
 mod one_turn;
-mod rest;
 
 pub use all_turns::work;
 pub use one_turn::{TurnEnd, turn};
