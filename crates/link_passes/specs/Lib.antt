@@ -1,3 +1,4 @@
+pub mod Below
 pub mod Answers
 pub mod Reaching
 pub mod Steps

@@ -13,3 +13,4 @@ mod values;
 
 pub use induced::induced_constant;
 pub use links::link_map;
+pub use morphism::{LinkFault, Setting};

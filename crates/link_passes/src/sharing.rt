@@ -7,7 +7,7 @@ ghost use Rattle.link_meaning.specs.Passes as passes;
 ghost use Rattle.link_meaning.specs.Refusals.{each};
 ghost use Rattle.term_trees.specs.Readings.{read_declaration, read_map, read_signature, read_value};
 ghost use Rattle.mmt_interface.specs.Readings.{environment_of};
-ghost use Rattle.morphism_words.specs.Readings.{read_link};
+ghost use Rattle.morphism.specs.Below.Readings.{read_link};
 ghost use Rattle.morphism.specs.Readings.{read_all_assigned, read_assigned, read_setting};
 ghost use Rattle.morphism.specs.Answers.{Links};
 ghost use Rattle.link_passes.specs.Steps.{share};

@@ -7,7 +7,7 @@ ghost use Rattle.link_meaning.specs.Passes as passes;
 ghost use Rattle.link_meaning.specs.Refusals as refusals;
 ghost use Rattle.term_trees.specs.Readings.{read_class, read_declaration, read_map, read_value};
 ghost use Rattle.mmt_syntax.specs.Readings.{read_expr, read_span};
-ghost use Rattle.morphism_words.specs.Readings.{read_link};
+ghost use Rattle.morphism.specs.Below.Readings.{read_link};
 ghost use Rattle.morphism.specs.Readings.{read_setting};
 ghost use Rattle.morphism.specs.Answers.{Links};
 ghost use Rattle.link_passes.specs.Reaching.{read_rest, or_reached};

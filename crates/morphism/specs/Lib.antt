@@ -1,3 +1,4 @@
+pub mod Below
 pub mod Readings
 pub mod Answers
 pub mod Steps

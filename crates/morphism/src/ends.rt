@@ -6,10 +6,9 @@ ghost use Rattle.morphism_words.specs.Readings.{read_link};
 ghost use Rattle.morphism.specs.Readings.{read_setting};
 
 use crate::Setting;
-use include_closure::sees;
 use lf_terms::Name;
 use mmt_interface::Faces;
-use morphism_words::{Link, includes};
+use morphism_words::{Link, includes, sees};
 
 /// Whether a theory is the other one, or includes it.
 pub fn is_or_includes(faces: &Faces, theory: &Name, other: &Name) -> bool

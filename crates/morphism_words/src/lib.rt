@@ -11,6 +11,7 @@ mod structures;
 mod words;
 
 pub use fault::MorphFault;
+pub use include_closure::sees;
 pub use inclusions::includes;
 pub use link::Link;
 pub use rows::meaning;

@@ -8,11 +8,11 @@ use Rattle.text_meaning.specs.Trees.{first_name}
 use Rattle.link_meaning.specs.Induced.{with_structure}
 use Rattle.link_meaning.specs.Passes.{link_map}
 use Rattle.verdict_meaning.specs.Modules.{is_used}
-use Rattle.coherence_laws.specs.BuildingLaws.{IsBuiltOver}
-use Rattle.coherence_laws.proofs.BuildingHolds.{structures_keep_built}
-use Rattle.coherence_laws.proofs.ModulesHold.{unused_where}
-use Rattle.row_typing.specs.TypedFaces.{IsTypedTheory}
-use Rattle.link_typing.proofs.LinksTyped.{links_are_typed}
+use Rattle.face_typing.specs.Below.BuildingLaws.{IsBuiltOver}
+use Rattle.face_typing.proofs.Below.BuildingHolds.{structures_keep_built}
+use Rattle.face_typing.proofs.Below.ModulesHold.{unused_where}
+use Rattle.face_typing.specs.Below.TypedFaces.{IsTypedTheory}
+use Rattle.face_typing.proofs.Below.LinksTyped.{links_are_typed}
 use Rattle.face_typing.specs.BuildingTyping.{IsTypedOver}
 use Rattle.face_typing.specs.CarryingMaps.{CarriesTyping}
 use Rattle.face_typing.proofs.BuildingTyped.{structures_keep_typed}

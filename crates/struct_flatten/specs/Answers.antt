@@ -7,12 +7,12 @@ use Rattle.link_meaning.specs.Refusals.{Outcome}
 use Rattle.link_meaning.specs.Assignments.{Setting}
 use Rattle.link_meaning.specs.Induced.{with_structure}
 use Rattle.verdict_meaning.specs.Modules.{structure_setting}
-use Rattle.row_typing.specs.TypedFaces.{IsTypedEnvironment, IsTypedTheory}
+use Rattle.face_typing.specs.Below.TypedFaces.{IsTypedEnvironment, IsTypedTheory}
 use Rattle.face_typing.specs.CarryingMaps.{CarriesTyping}
 use Rattle.mmt_syntax.specs.Readings.{read_written}
 use Rattle.mmt_syntax.specs.declared.decl.StructDecl.{StructDecl}
-use Rattle.morphism.specs.Answers.{IsFirstRefusal}
-use Rattle.morphism.specs.declared.fault.LinkFault.{LinkFault}
+use Rattle.link_passes.specs.Below.Answers.{IsFirstRefusal}
+use Rattle.link_passes.specs.Below.LinkFault.{LinkFault}
 
 -- Where the link of a structure stands.
 abbrev pub setting_of : Environment → TheoryFace → StructDecl → Setting

@@ -10,16 +10,15 @@ ghost use Rattle.term_trees.specs.Readings.{read_map};
 ghost use Rattle.mmt_syntax.specs.Readings.{read_assigns};
 ghost use Rattle.mmt_interface.specs.CoherentFaces.{AreCoherent, IsCoherentHere};
 ghost use Rattle.mmt_interface.specs.Readings.{environment_of, read_structure, read_theory};
-ghost use Rattle.morphism.specs.Answers.{Links, RefusesNothing};
+ghost use Rattle.link_passes.specs.Below.Answers.{Links, RefusesNothing};
 ghost use Rattle.struct_flatten.specs.Answers.{setting_of, Flattens, HasStructure, KeepsTyped};
 ghost use Rattle.struct_flatten.specs.Steps.{with_face, IsBegunFrom};
 
 use crate::induced::add_induced;
 use lf_terms::{HeadMap, Memory};
-use link_passes::link_map;
+use link_passes::{LinkFault, Setting, link_map};
 use mmt_interface::{Faces, StructFace, TheoryFace};
 use mmt_syntax::{StructDecl, first_name};
-use morphism::{LinkFault, Setting};
 use names::Scope;
 use std::alloc::Global;
 

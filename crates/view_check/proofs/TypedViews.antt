@@ -6,9 +6,9 @@ use Rattle.library_meaning.specs.Faces.{TheoryFace, Environment, theory_of}
 use Rattle.library_meaning.specs.Coherence.{IsCoherent}
 use Rattle.text_meaning.specs.Trees.{first_name}
 use Rattle.link_meaning.specs.Passes.{link_map}
-use Rattle.coherence_laws.proofs.BuildingHolds.{views_are_coherent}
-use Rattle.row_typing.specs.TypedFaces.{IsTypedEnvironment}
-use Rattle.link_typing.proofs.LinksTyped.{links_are_typed}
+use Rattle.face_typing.proofs.Below.BuildingHolds.{views_are_coherent}
+use Rattle.face_typing.specs.Below.TypedFaces.{IsTypedEnvironment}
+use Rattle.face_typing.proofs.Below.LinksTyped.{links_are_typed}
 use Rattle.face_typing.specs.CarryingMaps.{ViewCarriesTyping}
 use Rattle.face_typing.proofs.BuildingTyped.{views_are_typed}
 use Rattle.face_typing.proofs.MapsCarry.{typed_views_carry}

@@ -6,20 +6,19 @@ ghost use Rattle.library_meaning.specs.Faces.{theory_of};
 ghost use Rattle.link_meaning.specs.LinkMaps.{IsMapOfLink};
 ghost use Rattle.verdict_meaning.specs.Modules as modules;
 ghost use Rattle.link_meaning.specs.Passes as passes;
-ghost use Rattle.row_typing.specs.TypedFaces.{IsTypedEnvironment};
+ghost use Rattle.face_typing.specs.Below.TypedFaces.{IsTypedEnvironment};
 ghost use Rattle.face_typing.specs.CarryingMaps.{ViewCarriesTyping};
 ghost use Rattle.term_trees.specs.Readings.{read_map};
 ghost use Rattle.mmt_syntax.specs.Readings.{read_assigns, read_written};
 ghost use Rattle.mmt_interface.specs.CoherentFaces.{AreCoherent};
 ghost use Rattle.mmt_interface.specs.Readings.{environment_of, read_view};
-ghost use Rattle.morphism.specs.Answers.{Links, RefusesNothing};
+ghost use Rattle.link_passes.specs.Below.Answers.{Links, RefusesNothing};
 ghost use Rattle.view_check.specs.Answers.{face_with, setting_of};
 
 use lf_terms::HeadMap;
-use link_passes::link_map;
+use link_passes::{LinkFault, Setting, link_map};
 use mmt_interface::{Faces, ViewFace};
 use mmt_syntax::{ViewDecl, first_name};
-use morphism::{LinkFault, Setting};
 use names::Scope;
 use std::alloc::Global;
 

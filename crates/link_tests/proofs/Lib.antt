@@ -1,0 +1,4 @@
+pub mod Trees
+pub mod Growing
+pub mod Building
+pub mod Passing
