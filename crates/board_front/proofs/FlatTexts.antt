@@ -20,7 +20,7 @@ use Rattle.run_meaning.specs.Judging.{codomain_of, seen_along}
 use Rattle.run_meaning.specs.ScriptOutput.{flat_by, flat_by_judged, flat_text, report_text, verdict_by}
 use Rattle.judged_meaning.specs.Carrying.{Carriage, CarriedTo, NoSuchView, IllBy, carried_along, carry}
 use Rattle.judged_meaning.specs.JudgingByRules.{judged_by, judged_if, printed_carriage, rules}
-use Rattle.carried_typing.specs.CarriedTyping.{HaveReachOf}
+use Rattle.reach_printing_laws.specs.Below.CarriedTyping.{HaveReachOf}
 use Rattle.reach_printing_laws.proofs.PrintedInReach.{faces_print_theories, faces_print_views}
 use Rattle.reach_printing_laws.proofs.CarriedAlike.{faces_carry_the_same, view_known}
 use Rattle.mmt_interface.specs.CoherentFaces.{AreCoherent}

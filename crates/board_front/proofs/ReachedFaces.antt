@@ -14,7 +14,7 @@ use Rattle.library_meaning.specs.Coherence.{IsCoherent}
 use Rattle.text_meaning.specs.Dependencies.{dependencies}
 use Rattle.coherence_laws.proofs.LibrariesHold.{known_in}
 use Rattle.coherence_laws.proofs.SizesHold.{closed_have_sizes}
-use Rattle.carried_typing.proofs.ReachFaces.{reach_is_closed, reach_coherent, itself_reached}
+use Rattle.reach_printing_laws.proofs.Below.ReachFaces.{reach_is_closed, reach_coherent, itself_reached}
 use Rattle.verdict_meaning.specs.Verdicts as verdicts
 use Rattle.verdict_meaning.specs.Verdicts.{known_by}
 use Rattle.verdict_meaning.specs.Rounds.{known_if, known_of, modules, others_reached, verdict_of}

@@ -9,6 +9,6 @@ mod verdict;
 
 pub use calls::close;
 pub use flats::{carry_lines, flat_lines};
-pub use module_check::Mmt;
+pub use module_check::{Mmt, scratch};
 pub use reports::{check_lines, edit_lines, make_edit, report_lines};
 pub use verdict::told;

@@ -9,7 +9,6 @@ ghost use Rattle.board_front.specs.Told.{IsToldOf};
 
 use crate::calls::{report, take_turn};
 use board_seats::{BoardPass, SharedBoard};
-use crossbeam_utils::Backoff;
 use lf_terms::{Memory, Name};
 use mmt_interface::Verdict;
 use mmt_outside::Gate;
@@ -19,8 +18,8 @@ use std::sync::Wait;
 use verdict_board::Told;
 use worker_loop::TurnEnd;
 
-/// What is told of a name once its verdict is not to come. While it is to come, turns are taken, with a pause where nothing is
-/// ready.
+/// What is told of a name once its verdict is not to come. While it is to come, turns are taken; where nothing is ready, another
+/// claim is open, and the front sleeps until one ends.
 pub fn told<R: Wait, G: Gate>(
     rt: &R,
     alloc: Global,
@@ -36,16 +35,16 @@ pub fn told<R: Wait, G: Gate>(
     ensures told { IfOk result (IsToldOf (log_of pass.new.seen) name.now) }
     ensures stands { OnOk result (StandsIfGrounded pass.new.seen name.now) }
 {
-    let backoff = Backoff::new();
     for _ in rt.forever() {
+        let announced = board.announce_end();
         match report(rt, board, pass, name)? {
             Told::Verdict { answer, version } => return Ok(Told::Verdict { answer, version }),
             Told::Absent { version } => return Ok(Told::Absent { version }),
             Told::Pending { .. } => {}
         }
         match take_turn(rt, alloc, gate, board, pass)? {
-            TurnEnd::Worked { .. } => backoff.reset(),
-            TurnEnd::Idle | TurnEnd::Closed => backoff.snooze(),
+            TurnEnd::Worked { .. } => {}
+            TurnEnd::Idle | TurnEnd::Closed => announced.wait(rt),
         }
     }
     unreachable!()

@@ -10,17 +10,20 @@ use Rattle.log_meaning.specs.Append.{appended_all}
 use Rattle.board_meaning.specs.Events.{History, log_of}
 use Rattle.run_meaning.specs.Files.{load}
 use Rattle.run_meaning.specs.Folders.{folder_parts}
+use Rattle.run_meaning.specs.Parts.{parts_text}
 use Rattle.judged_meaning.specs.JudgingByRules.{rules}
 use Rattle.board_front.specs.Staying.{IsFront, Stays}
 use Rattle.folder_load.specs.Loads.{LoadsFolder}
 use Rattle.folder_load.specs.declared.loaded.Loaded.{Loaded}
+use Rattle.run_status.specs.Taking.{TookOn}
 use Rattle.run_status.specs.declared.status.Status.{Status}
+use Rattle.run_status.proofs.Taking.{TookOn-flushed, TookOn-part}
 use Rattle.folder_front.specs.declared.stop.Stop.{Stop}
 use Rattle.folder_front.specs.declared.stop.Stop.TheVariants.{Read, Write, Memory}
 use Rattle.folder_front.specs.declared.sheet.Sheet.{Sheet}
 use Rattle.folder_front.specs.Stops.{by_folder, status_by, status_of}
 use Rattle.folder_front.specs.Edits.{MadeFirst}
-use Rattle.folder_front.specs.Sheets.{end_of, has_refused, names_in, sheet_of, tally_of}
+use Rattle.folder_front.specs.Sheets.{end_of, has_refused, names_in, sheet_of, sheet_parts, tally_of}
 use Rattle.folder_front.specs.Written.{Prints}
 use Rattle.folder_front.specs.Checked.{Begins, FolderEnds, HasList, IsListed, IsWholeStatus}
 use Rattle.folder_front.proofs.Outputs.{edits_made, first_made, printed_ends, some_ends, stopped_ends}
@@ -110,3 +113,7 @@ ends_whole false = tt
 pub prints_whole : (result : Result Status Stop) (before now : Option Taken) (sheet : Sheet) (last : History) → Prints result before now sheet last → IfOk result IsWholeStatus
 prints_whole (Ok status) before now sheet last printed = subst IsWholeStatus (sym printed.ended) (ends_whole (has_refused sheet (tally_of sheet (names_in sheet))))
 prints_whole (Err stop) before now sheet last some = tt
+
+pub prints_on : (result : Result Status Stop) (before now : Option Taken) (sheet : Sheet) (last : History) → Prints result before now sheet last → TookOn before now
+prints_on (Ok status) before now sheet last printed = TookOn-flushed before now (parts_text (sheet_parts sheet)) printed.took
+prints_on (Err stop) before now sheet last some = TookOn-part before now (parts_text some.front) some.took

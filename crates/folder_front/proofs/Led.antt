@@ -16,6 +16,7 @@ use Rattle.install_laws.proofs.Tellings.{stay_backed}
 use Rattle.board_front.specs.Staying.{Stays}
 use Rattle.board_front.proofs.Closing.{closed_later}
 use Rattle.run_status.specs.Flushed.{FlushesAt, IsFlushed}
+use Rattle.run_status.specs.Taking.{TookOn}
 use Rattle.run_status.specs.declared.status.Status.{Status}
 use Rattle.run_status.specs.declared.status.Status.TheVariants.{Done, Refused, Usage, ReadFault, WriteFault, Memory, ScriptFault}
 use Rattle.folder_front.specs.declared.stop.Stop.{Stop}
@@ -66,6 +67,7 @@ led_later status folder files files_after reads reads_after before now writes wr
   write = led.write;
   folder_later = led.folder_later;
   sink_later = led.sink_later;
+  took = led.took;
 }
 
 -- ---- what a front leaves
@@ -117,7 +119,7 @@ stop_write stops.Memory e = absurd (cc)
 module _ (result : Result Status Stop) (folder : List ℕ) (files files_after : Option Files) (reads reads_after : ℕ) (before now : Option Taken) (writes writes_after : ℕ) (first last : History)
     (stays : Stays first last) (closed : is_closed last ≡ true) (whole : IfOk result IsWholeStatus) (flushed : OnOk result (IsFlushed now))
     (read : IsErrOf result stops.Read → Rose reads reads_after) (write : IsErrOf result stops.Write → Rose writes writes_after) (reads_later : reads ≤ reads_after) (writes_later : writes ≤ writes_after)
-    (same : files_after ≡ files) where
+    (same : files_after ≡ files) (took : TookOn before now) where
   answers_by : (r : Result Status Stop) → IfOk r IsWholeStatus → IsCheckStatus (status_by r)
   answers_by (Ok status) w = whole_answers status w
   answers_by (Err stop) w = stop_answers stop
@@ -150,4 +152,5 @@ module _ (result : Result Status Stop) (folder : List ℕ) (files files_after : 
         write = λ e. write (write_by result whole e);
         folder_later = reads_later;
         sink_later = writes_later;
+        took = took;
       })

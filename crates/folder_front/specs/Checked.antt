@@ -18,6 +18,7 @@ use Rattle.judged_meaning.specs.JudgingByRules.{rules}
 use Rattle.judged_meaning.specs.Outputs.{check_output}
 use Rattle.folder_load.specs.Loads.{AreFilesOf}
 use Rattle.run_status.specs.Flushed.{FlushesAt}
+use Rattle.run_status.specs.Taking.{TookOn}
 use Rattle.run_status.specs.declared.status.Status.{Status}
 use Rattle.run_status.specs.declared.status.Status.TheVariants.{Done, Refused, Usage, ReadFault, WriteFault, Memory, ScriptFault}
 
@@ -120,3 +121,4 @@ pub record IsFolderLed (status : Status) (folder : List ℕ) (files files_after 
   pub write : status ≡ WriteFault → Rose writes writes_after
   pub folder_later : reads ≤ reads_after
   pub sink_later : writes ≤ writes_after
+  pub took : TookOn before now

@@ -6,6 +6,7 @@ ghost use Rattle.text_meaning.specs.Dependencies.{dependencies};
 ghost use Rattle.board_seats.specs.Seats.{Keeps};
 ghost use Rattle.board_front.specs.Staying.{IsAtFront};
 ghost use Rattle.run_status.specs.Flushed.{IsFlushed};
+ghost use Rattle.run_status.specs.Taking.{TookOn};
 ghost use Rattle.folder_front.specs.Checked.{FolderEnds, IsFolderLed, IsWholeStatus};
 ghost use Rattle.folder_front.specs.Stops.{status_by};
 ghost use Rattle.folder_front.specs.declared.stop.Stop.TheVariants.{Read, Write};
@@ -44,6 +45,7 @@ fn check<R: Wait, F: Folder, K: Sink, G: Gate>(
     ensures write { IsErrOf result Write → Rose (K.faults sink.old) (K.faults sink.new) }
     ensures folder_later { F.faults folder.old ≤ F.faults folder.new }
     ensures sink_later { K.faults sink.old ≤ K.faults sink.new }
+    ensures took { TookOn (K.taken sink.old) (K.taken sink.new) }
     ensures same { F.files folder.new ≡ F.files folder.old }
 {
     let loaded = load(alloc, folder, path)?;

@@ -104,6 +104,11 @@ module _ (generating : Generating) (log : Log) (edit : Edit) (before after : His
   pub edit_goes_on : (new : Log) → new ≡ appended log edit → Edits edit before after → GoesOn new before after
   edit_goes_on new is e = record { legal = e.legal; later = e.later; begins = e.begins; logged = made_log e.logged ∙ sym is }
 
+-- where all were given
+pub begun_at_end : (start modules edits : ℕ) (log : Log) → log ≡ appended_all [] (generated start modules edits) → IsBegun start modules edits log
+begun_at_end start modules edits log is =
+    record { given = length (generated start modules edits); logged = is ∙ ap (appended_all []) (sym (take_length (generated start modules edits))) }
+
 -- where so many of the later edits were given, or none
 begun_at : (start modules given edits : ℕ) (generating : Generating) (log : Log) (history : History) → generating ≡ record { start = start; modules = modules; given = given }
     → IsLogOfGiven generating log → given ≤ modules + edits → log_of history ≡ log → IsBegun start modules edits (log_of history)

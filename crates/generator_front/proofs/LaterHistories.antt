@@ -1,5 +1,5 @@
 -- What the generator leaves stays so where the history goes on without an edit.
-use Rattle.std.proofs.Common.{◌≡◌, ℕ, true, ◌++◌, Result, Ok, Err, sym, ap, ◌∙◌, subst, arith}
+use Rattle.std.proofs.Common.{◌≡◌, ℕ, true, ◌++◌, Result, Ok, Err, IfOk, sym, ap, ◌∙◌, subst, arith}
 use Rattle.log_meaning.specs.Log.{Log, library_of}
 use Rattle.walk_meaning.specs.Walks.{is_grounded}
 use Rattle.text_meaning.specs.Dependencies.{dependencies}
@@ -12,13 +12,19 @@ use Rattle.judged_meaning.specs.JudgingByRules.{rules}
 use Rattle.install_laws.specs.InstallLaws.{AllStand}
 use Rattle.install_laws.proofs.Installs.{installs_are_asked, unedited_between}
 use Rattle.install_laws.proofs.Tellings.{stay_backed}
-use Rattle.board_front.specs.Staying.{Stays}
+use Rattle.board_front.specs.Staying.{IsFront, Stays}
 use Rattle.board_front.proofs.Closing.{closed_later}
 use Rattle.board_front.proofs.Standing.{stands_still}
 use Rattle.generator_front.specs.declared.counts.Counts.{Counts}
-use Rattle.generator_front.specs.Generated.{Ends, IsBegun, IsDone, IsGenerated}
+use Rattle.generator_front.specs.Generated.{AreCountsOf, Ends, IsBegun, IsDone, IsGenerated, IsSettled, printed_counts}
 use Rattle.generator_front.proofs.Asking.{none_asked}
-use Rattle.generator_front.proofs.DoneEdits.{legal_on, unchanged}
+use Rattle.generator_front.proofs.GivenEdits.{begun_at_end}
+use Rattle.generator_front.proofs.SettledEdits.{legal_on, unchanged}
+
+done_by : (start modules edits : ℕ) (counts : Counts) (history : History) → IsSettled start modules edits history
+    → printed_counts modules edits counts ≡ counts_of rules modules edits (log_of history) → IsDone start modules edits counts history
+done_by start modules edits counts history settled counted =
+    record { logged = settled.logged; counted = counted; stand = settled.stand; installed = settled.installed; backed = settled.backed }
 
 module _ (before after : History) (stays : Stays before after) where
   pub stand_later : AllStand dependencies before → AllStand dependencies after
@@ -35,15 +41,32 @@ module _ (before after : History) (stays : Stays before after) where
       let same = ap installs stays.begins in
       omega (arith, sum, nothing, same)
 
-  pub done_later : (start modules edits : ℕ) (counts : Counts) → IsDone start modules edits counts before → IsDone start modules edits counts after
-  done_later start modules edits counts done = record {
-    logged = stays.logged ∙ done.logged;
-    counted = done.counted ∙ ap (counts_of rules modules edits) (sym stays.logged);
-    stand = stand_later done.stand;
-    installed = installs_later done.stand ∙ done.installed;
+  pub settled_later : (start modules edits : ℕ) → IsSettled start modules edits before → IsSettled start modules edits after
+  settled_later start modules edits settled = record {
+    logged = stays.logged ∙ settled.logged;
+    stand = stand_later settled.stand;
+    installed = installs_later settled.stand ∙ settled.installed;
     backed = subst (λ h. AreBacked dependencies h (generator_told dependencies start modules edits)) (sym stays.begins)
-        (stay_backed dependencies before stays.later (generator_told dependencies start modules edits) done.backed);
+        (stay_backed dependencies before stays.later (generator_told dependencies start modules edits) settled.backed);
   }
+
+  pub done_later : (start modules edits : ℕ) (counts : Counts) → IsDone start modules edits counts before → IsDone start modules edits counts after
+  done_later start modules edits counts done =
+      done_by start modules edits counts after
+      (settled_later start modules edits (record { logged = done.logged; stand = done.stand; installed = done.installed; backed = done.backed }))
+      (done.counted ∙ ap (counts_of rules modules edits) (sym stays.logged))
+
+  -- The edits are settled, and then the modules are counted.
+  pub counted_done : (start modules edits : ℕ) (log : Log) (counts : Counts) → IsFront log before → IsSettled start modules edits before → AreCountsOf log counts → IsDone start modules edits counts after
+  counted_done start modules edits log counts front settled counted =
+      done_by start modules edits counts after (settled_later start modules edits settled)
+      (counted modules edits ∙ ap (counts_of rules modules edits) (front.logged ∙ sym stays.logged))
+
+  -- The same, where memory may have been wanting while they were counted.
+  pub ends_counted : {Fault : Type 0} (start modules edits : ℕ) (log : Log) (result : Result Counts Fault) → IsFront log before → IsSettled start modules edits before
+      → IfOk result (AreCountsOf log) → Ends start modules edits result after
+  ends_counted start modules edits log (Ok counts) front settled counted = counted_done start modules edits log counts front settled counted
+  ends_counted start modules edits log (Err fault) front settled counted = begun_at_end start modules edits (log_of after) (stays.logged ∙ settled.logged)
 
   pub ends_later : {Fault : Type 0} (start modules edits : ℕ) (result : Result Counts Fault) → Ends start modules edits result before → Ends start modules edits result after
   ends_later start modules edits (Ok counts) done = done_later start modules edits counts done

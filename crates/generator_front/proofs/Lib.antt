@@ -1,8 +1,9 @@
 mod Asking
 mod BetweenEdits
-mod DoneEdits
 mod FirstLibraries
 mod GeneratedTexts
 pub mod GivenEdits
 pub mod LaterHistories
+mod SettledEdits
+mod Settling
 mod Tallies

@@ -40,6 +40,14 @@ abbrev pub HasBegun : Generating → Log → Type 0
 HasBegun generating log =
     (edits : ℕ) → generating.given < generating.modules + edits → IsBegun generating.start generating.modules edits log
 
+-- The edits are made and settled: the log is that after all of them; every grounded name stands; as many verdicts were installed as
+-- they ask for, whoever brought them; and what the generator tells is backed.
+pub record IsSettled (start modules edits : ℕ) (history : History) : Type 0 where
+  pub logged : log_of history ≡ appended_all [] (generated start modules edits)
+  pub stand : AllStand dependencies history
+  pub installed : installs history ≡ installs_of dependencies start modules edits
+  pub backed : AreBacked dependencies history (generator_told dependencies start modules edits)
+
 -- The generator is done: the log is that after all its edits; what was counted are the counts of the last library; every grounded
 -- name stands; as many verdicts were installed as the edits ask for, whoever brought them; and what the generator tells is backed.
 pub record IsDone (start modules edits : ℕ) (counts : Counts) (history : History) : Type 0 where

@@ -6,10 +6,9 @@ ghost use Rattle.text_meaning.specs.Dependencies.{dependencies};
 ghost use Rattle.board_seats.specs.Seats.{Keeps};
 ghost use Rattle.board_front.specs.Staying.{GoesOn, IsAtFront, IsFront};
 ghost use Rattle.script_reader.specs.Generating.{gave_one};
-ghost use Rattle.generator_front.specs.Generated.{Ends, HasBegun, IsBegun, IsDone, IsLogOfGiven};
+ghost use Rattle.generator_front.specs.Generated.{HasBegun, IsBegun, IsLogOfGiven, IsSettled};
 
-use crate::counts::Counts;
-use crate::verdicts::verdicts;
+use crate::settle::settle;
 use board_front::{Mmt, make_edit};
 use board_seats::{BoardPass, SharedBoard};
 use edit_log::Log;
@@ -71,7 +70,7 @@ pub(crate) fn put_modules<R: Wait>(
     Ok(())
 }
 
-/// Makes so many later edits. Behind each, every module is brought to a verdict, and counted anew.
+/// Makes so many later edits. Behind each, every module is brought to a verdict.
 pub(crate) fn edit_modules<R: Wait, G: Gate>(
     rt: &R,
     alloc: Global,
@@ -81,22 +80,22 @@ pub(crate) fn edit_modules<R: Wait, G: Gate>(
     log: &mut Log,
     generator: &mut Gen,
     edits: u32,
-    counts: Counts,
-) -> Result<Counts, Memory>
+) -> Result<(), Memory>
     requires at_front { IsAtFront board.now pass.old }
     requires front { IsFront log.old pass.old.seen }
     requires few { edits ≤ 1000 }
     requires gave { generator.old.given ≡ generator.old.modules }
     requires given { IsLogOfGiven generator.old log.old }
-    requires done { IsDone generator.old.start generator.old.modules 0 counts pass.old.seen }
+    requires settled { IsSettled generator.old.start generator.old.modules 0 pass.old.seen }
     ensures keeps { Keeps pass.old pass.new }
     ensures legal { IsLegal dependencies pass.new.seen }
-    ensures ends { Ends generator.old.start generator.old.modules edits result pass.new.seen }
+    ensures front { OnOk result (IsFront log.new pass.new.seen) }
+    ensures settled { OnOk result (IsSettled generator.old.start generator.old.modules edits pass.new.seen) }
+    ensures begun { OnErr result (IsBegun generator.old.start generator.old.modules edits (log_of pass.new.seen)) }
 {
-    let mut counts = counts;
     for _ in 0..edits {
         make_next(rt, alloc, board, pass, log, generator)?;
-        counts = verdicts(rt, alloc, gate, board, pass, log)?;
+        settle(rt, alloc, gate, board, pass, log)?;
     }
-    Ok(counts)
+    Ok(())
 }

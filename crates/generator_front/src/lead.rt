@@ -8,6 +8,7 @@ ghost use Rattle.generator_front.specs.Generated.{Ends, IsGenerated};
 
 use crate::counts::Counts;
 use crate::edits::{edit_modules, put_modules};
+use crate::settle::settle;
 use crate::verdicts::verdicts;
 use board_front::{Mmt, close};
 use board_seats::{BoardPass, SharedBoard};
@@ -19,7 +20,7 @@ use std::alloc::Global;
 use std::sync::Wait;
 
 /// Makes the edits of the generator on a board that has no entries: first it puts each module, and every module is brought to a
-/// verdict; and then again behind each later edit.
+/// verdict; and then again behind each later edit. The modules of the last library are counted.
 fn generate<R: Wait, G: Gate>(
     rt: &R,
     alloc: Global,
@@ -42,7 +43,7 @@ fn generate<R: Wait, G: Gate>(
     let mut log = Log::new(alloc);
     let mut generator = Gen::new(start, modules);
     put_modules(rt, alloc, board, pass, &mut log, &mut generator, modules)?;
-    let counts = verdicts(rt, alloc, gate, board, pass, &log)?;
+    settle(rt, alloc, gate, board, pass, &log)?;
     edit_modules(
         rt,
         alloc,
@@ -52,8 +53,8 @@ fn generate<R: Wait, G: Gate>(
         &mut log,
         &mut generator,
         edits,
-        counts,
-    )
+    )?;
+    verdicts(rt, alloc, gate, board, pass, &log)
 }
 
 /// Makes the edits of the generator on a board that has no entries, and closes the board. First it puts each module in order, and

@@ -5,6 +5,7 @@
 mod counts;
 mod edits;
 mod lead;
+mod settle;
 mod verdicts;
 
 pub use counts::Counts;

@@ -17,7 +17,7 @@ use std::alloc::Global;
 use std::sync::Wait;
 
 /// The greatest number of modules in a library.
-const MODULE_LIMIT: usize = 4_096;
+pub(crate) const MODULE_LIMIT: usize = 4_096;
 
 /// Brings every module of the library to a verdict, in byte order of names, with one look-up for each, and counts them. The log is
 /// the front's own: it has the edits of the board.

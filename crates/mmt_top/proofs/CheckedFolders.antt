@@ -19,8 +19,10 @@ use Rattle.board_front.specs.Staying.{Stays}
 use Rattle.folder_front.specs.Checked.{BacksWritten, Begins, FolderEnds, IsFolderLed, told_within}
 use Rattle.folder_front.proofs.Told.{none_backed}
 use Rattle.folder_front.proofs.Led.{led_later}
+use Rattle.run_status.specs.Taking.{TookOn}
 use Rattle.run_status.specs.declared.status.Status.{Status}
 use Rattle.run_status.specs.declared.status.Status.TheVariants.{Memory}
+use Rattle.run_status.proofs.Taking.{TookOn-none}
 use Rattle.mmt_top.specs.FolderChecks.{LeavesFolder, PrintsFolder}
 
 -- What the front did, with what its workers did behind it.
@@ -75,6 +77,7 @@ nothing_checked status folder files reads before writes (Some last) is ends =
       write = λ e. absurd (cc);
       folder_later = omega arith;
       sink_later = omega arith;
+      took = TookOn-none before;
     })
   where
     by : (files : Option Files) → IfSome files (λ told. FolderEnds Memory before before told folder last)
@@ -115,6 +118,9 @@ module _ (status : Status) (folder : List ℕ) (files files_after : Option Files
       by : (o : Option Files) → IfSome o (λ told. FolderEnds status before now told folder at_end.0) → IfSome o (PrintsFolder status before now folder)
       by None ends = tt
       by (Some told) ends = record { listed = ends.listed; output = λ others are. (ends.each others are).output }
+
+  pub says_took : TookOn before now
+  says_took = at_end.2.took
 
   pub says_left : IfSome files (λ told. IfSome board (LeavesFolder status before now told folder))
   says_left = subst (λ o. IfSome files (λ told. IfSome o (LeavesFolder status before now told folder))) (sym at_end.1) (by files at_end.2.ends)

@@ -17,8 +17,10 @@ use Rattle.worker_crew.specs.Leading.{WasLed}
 use Rattle.board_front.specs.Staying.{Stays}
 use Rattle.board_front.proofs.Closing.{closed_after, closed_later}
 use Rattle.board_front.proofs.Histories.{stays_call}
+use Rattle.run_status.specs.Taking.{TookOn}
 use Rattle.run_status.specs.declared.status.Status.{Status}
 use Rattle.run_status.specs.declared.status.Status.TheVariants.{Memory}
+use Rattle.run_status.proofs.Taking.{TookOn-none}
 use Rattle.mmt_top.specs.Session.{BacksWritten, EditsAre, EndsAs, IsLed}
 use Rattle.mmt_top.proofs.Sessions.{ended_backs, ended_edits, ended_later, ended_output, none_played}
 
@@ -38,6 +40,7 @@ none_led left reads before writes last stays closed = record {
   write = λ e. absurd (cc);
   source_later = omega arith;
   sink_later = omega arith;
+  took = TookOn-none before;
 }
 
 -- A board without an entry that is closed.
@@ -77,6 +80,7 @@ was_led status left rest reads reads_after before now writes writes_after histor
       write = front.write;
       source_later = front.source_later;
       sink_later = front.sink_later;
+      took = front.took;
     }
 
 -- Nothing is said of a board that is not there.
@@ -118,6 +122,9 @@ module _ (status : Status) (left rest : Option (List ℕ)) (reads reads_after : 
 
   pub says_left : ReadPrefix left rest
   says_left = at_end.2.part_read
+
+  pub says_took : TookOn before now
+  says_took = at_end.2.took
 
   pub says_legal : IfSome board (λ last. IsLegal dependencies last)
   says_legal = subst (λ o. IfSome o (λ last. IsLegal dependencies last)) (sym at_end.1) at_end.2.legal

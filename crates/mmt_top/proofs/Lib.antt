@@ -1,3 +1,4 @@
+pub mod Taking
 pub mod Commands
 pub mod Spoken
 pub mod Played

@@ -1,6 +1,6 @@
 -- What commands leave on a board that are played one after another, and what a session leaves.
-use Rattle.std.proofs.Common.{◌≡◌, ℕ, ◌<◌, ◌+◌, Bool, List, [], ◌∷◌, ◌++◌, length, map, take, ⊎_elim, inl, inr, refl, sym, ap, ◌∙◌, subst, append_assoc, append-nil, length-append, arith}
-use Rattle.std.specs.Prelude.{Option, Some, None}
+use Rattle.std.proofs.Common.{◌≡◌, ℕ, ◌<◌, Bool, List, [], ◌∷◌, ◌++◌, length, map, ⊎_elim, inl, inr, refl, sym, ap, ◌∙◌, subst, append_assoc, append-nil, length-append, arith}
+use Rattle.std.specs.Prelude.{Option}
 use Rattle.list_laws.proofs.Lists.{first_same}
 use Rattle.mmt_outside.specs.Bytes.{Taken, appended, flushed, TookPrefix}
 use Rattle.mmt_outside.proofs.Bytes.{appended-appended, appended-nil, TookPrefix-after, TookPrefix-none}
@@ -19,9 +19,11 @@ use Rattle.judged_meaning.specs.JudgingByRules.{rules}
 use Rattle.board_front.specs.Staying.{GoesOn, Stays}
 use Rattle.mmt_top.specs.Plays.{Plays, PlaysAll, MayPlay}
 use Rattle.folder_front.specs.Checked.{Begins}
-use Rattle.mmt_top.specs.Session.{EditsAre, EndsAs, Leaves, SessionEnds, StoodWithin, bytes_of}
+use Rattle.mmt_top.specs.Session.{EditsAre, EndsAs, Leaves, SessionEnds, StoodWithin}
+use Rattle.run_status.specs.Taking.{bytes_of}
 use Rattle.run_status.specs.declared.status.Status.{Status}
 use Rattle.run_status.specs.declared.status.Status.TheVariants.{Done, Refused, Usage, ReadFault, WriteFault, Memory, ScriptFault}
+use Rattle.mmt_top.proofs.Taking.{ended_on}
 use Rattle.mmt_top.proofs.Commands.{parted, through_append, commands_append, fault_append, spoken_append, output_append}
 
 -- ---- commands
@@ -76,10 +78,6 @@ plays_more commands command first second third all one = record {
 pub bytes_appended : (before now new : Option Taken) (first second : List ℕ) → now ≡ appended before first → bytes_of new ≡ bytes_of (appended now second)
     → bytes_of new ≡ bytes_of (appended before (first ++ second))
 bytes_appended before now new first second took is = is ∙ ap (λ t. bytes_of (appended t second)) took ∙ ap bytes_of (appended-appended before first second)
-
-bytes_flushed : (taken : Option Taken) → bytes_of (flushed taken) ≡ bytes_of taken
-bytes_flushed None = refl
-bytes_flushed (Some taken) = refl
 
 -- ---- a session that ends behind some commands
 
@@ -167,28 +165,18 @@ silent_edits WriteFault before now output fault log ends = begins_whole log
 silent_edits Memory before now output fault log ends = begins_whole log
 silent_edits ScriptFault before now output fault log ends = refl
 
-silent_written : (status : Status) (before now : Option Taken) (output : List ℕ) (fault : Bool) → EndsAs status before now output fault
-    → (written : List ℕ) × (bytes_of now ≡ bytes_of (appended before written))
-silent_written Done before now output fault ends = (output, ap bytes_of ends.1 ∙ bytes_flushed (appended before output))
-silent_written Refused before now output fault ends = absurd ends
-silent_written Usage before now output fault ends = absurd ends
-silent_written ReadFault before now output fault ends = (take ends.count output, ap bytes_of ends.took)
-silent_written WriteFault before now output fault ends = (take ends.count output, ap bytes_of ends.took)
-silent_written Memory before now output fault ends = (take ends.count output, ap bytes_of ends.took)
-silent_written ScriptFault before now output fault ends = (output, ap bytes_of ends.1 ∙ bytes_flushed (appended before output))
-
 pub ends_silently : (status : Status) (before now : Option Taken) (items : List Item) (history : History) → IsLegal dependencies history → commands_of items ≡ []
     → EndsAs status before now (output_from rules (log_of history) items) (has_fault items) → SessionEnds status before now items history history
 ends_silently status before now items history legal none ends =
-    let w = silent_written status before now (output_from rules (log_of history) items) (has_fault items) ends in
+    let w = ended_on status before now (output_from rules (log_of history) items) (has_fault items) ends in
     record {
       output = ends;
       board = record {
         goes_on = at_rest history legal;
         edits = subst (λ commands. EditsAre status (log_through (log_of history) commands) (log_of history)) (sym none)
             (silent_edits status before now (output_from rules (log_of history) items) (has_fault items) (log_of history) ends);
-        written = w.0;
-        took = w.1;
+        written = w.piece;
+        took = w.took;
         stood = λ done more command e within. absurd (no_element done more command (sym none ∙ e));
       };
     }

@@ -35,7 +35,8 @@ use Rattle.run_status.specs.declared.status.Status.{Status}
 use Rattle.run_status.specs.declared.status.Status.TheVariants.{Done, Refused, Usage, ReadFault, WriteFault, Memory, ScriptFault}
 use Rattle.mmt_top.specs.Plays.{Plays}
 use Rattle.mmt_top.specs.Answered.{Spoke, Stops, SpokenTells}
-use Rattle.mmt_top.specs.Session.{items_to_come, EndsAs, FaultTells, SessionEnds, StoodWithin, TurnGoesOn, TurnTells, bytes_of}
+use Rattle.mmt_top.specs.Session.{items_to_come, EndsAs, FaultTells, SessionEnds, StoodWithin, TurnGoesOn, TurnTells}
+use Rattle.run_status.specs.Taking.{bytes_of}
 use Rattle.mmt_top.proofs.Played.{begins_through, ends_silently, may_begins, may_goes_on, memory_fails, read_fails}
 
 -- ---- what the bytes to come hold

@@ -9,6 +9,7 @@ use Rattle.run_meaning.specs.ScriptOutput.{has_fault}
 use Rattle.word_list_meaning.specs.WordLists.{Task, Play, CheckFolder, Generate, Run}
 use Rattle.judged_meaning.specs.Outputs.{generate_output, play_output}
 use Rattle.run_status.specs.Flushed.{FlushesAt}
+use Rattle.run_status.specs.Taking.{TookOn}
 use Rattle.folder_front.specs.Checked.{IsCheckStatus}
 use Rattle.run_status.specs.declared.status.Status.{Status}
 use Rattle.run_status.specs.declared.status.Status.TheVariants.{Done, Refused, Usage, ReadFault, WriteFault, Memory, ScriptFault}
@@ -83,3 +84,4 @@ pub record Does (run : Run) (status : Status) (left rest : Option (List ℕ)) (r
   pub source_later : reads ≤ reads_after
   pub folder_later : calls ≤ calls_after
   pub sink_later : writes ≤ writes_after
+  pub took : TookOn before now

@@ -1,5 +1,5 @@
 -- What a session does, turn by turn (this profile).
-use Rattle.std.specs.Prelude.{◌≡◌, ◌<◌, ◌≤◌, ◌-◌, ℕ, Bool, true, false, List, [], ◌∷◌, ◌++◌, length, map, IfSome, IsSome, Option, Some, None, option_map}
+use Rattle.std.specs.Prelude.{◌≡◌, ◌<◌, ◌≤◌, ◌-◌, ℕ, Bool, true, false, List, [], ◌∷◌, ◌++◌, length, map, IfSome, IsSome, Option, Some, None}
 use Rattle.mmt_outside.specs.Bytes.{Taken, appended, flushed, ReadPrefix, TookPrefix}
 use Rattle.mmt_outside.specs.Faults.{Rose}
 use Rattle.output_meaning.specs.Lines.{lines_of}
@@ -22,6 +22,7 @@ use Rattle.script_reader.specs.Reading.{Reading}
 use Rattle.script_reader.specs.declared.fault.ScriptFault.{ScriptFault as Fault}
 use Rattle.script_reader.specs.declared.fault.ScriptFault.TheVariants.{Bad, Unended, Failed, Spent, Memory as OutOfMemory}
 use Rattle.run_status.specs.Flushed.{FlushesAt}
+use Rattle.run_status.specs.Taking.{TookOn, bytes_of}
 use Rattle.folder_front.specs.Checked.{Begins}
 use Rattle.mmt_top.specs.Plays.{Plays, PlaysAll}
 use Rattle.run_status.specs.declared.status.Status.{Status}
@@ -75,10 +76,6 @@ abbrev pub StoodWithin : ℕ → List Command → Log → History → Type 0
 StoodWithin count commands log history =
     (done more : List Command) (command : Command) → commands ≡ done ++ command ∷ more → length (spoken_text rules log done) < count
     → StandsAt rules history (log_through log done) command
-
--- What the sink has taken, flushed or not.
-abbrev pub bytes_of : Option Taken → Option (List ℕ)
-bytes_of taken = option_map (λ (t : Taken). t.bytes) taken
 
 -- The board that a session leaves which ended by a status, over these items.
 pub record Leaves (status : Status) (before now : Option Taken) (items : List Item) (first last : History) : Type 0 where
@@ -137,3 +134,4 @@ pub record IsLed (status : Status) (left rest : Option (List ℕ)) (reads reads_
   pub write : status ≡ WriteFault → Rose writes writes_after
   pub source_later : reads ≤ reads_after
   pub sink_later : writes ≤ writes_after
+  pub took : TookOn before now

@@ -6,6 +6,7 @@ ghost use Rattle.board_meaning.specs.Legal.{IsLegal};
 ghost use Rattle.board_meaning.specs.Ready.{is_closed};
 ghost use Rattle.text_meaning.specs.Dependencies.{dependencies};
 ghost use Rattle.run_status.specs.Flushed.{FlushesAt};
+ghost use Rattle.run_status.specs.Taking.{TookOn};
 ghost use Rattle.folder_front.specs.Checked.{IsCheckStatus, IsFolderLed};
 ghost use Rattle.word_list_meaning.specs.WordLists.{CheckFolder};
 ghost use Rattle.mmt_top.specs.FolderChecks.{PrintsFolder, LeavesFolder};
@@ -113,6 +114,10 @@ pub fn check_folder<R: Threads + Wait + Sync, K: Sink + Send, F: Folder + Send, 
 
     // At Done and Refused all that the sink took is flushed, whether or not the folder tells its files.
     ensures flush { FlushesAt result.status (K.taken sink.new) }
+
+    // With every status, and whether or not the folder tells its files, what the sink tells that it had taken is a beginning of what
+    // it tells afterwards.
+    ensures took { TookOn (K.taken sink.old) (K.taken sink.new) }
 
     // Faults have their causes, and counts never fall.
     ensures read { result.status ≡ Status.ReadFault → Rose (F.faults folder.old) (F.faults folder.new) }

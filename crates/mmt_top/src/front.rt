@@ -9,6 +9,7 @@ ghost use Rattle.board_seats.specs.Seats.{Keeps};
 ghost use Rattle.board_front.specs.Staying.{IsAtFront, IsFront};
 ghost use Rattle.script_reader.specs.Reading.{to_come};
 ghost use Rattle.run_status.specs.Flushed.{FlushesAt};
+ghost use Rattle.run_status.specs.Taking.{TookOn};
 ghost use Rattle.mmt_top.specs.Session.{IsLed, IsSessionStatus, SessionEnds, TurnTells};
 
 use crate::speak::{end_by, finish, speak};
@@ -47,6 +48,7 @@ fn turn<R: Wait, S: Source, K: Sink, G: Gate>(
     ensures flush { IfSome result (λ status. FlushesAt status (K.taken sink.new)) }
     ensures source_later { S.faults source.old ≤ S.faults source.new }
     ensures sink_later { K.faults sink.old ≤ K.faults sink.new }
+    ensures took { TookOn (K.taken sink.old) (K.taken sink.new) }
     ensures read { IfSome result (λ status. status ≡ Status.ReadFault → Rose (S.faults source.old) (S.faults source.new)) }
     ensures write { IfSome result (λ status. status ≡ Status.WriteFault → Rose (K.faults sink.old) (K.faults sink.new)) }
 {
@@ -80,6 +82,7 @@ fn play<R: Wait, S: Source, K: Sink, G: Gate>(
     ensures flush { FlushesAt result (K.taken sink.new) }
     ensures source_later { S.faults source.old ≤ S.faults source.new }
     ensures sink_later { K.faults sink.old ≤ K.faults sink.new }
+    ensures took { TookOn (K.taken sink.old) (K.taken sink.new) }
     ensures read { result ≡ Status.ReadFault → Rose (S.faults source.old) (S.faults source.new) }
     ensures write { result ≡ Status.WriteFault → Rose (K.faults sink.old) (K.faults sink.new) }
 {

@@ -5,10 +5,12 @@ ghost use Rattle.mmt_outside.specs.Bytes.{ReadPrefix};
 ghost use Rattle.mmt_outside.specs.Faults.{Rose};
 ghost use Rattle.word_list_meaning.specs.WordLists as meant;
 ghost use Rattle.run_status.specs.Flushed.{FlushesAt};
+ghost use Rattle.run_status.specs.Taking.{TookOn};
 ghost use Rattle.command_words.specs.ReadRuns.{IsWithin, read_run, read_task};
 ghost use Rattle.mmt_top.specs.Runs.{Does, IsStatusOf, IsUsage, Prints, ReadHasCause, checks, is_check, is_play, plays};
 ghost use Rattle.mmt_top.specs.Typing.{TellsTyped};
 
+use crate::ended::Ended;
 use crate::folder_session::check_folder;
 use crate::generator_session::generate;
 use crate::script_session::session;
@@ -16,6 +18,7 @@ use command_words::{Run, Task, run_of, usage_line};
 use mmt_outside::{Folder, Gate, Sink, Source};
 use run_status::{Status, write_last};
 use std::alloc::Global;
+use std::mem::forget;
 use std::sync::Wait;
 use std::thread::Threads;
 
@@ -30,6 +33,16 @@ fn usage<K: Sink>(sink: &mut K) -> Status
         Ok(()) => Status::Usage,
         Err(_) => Status::WriteFault,
     }
+}
+
+/// How a command ended. The memory of its board is not given back piece by piece, which takes as long as a tenth of the run did: the
+/// process ends behind its command, and the system takes back all of it at once.
+fn left_to_the_system(ended: Ended) -> Status
+    ensures { result ≡ ended.status }
+{
+    let Ended { status, board } = ended;
+    forget(board);
+    status
 }
 
 /// Does what the words asked for.
@@ -56,20 +69,21 @@ fn perform<
 {
     let workers = asked.workers;
     match asked.task {
-        Task::Play => session(rt, alloc, workers, source, sink, gate).status,
-        Task::CheckFolder(path) => check_folder(
+        Task::Play => left_to_the_system(session(rt, alloc, workers, source, sink, gate)),
+        Task::CheckFolder(path) => left_to_the_system(check_folder(
             rt, alloc, workers, path, sink, folder, gate,
-        ).status,
+        )),
         Task::Generate {
             start,
             modules,
             edits,
-        } => generate(rt, alloc, workers, start, modules, edits, sink, gate).status,
+        } => left_to_the_system(generate(rt, alloc, workers, start, modules, edits, sink, gate)),
     }
 }
 
 /// Runs the program: reads the words, which are those after the program's name, and does what they ask. A script is played as by
-/// `session`, a folder is checked as by `check_folder`, and a library is generated as by `generate`.
+/// `session`, a folder is checked as by `check_folder`, and a library is generated as by `generate`. It is the last call of a process:
+/// the memory of the board is left to the system.
 pub fn run<
     R: Threads + Wait + Sync,
     S: Source + Send,
@@ -110,6 +124,9 @@ pub fn run<
     // At Done, Refused, ScriptFault and Usage all that the sink took is flushed, whether or not the source and the folder tell what
     // they hold.
     ensures flush { FlushesAt result (K.taken sink.new) }
+
+    // With every status, and whether or not they do, what the sink tells that it had taken is a beginning of what it tells afterwards.
+    ensures took { TookOn (K.taken sink.old) (K.taken sink.new) }
 
     // Faults have their causes, and counts never fall.
     ensures read { result ≡ Status.ReadFault → ReadHasCause (meant.run_of (map string_bytes words.now)) (S.faults source.old) (S.faults source.new) (F.faults folder.old) (F.faults folder.new) }

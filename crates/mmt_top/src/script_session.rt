@@ -14,6 +14,7 @@ ghost use Rattle.board_meaning.specs.Ready.{is_closed};
 ghost use Rattle.text_meaning.specs.Dependencies.{dependencies};
 ghost use Rattle.board_front.specs.Staying.{Stays};
 ghost use Rattle.run_status.specs.Flushed.{FlushesAt};
+ghost use Rattle.run_status.specs.Taking.{TookOn};
 ghost use Rattle.mmt_top.specs.Session.{BacksWritten, EditsAre, EndsAs, IsLed, IsSessionStatus};
 
 use crate::ended::{Ended, unbegun};
@@ -101,6 +102,10 @@ pub fn session<R: Threads + Wait + Sync, S: Source + Send, K: Sink + Send, G: Ga
 
     // At Done and ScriptFault all that the sink took is flushed, whether or not the source tells its bytes.
     ensures flush { FlushesAt result.status (K.taken sink.new) }
+
+    // With every status, and whether or not the source tells its bytes, what the sink tells that it had taken is a beginning of what
+    // it tells afterwards.
+    ensures took { TookOn (K.taken sink.old) (K.taken sink.new) }
 
     // Faults have their causes, and counts never fall.
     ensures read { result.status ≡ Status.ReadFault → Rose (S.faults source.old) (S.faults source.new) }

@@ -8,6 +8,7 @@ ghost use Rattle.board_front.specs.Staying.{IsAtFront, IsFront};
 ghost use Rattle.script_reader.specs.Commands.{IsShort, read_command};
 ghost use Rattle.mmt_top.specs.Answered.{SpokenTells};
 ghost use Rattle.run_status.specs.Flushed.{FlushesAt};
+ghost use Rattle.run_status.specs.Taking.{TookOn};
 ghost use Rattle.mmt_top.specs.Session.{EndsAs, IsSessionStatus, FaultTells};
 
 use crate::answer::answer;
@@ -58,6 +59,7 @@ pub(crate) fn speak<R: Wait, K: Sink, G: Gate>(
     ensures later { K.faults sink.old ≤ K.faults sink.new }
     ensures write { IfSome result (λ status. status ≡ Status.WriteFault → Rose (K.faults sink.old) (K.faults sink.new)) }
     ensures read { IfSome result (λ status. status ≡ Status.ReadFault → ⊥) }
+    ensures took { TookOn (K.taken sink.old) (K.taken sink.new) }
 {
     let Ok(lines) = answer(rt, alloc, gate, board, pass, log, command) else {
         return Some(Status::Memory);

@@ -1,4 +1,6 @@
 use Rattle.std.proofs.Common.{◌≡◌, IfOk, Result, Ok, ap, ◌∙◌, subst}
+use denote.Exit.{yes}
+use denote.Param.Send.{arg_send, arg_sync, param_send, param_sync}
 use Rattle.lf_terms.specs.declared.Memory.{Memory}
 use Rattle.board_meaning.specs.Machine.{report_reply}
 use Rattle.verdict_meaning.specs.Rounds.{modules}
@@ -6,8 +8,15 @@ use Rattle.mmt_interface.specs.Readings.{read_verdict}
 use Rattle.mmt_interface.specs.declared.verdict.Verdict.{Verdict}
 use Rattle.verdict_board.specs.Readings.{read_told}
 use Rattle.verdict_board.specs.declared.replies.Told.{Told}
+use Rattle.module_check.proofs.Crossing.{verdict_row_send, verdict_row_sync}
 use Rattle.board_front.proofs.Tellings.{absent_stands, absent_told, verdict_stands, verdict_told}
 use Rattle.board_front.proofs.verdict.told.Goals as goal
+
+pub announce_end-announced-requires-send-S-Answer : goal.announce_end-announced-requires-send-S-Answer
+announce_end-announced-requires-send-S-Answer g c κs = param_send _ _ (arg_send _ yes _ verdict_row_send)
+
+pub announce_end-announced-requires-sync-S-Answer : goal.announce_end-announced-requires-sync-S-Answer
+announce_end-announced-requires-sync-S-Answer g c κs = param_sync _ _ (arg_sync _ yes _ verdict_row_sync)
 
 pub returns-in-Verdict-clause-told : goal.returns-in-Verdict-clause-told
 returns-in-Verdict-clause-told g c =

@@ -1,7 +1,8 @@
 use Rattle.std.proofs.lemmas.Result.{err_from_is_err_and}
+use Rattle.run_status.proofs.Taking.{TookOn-none}
 use Rattle.folder_front.specs.Stops.{by_folder}
 use Rattle.folder_front.specs.declared.stop.Stop.TheVariants.{Memory}
-use Rattle.folder_front.proofs.Ended.{all_made, printed_folder, prints_whole, unedited_ends, unloaded_ends}
+use Rattle.folder_front.proofs.Ended.{all_made, printed_folder, prints_on, prints_whole, unedited_ends, unloaded_ends}
 use Rattle.folder_front.proofs.Results.{ends_error}
 use Rattle.folder_front.proofs.front.check.Goals as goal
 
@@ -41,3 +42,16 @@ returns-clause-ends g c =
 pub returns-clause-whole : goal.returns-clause-whole
 returns-clause-whole g c =
     prints_whole c.print.result (g.K.Sink.taken c.args.sink.now) (g.K.Sink.taken c.print.new.sink) c.in_ok-sheet.sheet c.print.new.pass.seen c.print.ensures.prints
+
+pub returns-in_err-loaded-clause-took : goal.returns-in_err-loaded-clause-took
+returns-in_err-loaded-clause-took g c = TookOn-none (g.K.Sink.taken c.args.sink.now)
+
+pub returns-in_err-log-clause-took : goal.returns-in_err-log-clause-took
+returns-in_err-log-clause-took g c = TookOn-none (g.K.Sink.taken c.args.sink.now)
+
+pub returns-in_err-sheet-clause-took : goal.returns-in_err-sheet-clause-took
+returns-in_err-sheet-clause-took g c = TookOn-none (g.K.Sink.taken c.args.sink.now)
+
+pub returns-clause-took : goal.returns-clause-took
+returns-clause-took g c =
+    prints_on c.print.result (g.K.Sink.taken c.args.sink.now) (g.K.Sink.taken c.print.new.sink) c.in_ok-sheet.sheet c.print.new.pass.seen c.print.ensures.prints

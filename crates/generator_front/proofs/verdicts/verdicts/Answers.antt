@@ -2,7 +2,7 @@ use Rattle.std.proofs.Common.{◌≤◌, ℕ, option_copied, length, sym, ap, �
 use Rattle.log_meaning.specs.Log.{library_of, names_of}
 use Rattle.board_front.proofs.Checked.{past_end, within_limit}
 use Rattle.board_front.proofs.Histories.{keeps_on}
-use Rattle.generator_front.proofs.DoneEdits.{grounded_stand}
+use Rattle.generator_front.proofs.SettledEdits.{grounded_stand}
 use Rattle.generator_front.proofs.Tallies.{counted, next_counted, stand_all}
 use Rattle.generator_front.proofs.verdicts.verdicts.Goals as goal
 

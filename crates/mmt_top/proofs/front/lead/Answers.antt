@@ -18,4 +18,5 @@ returns-clause-led g c = record {
   write = c.play-status.ensures.write;
   source_later = c.play-status.ensures.source_later;
   sink_later = c.play-status.ensures.sink_later;
+  took = c.play-status.ensures.took;
 }

@@ -3,6 +3,7 @@ use Rattle.std.specs.Prelude.{Option, Some, IfSome}
 use Rattle.script_reader.specs.Reading.{Reading, to_come}
 use Rattle.board_front.proofs.Histories.{keeps_on}
 use Rattle.run_status.specs.declared.status.Status.{Status}
+use Rattle.run_status.proofs.Taking.{TookOn-more, TookOn-none}
 use Rattle.mmt_top.specs.Session.{TurnTells}
 use Rattle.mmt_outside.specs.Bytes.{ReadPrefix}
 use Rattle.mmt_outside.proofs.Bytes.{preceded-nil, ReadPrefix-more, ReadPrefix-none}
@@ -35,6 +36,10 @@ returns-in-Some-turn-clause-left g c =
     (ReadPrefix-more (to_come c.loop.script (g.S.Source.left c.loop.source)) (to_come c.turn.new.script (g.S.Source.left c.turn.new.source)) (g.S.Source.left c.turn.new.source) c.turn.ensures.left
     (record { piece = c.turn.new.script.buffered; read = refl })))
 
+pub returns-in-Some-turn-clause-took : goal.returns-in-Some-turn-clause-took
+returns-in-Some-turn-clause-took g c =
+    TookOn-more (g.K.Sink.taken c.args.sink.now) (g.K.Sink.taken c.loop.sink) (g.K.Sink.taken c.turn.new.sink) c.loop.invariant.took c.turn.ensures.took
+
 pub loop-preserved : goal.loop-preserved
 loop-preserved g c = record {
   keeps = keeps_on c.args.pass.now c.loop.pass c.turn.new.pass c.loop.invariant.keeps c.turn.ensures.keeps;
@@ -47,6 +52,7 @@ loop-preserved g c = record {
   fresh = c.in_default.ensures.on refl;
   source_later = omega arith;
   sink_later = omega arith;
+  took = TookOn-more (g.K.Sink.taken c.args.sink.now) (g.K.Sink.taken c.loop.sink) (g.K.Sink.taken c.turn.new.sink) c.loop.invariant.took c.turn.ensures.took;
 }
 
 pub loop-init : goal.loop-init
@@ -59,4 +65,5 @@ loop-init g c = record {
   fresh = ap (λ (reading : Reading). reading.is_spent) c.new-script.ensures;
   source_later = omega arith;
   sink_later = omega arith;
+  took = TookOn-none (g.K.Sink.taken c.args.sink.now);
 }

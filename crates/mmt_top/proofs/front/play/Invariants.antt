@@ -3,6 +3,7 @@ use Rattle.mmt_outside.specs.Bytes.{ReadPrefix}
 use Rattle.script_reader.specs.Reading.{to_come}
 use Rattle.board_seats.specs.Seats.{Keeps}
 use Rattle.board_front.specs.Staying.{IsFront}
+use Rattle.run_status.specs.Taking.{TookOn}
 use Rattle.mmt_top.proofs.Sessions.{Played, start}
 use Rattle.mmt_top.proofs.front.play.Given as goal
 
@@ -16,4 +17,5 @@ invariant-loop g l = record {
   fresh : l.script.is_spent ≡ false;
   source_later : g.S.Source.faults l.fn.source ≤ g.S.Source.faults l.source;
   sink_later : g.K.Sink.faults l.fn.sink ≤ g.K.Sink.faults l.sink;
+  took : TookOn (g.K.Sink.taken l.fn.sink) (g.K.Sink.taken l.sink);
 }

@@ -1,4 +1,4 @@
-use Rattle.std.proofs.Common.{◌≡◌, false, subst}
+use Rattle.std.proofs.Common.{◌≡◌, false, [], subst}
 use Rattle.std.specs.Prelude.{IfSome}
 use Rattle.output_meaning.specs.Lines.{lines_of}
 use Rattle.run_meaning.specs.ScriptCommands as meant
@@ -7,6 +7,7 @@ use Rattle.script_reader.specs.Commands.{read_command}
 use Rattle.script_reader.specs.Answers.{IsNext}
 use Rattle.script_reader.specs.declared.command.Command.{Command}
 use Rattle.mmt_top.proofs.Turns.{is_spoken, told_spoken, told_ended, told_faulted}
+use Rattle.mmt_top.proofs.Taking.{ended_on, faulted_on}
 use Rattle.mmt_top.proofs.front.turn.Goals as goal
 
 pub returns-in-End-clause-tells : goal.returns-in-End-clause-tells
@@ -31,3 +32,9 @@ returns-in-Err-clause-tells g c =
     told_faulted c.in-Err.fault c.end_by.result c.args.script.now c.next_command.new.self (to_come c.args.script.now (g.S.Source.left c.args.source.now))
     (to_come c.next_command.new.self (g.S.Source.left c.next_command.new.source)) c.args.pass.now.seen (g.K.Sink.taken c.args.sink.now) (g.K.Sink.taken c.end_by.new.sink)
     c.requires.fresh c.requires.front.legal c.in-Err.ensures.answer c.end_by.ensures.end
+
+pub returns-in-End-clause-took : goal.returns-in-End-clause-took
+returns-in-End-clause-took g c = ended_on c.finish.result (g.K.Sink.taken c.args.sink.now) (g.K.Sink.taken c.finish.new.sink) [] false c.finish.ensures.end
+
+pub returns-in-Err-clause-took : goal.returns-in-Err-clause-took
+returns-in-Err-clause-took g c = faulted_on c.in-Err.fault c.end_by.result (g.K.Sink.taken c.args.sink.now) (g.K.Sink.taken c.end_by.new.sink) c.end_by.ensures.end

@@ -1,8 +1,10 @@
 use Rattle.std.proofs.Common.{◌≡◌, true≢false, refl, sym, ap, ◌∙◌, subst, arith}
 use Rattle.mmt_outside.proofs.Bytes.{ReadPrefix-none}
 use Rattle.command_words.specs.ReadRuns.{IsInBounds, read_task}
+use Rattle.judged_meaning.specs.Outputs.{generate_output}
 use Rattle.mmt_top.specs.GeneratorRuns.{IsGeneratorStatus}
 use Rattle.mmt_top.specs.Runs.{Does, checks, plays}
+use Rattle.mmt_top.proofs.Taking.{generated_on}
 use Rattle.mmt_top.proofs.program.perform.Goals as goal
 
 pub generate-requires-clause-start : goal.generate-requires-clause-start
@@ -17,6 +19,11 @@ generate-requires-clause-edits g c κs within = (subst IsInBounds c.in-Generate.
 pub returns-in-Play : goal.returns-in-Play
 returns-in-Play g c = record {
   does = subst
+      (λ s. Does (record { task = read_task c.args.asked.task; workers = c.args.asked.workers }) s (g.S.Source.left c.args.source.now) (g.S.Source.left c.session.new.source) (g.S.Source.faults c.args.source.now) (g.S.Source.faults c.session.new.source)
+      (g.F.Folder.files c.args.folder.now) (g.F.Folder.files c.args.folder.now) (g.F.Folder.faults c.args.folder.now) (g.F.Folder.faults c.args.folder.now)
+      (g.K.Sink.taken c.args.sink.now) (g.K.Sink.taken c.session.new.sink) (g.K.Sink.faults c.args.sink.now) (g.K.Sink.faults c.session.new.sink))
+      (sym c.left_to_the_system.ensures)
+      (subst
       (λ t. Does (record { task = read_task t; workers = c.args.asked.workers }) c.session.result.status (g.S.Source.left c.args.source.now) (g.S.Source.left c.session.new.source) (g.S.Source.faults c.args.source.now) (g.S.Source.faults c.session.new.source)
       (g.F.Folder.files c.args.folder.now) (g.F.Folder.files c.args.folder.now) (g.F.Folder.faults c.args.folder.now) (g.F.Folder.faults c.args.folder.now)
       (g.K.Sink.taken c.args.sink.now) (g.K.Sink.taken c.session.new.sink) (g.K.Sink.faults c.args.sink.now) (g.K.Sink.faults c.session.new.sink))
@@ -33,7 +40,8 @@ returns-in-Play g c = record {
         source_later = c.session.ensures.source_later;
         folder_later = omega arith;
         sink_later = c.session.ensures.sink_later;
-      });
+        took = c.session.ensures.took;
+      }));
   unread = λ e. absurd (true≢false (sym (ap (λ t. plays (read_task t)) c.in-Play.is) ∙ e));
   uncalled = λ e. refl;
 }
@@ -41,6 +49,11 @@ returns-in-Play g c = record {
 pub returns-in-CheckFolder : goal.returns-in-CheckFolder
 returns-in-CheckFolder g c = record {
   does = subst
+      (λ s. Does (record { task = read_task c.args.asked.task; workers = c.args.asked.workers }) s (g.S.Source.left c.args.source.now) (g.S.Source.left c.args.source.now) (g.S.Source.faults c.args.source.now) (g.S.Source.faults c.args.source.now)
+      (g.F.Folder.files c.args.folder.now) (g.F.Folder.files c.check_folder.new.folder) (g.F.Folder.faults c.args.folder.now) (g.F.Folder.faults c.check_folder.new.folder)
+      (g.K.Sink.taken c.args.sink.now) (g.K.Sink.taken c.check_folder.new.sink) (g.K.Sink.faults c.args.sink.now) (g.K.Sink.faults c.check_folder.new.sink))
+      (sym c.left_to_the_system-in-CheckFolder.ensures)
+      (subst
       (λ t. Does (record { task = read_task t; workers = c.args.asked.workers }) c.check_folder.result.status (g.S.Source.left c.args.source.now) (g.S.Source.left c.args.source.now) (g.S.Source.faults c.args.source.now) (g.S.Source.faults c.args.source.now)
       (g.F.Folder.files c.args.folder.now) (g.F.Folder.files c.check_folder.new.folder) (g.F.Folder.faults c.args.folder.now) (g.F.Folder.faults c.check_folder.new.folder)
       (g.K.Sink.taken c.args.sink.now) (g.K.Sink.taken c.check_folder.new.sink) (g.K.Sink.faults c.args.sink.now) (g.K.Sink.faults c.check_folder.new.sink))
@@ -57,7 +70,8 @@ returns-in-CheckFolder g c = record {
         source_later = omega arith;
         folder_later = c.check_folder.ensures.folder_later;
         sink_later = c.check_folder.ensures.sink_later;
-      });
+        took = c.check_folder.ensures.took;
+      }));
   unread = λ e. refl;
   uncalled = λ e. absurd (true≢false (sym (ap (λ t. checks (read_task t)) c.in-CheckFolder.is) ∙ e));
 }
@@ -65,6 +79,11 @@ returns-in-CheckFolder g c = record {
 pub returns-in-Generate : goal.returns-in-Generate
 returns-in-Generate g c = record {
   does = subst
+      (λ s. Does (record { task = read_task c.args.asked.task; workers = c.args.asked.workers }) s (g.S.Source.left c.args.source.now) (g.S.Source.left c.args.source.now) (g.S.Source.faults c.args.source.now) (g.S.Source.faults c.args.source.now)
+      (g.F.Folder.files c.args.folder.now) (g.F.Folder.files c.args.folder.now) (g.F.Folder.faults c.args.folder.now) (g.F.Folder.faults c.args.folder.now)
+      (g.K.Sink.taken c.args.sink.now) (g.K.Sink.taken c.generate.new.sink) (g.K.Sink.faults c.args.sink.now) (g.K.Sink.faults c.generate.new.sink))
+      (sym c.left_to_the_system-in-Generate.ensures)
+      (subst
       (λ t. Does (record { task = read_task t; workers = c.args.asked.workers }) c.generate.result.status (g.S.Source.left c.args.source.now) (g.S.Source.left c.args.source.now) (g.S.Source.faults c.args.source.now) (g.S.Source.faults c.args.source.now)
       (g.F.Folder.files c.args.folder.now) (g.F.Folder.files c.args.folder.now) (g.F.Folder.faults c.args.folder.now) (g.F.Folder.faults c.args.folder.now)
       (g.K.Sink.taken c.args.sink.now) (g.K.Sink.taken c.generate.new.sink) (g.K.Sink.faults c.args.sink.now) (g.K.Sink.faults c.generate.new.sink))
@@ -81,7 +100,8 @@ returns-in-Generate g c = record {
         source_later = omega arith;
         folder_later = omega arith;
         sink_later = c.generate.ensures.sink_later;
-      });
+        took = generated_on c.generate.result.status (g.K.Sink.taken c.args.sink.now) (g.K.Sink.taken c.generate.new.sink) (generate_output c.in-Generate.start c.in-Generate.modules c.in-Generate.edits c.args.asked.workers) c.generate.ensures.output;
+      }));
   unread = λ e. refl;
   uncalled = λ e. refl;
 }

@@ -6,6 +6,7 @@ use Rattle.word_list_meaning.specs.WordLists.{Run, run_of}
 use Rattle.mmt_outside.proofs.Bytes.{ReadPrefix-none}
 use Rattle.command_words.specs.ReadRuns.{read_run}
 use Rattle.mmt_top.specs.Runs.{IsStatusOf, IsUsage, Prints, ReadHasCause, is_check, is_play}
+use Rattle.mmt_top.proofs.Taking.{usage_on}
 use Rattle.mmt_top.proofs.ToldTyping.{asked_typed}
 use Rattle.mmt_top.proofs.program.run.Goals as goal
 
@@ -27,6 +28,7 @@ returns-in-Some g c =
       uncalled = λ p. c.perform.ensures.uncalled (ap is_check asked ∙ p);
       same = does.same;
       flush = does.flush;
+      took = does.took;
       read = λ e. subst (λ a. ReadHasCause a (g.S.Source.faults c.args.source.now) (g.S.Source.faults c.perform.new.source) (g.F.Folder.faults c.args.folder.now) (g.F.Folder.faults c.perform.new.folder)) asked (does.read e);
       write = does.write;
       memory = λ e. subst IsSome asked refl;
@@ -49,6 +51,7 @@ returns-in-None g c =
       uncalled = λ p. refl;
       same = refl;
       flush = c.usage.ensures.flush;
+      took = usage_on c.usage.result (g.K.Sink.taken c.args.sink.now) (g.K.Sink.taken c.usage.new.sink) c.usage.ensures.usage;
       read = λ e. absurd (subst (λ s. IsUsage s (g.K.Sink.taken c.args.sink.now) (g.K.Sink.taken c.usage.new.sink)) e c.usage.ensures.usage);
       write = c.usage.ensures.write;
       memory = λ e. absurd (subst (λ s. IsUsage s (g.K.Sink.taken c.args.sink.now) (g.K.Sink.taken c.usage.new.sink)) e c.usage.ensures.usage);

@@ -2,7 +2,8 @@ use denote.Exit.{yes}
 use denote.Param.Send.{arg_send, arg_sync, param_send, param_sync}
 use Rattle.board_front.proofs.Subject.{verdict_row_send, verdict_row_sync}
 use Rattle.mmt_outside.proofs.Bytes.{ReadPrefix-none}
-use Rattle.mmt_top.proofs.Led.{nothing_said, nothing_written, says_backs, says_edits, says_left, says_output}
+use Rattle.run_status.proofs.Taking.{TookOn-none}
+use Rattle.mmt_top.proofs.Led.{nothing_said, nothing_written, says_backs, says_edits, says_left, says_output, says_took}
 use Rattle.std.specs.Prelude.{None}
 use Rattle.word_list_meaning.specs.WordLists.{Play}
 use Rattle.mmt_top.proofs.ToldTyping.{tells_typed}
@@ -51,3 +52,11 @@ returns-in_default-clause-typed g c = tells_typed Play (g.S.Source.left c.args.s
 
 pub returns-clause-typed : goal.returns-clause-typed
 returns-clause-typed g c = tells_typed Play (g.S.Source.left c.args.source.now) None
+
+pub returns-in_default-clause-took : goal.returns-in_default-clause-took
+returns-in_default-clause-took g c = TookOn-none (g.K.Sink.taken c.args.sink.now)
+
+pub returns-clause-took : goal.returns-clause-took
+returns-clause-took g c =
+    says_took c.play_on.result.status (g.S.Source.left c.args.source.now) (g.S.Source.left c.play_on.new.source) (g.S.Source.faults c.args.source.now) (g.S.Source.faults c.play_on.new.source) (g.K.Sink.taken c.args.sink.now) (g.K.Sink.taken c.play_on.new.sink) (g.K.Sink.faults c.args.sink.now) (g.K.Sink.faults c.play_on.new.sink) c.play_on.result.board
+    c.play_on.ensures.some c.play_on.ensures.led

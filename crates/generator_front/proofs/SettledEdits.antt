@@ -1,4 +1,4 @@
--- The generator is done with one edit more, once every module is brought to a verdict behind it.
+-- The generator is settled with one edit more, once every module is brought to a verdict behind it.
 use Rattle.std.proofs.Common.{◌≡◌, ℕ, suc, ◌+◌, ◌≤◌, true, not, [], ◌∷◌, ◌++◌, length, sym, ap, ◌∙◌, subst, arith}
 use Rattle.std.proofs.lemmas.Bool.{and_parts}
 use Rattle.std.proofs.lemmas.List.{append_cancel_left}
@@ -15,8 +15,7 @@ use Rattle.board_meaning.specs.Standing.{installs}
 use Rattle.board_machine_laws.proofs.Histories.{log_append}
 use Rattle.run_meaning.specs.Backing.{AreBacked}
 use Rattle.run_meaning.specs.Parts.{told_of_all}
-use Rattle.run_meaning.specs.Generator.{asked_after, counts_of, generated, generator_told, grounded_names, installs_of}
-use Rattle.judged_meaning.specs.JudgingByRules.{rules}
+use Rattle.run_meaning.specs.Generator.{asked_after, generated, generator_told, grounded_names, installs_of}
 use Rattle.install_laws.specs.InstallLaws.{AllStand}
 use Rattle.install_laws.proofs.Installs.{installs_are_asked}
 use Rattle.install_laws.proofs.Played.{backed_append}
@@ -26,8 +25,7 @@ use Rattle.board_front.specs.Staying.{GoesOn, IsFront, Stays}
 use Rattle.board_front.proofs.Histories.{stays_on}
 use Rattle.script_reader.specs.Generating.{Generating}
 use Rattle.script_reader.proofs.GeneratedPlaces.{later_put}
-use Rattle.generator_front.specs.declared.counts.Counts.{Counts}
-use Rattle.generator_front.specs.Generated.{AreCountsOf, IsDone, IsLogOfGiven}
+use Rattle.generator_front.specs.Generated.{IsLogOfGiven, IsSettled}
 use Rattle.generator_front.proofs.GivenEdits.{all_given, generated_first, log_more}
 use Rattle.generator_front.proofs.FirstLibraries.{first_installed}
 use Rattle.generator_front.proofs.Asking.{changes_one, installs_first, installs_more, told_first, told_later}
@@ -59,38 +57,36 @@ grounded_stand log history logged all name grounded =
 
 -- ---- the first library
 
-module _ (start modules : ℕ) (few : modules ≤ 1000) (log : Log) (counts : Counts) (middle after : History) (stays : Stays middle after)
-    (is : log ≡ appended_all [] (generated start modules 0)) (logged : log ≡ log_of middle) (counted : AreCountsOf log counts) (stand : AllStand dependencies after) where
+module _ (start modules : ℕ) (few : modules ≤ 1000) (log : Log) (middle after : History) (stays : Stays middle after)
+    (is : log ≡ appended_all [] (generated start modules 0)) (logged : log ≡ log_of middle) (stand : AllStand dependencies after) where
   log_after : log_of after ≡ log
   log_after = stays.logged ∙ sym logged
 
-  pub first_done : IsDone start modules 0 counts after
-  first_done = record {
+  pub first_settled : IsSettled start modules 0 after
+  first_settled = record {
     logged = log_after ∙ is;
-    counted = counted modules 0 ∙ ap (counts_of rules modules 0) (sym log_after);
     stand = stand;
     installed = first_installed start modules after few stays.legal (log_after ∙ is ∙ ap (appended_all []) (generated_first start modules)) stand
         ∙ ap (λ (l : Log). length (grounded_names dependencies (library_of l))) (log_after ∙ is) ∙ sym (installs_first dependencies start modules);
     backed = subst (AreBacked dependencies after) (ap (told_of_all dependencies) (log_after ∙ is) ∙ sym (told_first dependencies start modules)) (checks_are_backed dependencies after stand);
   }
 
-pub first_done_by : (generating : Generating) (log : Log) (counts : Counts) (middle after : History) → generating.modules ≤ 1000 → generating.given ≡ generating.modules
-    → IsLogOfGiven generating log → IsFront log middle → Stays middle after → AreCountsOf log counts → AllStand dependencies after
-    → IsDone generating.start generating.modules 0 counts after
-first_done_by generating log counts middle after few all given front stays counted stand =
-    first_done generating.start generating.modules few log counts middle after stays (all_given generating log 0 given (omega (arith, all))) front.logged counted stand
+pub first_settled_by : (generating : Generating) (log : Log) (middle after : History) → generating.modules ≤ 1000 → generating.given ≡ generating.modules
+    → IsLogOfGiven generating log → IsFront log middle → Stays middle after → AllStand dependencies after
+    → IsSettled generating.start generating.modules 0 after
+first_settled_by generating log middle after few all given front stays stand =
+    first_settled generating.start generating.modules few log middle after stays (all_given generating log 0 given (omega (arith, all))) front.logged stand
 
 -- ---- one edit more
 
-module _ (start modules edits : ℕ) (log : Log) (old counts : Counts) (before middle after : History) (done : IsDone start modules edits old before)
-    (on : GoesOn log before middle) (is : log ≡ appended_all [] (generated start modules (suc edits))) (stays : Stays middle after)
-    (counted : AreCountsOf log counts) (stand : AllStand dependencies after) where
+module _ (start modules edits : ℕ) (log : Log) (before middle after : History) (settled : IsSettled start modules edits before)
+    (on : GoesOn log before middle) (is : log ≡ appended_all [] (generated start modules (suc edits))) (stays : Stays middle after) (stand : AllStand dependencies after) where
   whole : GoesOn log before after
   whole = stays_on log before middle after on stays
 
   one_edit : appended (log_of before) (later_put start modules edits) ≡ log_of before ++ log_of whole.later
   one_edit =
-      ap (λ (l : Log). appended l (later_put start modules edits)) done.logged
+      ap (λ (l : Log). appended l (later_put start modules edits)) settled.logged
       ∙ sym (log_more start modules edits) ∙ sym is ∙ changed log before after whole
 
   asked : installs after ≡ installs before + asked_after dependencies (log_of before) (later_put start modules edits ∷ [])
@@ -99,35 +95,34 @@ module _ (start modules edits : ℕ) (log : Log) (old counts : Counts) (before m
       let at_end : AllStand dependencies (before ++ whole.later) = subst (AllStand dependencies) whole.begins stand in
       let legal = legal_on log before after whole in
       ap installs whole.begins
-      ∙ installs_are_asked dependencies before whole.later legal done.stand (stand_between dependencies whole.later before legal change.0 done.stand at_end)
+      ∙ installs_are_asked dependencies before whole.later legal settled.stand (stand_between dependencies whole.later before legal change.0 settled.stand at_end)
       ∙ ap (λ n. installs before + n) change.1
 
   more_installed : installs after ≡ installs_of dependencies start modules (suc edits)
   more_installed =
-      let now = done.installed in
-      let log_is = ap (λ l. asked_after dependencies l (later_put start modules edits ∷ [])) done.logged in
+      let now = settled.installed in
+      let log_is = ap (λ l. asked_after dependencies l (later_put start modules edits ∷ [])) settled.logged in
       let all = installs_more dependencies start modules edits in
       let sum = asked in
       omega (arith, now, log_is, all, sum)
 
-  pub more_done : IsDone start modules (suc edits) counts after
-  more_done = record {
+  pub more_settled : IsSettled start modules (suc edits) after
+  more_settled = record {
     logged = whole.logged ∙ is;
-    counted = counted modules (suc edits) ∙ ap (counts_of rules modules (suc edits)) (sym whole.logged);
     stand = stand;
     installed = more_installed;
     backed = subst (AreBacked dependencies after) (sym (told_later dependencies start modules edits))
         (backed_append dependencies after (generator_told dependencies start modules edits) (told_of_all dependencies (appended_all [] (generated start modules (suc edits))))
         (subst (λ h. AreBacked dependencies h (generator_told dependencies start modules edits)) (sym whole.begins)
-        (stay_backed dependencies before whole.later (generator_told dependencies start modules edits) done.backed))
+        (stay_backed dependencies before whole.later (generator_told dependencies start modules edits) settled.backed))
         (subst (λ l. AreBacked dependencies after (told_of_all dependencies l)) (whole.logged ∙ is) (checks_are_backed dependencies after stand)));
   }
 
-pub more_done_by : (start modules counter : ℕ) (generating : Generating) (log : Log) (old counts : Counts) (before middle after : History)
-    → generating ≡ record { start = start; modules = modules; given = modules + (counter + 1) } → IsLogOfGiven generating log → IsDone start modules counter old before
-    → GoesOn log before middle → Stays middle after → AreCountsOf log counts → AllStand dependencies after → IsDone start modules (counter + 1) counts after
-more_done_by start modules counter generating log old counts before middle after e given done on stays counted stand =
+pub more_settled_by : (start modules counter : ℕ) (generating : Generating) (log : Log) (before middle after : History)
+    → generating ≡ record { start = start; modules = modules; given = modules + (counter + 1) } → IsLogOfGiven generating log → IsSettled start modules counter before
+    → GoesOn log before middle → Stays middle after → AllStand dependencies after → IsSettled start modules (counter + 1) after
+more_settled_by start modules counter generating log before middle after e given settled on stays stand =
     let now : Generating = record { start = start; modules = modules; given = modules + (counter + 1) } in
     let is = all_given now log (suc counter) (subst (λ (z : Generating). IsLogOfGiven z log) e given) (omega arith) in
     let one : suc counter ≡ counter + 1 = omega arith in
-    subst (λ (edits : ℕ). IsDone start modules edits counts after) one (more_done start modules counter log old counts before middle after done on is stays counted stand)
+    subst (λ (edits : ℕ). IsSettled start modules edits after) one (more_settled start modules counter log before middle after settled on is stays stand)
