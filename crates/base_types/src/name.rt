@@ -5,7 +5,7 @@ ghost use Rattle.std.specs.Ordering.{nat_cmp};
 ghost use Rattle.std.specs.Cmp.{partial_equiv_from_equiv};
 ghost use Rattle.std.specs.Cmp.Rules.{hashing};
 ghost use Rattle.std.specs.Cmp.Lexicographic.{pointwise, slice_cmp, nat_list_eq_equiv, nat_list_cmp_total, texts_ties, texts_po};
-ghost use Rattle.name_meaning.specs.Identifiers.{is_identifier};
+ghost use Rattle.identifiers.specs.Below.Identifiers.{is_identifier};
 ghost use Rattle.base_types.specs.declared.name.NameFault.TheVariants.{NotAName, Memory as WantOfMemory};
 
 use crate::Memory;
@@ -49,7 +49,7 @@ enum Text {
 
 impl Model for Name {
     ghost use Rattle.std.specs.Prelude.{List, ℕ, IsTrue};
-    ghost use Rattle.name_meaning.specs.Identifiers.{is_identifier};
+    ghost use Rattle.identifiers.specs.Below.Identifiers.{is_identifier};
     ghost use Rattle.base_types.specs.SharedText.{text_bytes};
 
     ghost Value = { List ℕ };

@@ -5,16 +5,16 @@ use Rattle.lf_meaning.specs.Terms.{Object, Family}
 use Rattle.lf_meaning.specs.Judgements.{IsTyping}
 use Rattle.library_meaning.specs.Faces.{Environment, includes_of, own_of, own_parts, flat_signature, flat_of}
 use Rattle.library_meaning.specs.Coherence.{IsCoherent}
-use Rattle.expansion_typing.specs.TypingOfExpansion.{IsTypedScope}
-use Rattle.expansion_typing.proofs.Expanding.{standing_object_checks, standing_family_is_family}
+use Rattle.face_typing.specs.Below.TypingOfExpansion.{IsTypedScope}
+use Rattle.face_typing.proofs.Below.Expanding.{standing_object_checks, standing_family_is_family}
 use Rattle.link_laws.proofs.Linked.{known_theory}
-use Rattle.link_coherence_laws.proofs.Onces.{Once, once_names}
-use Rattle.link_coherence_laws.proofs.WordsHold.{flat_once}
+use Rattle.face_typing.proofs.Below.Onces.{Once, once_names}
+use Rattle.face_typing.proofs.Below.WordsHold.{flat_once}
 use Rattle.verdict_meaning.specs.Modules.{scope_in}
 use Rattle.verdict_meaning.specs.Rounds.{told_by}
-use Rattle.coherence_laws.proofs.LibrariesHold.{library_coherent}
-use Rattle.row_typing.specs.TypedFaces.{IsTypedEnvironment}
-use Rattle.link_typing.proofs.LinksTyped.{links_are_typed}
+use Rattle.face_typing.proofs.Below.LibrariesHold.{library_coherent}
+use Rattle.face_typing.specs.Below.TypedFaces.{IsTypedEnvironment}
+use Rattle.face_typing.proofs.Below.LinksTyped.{links_are_typed}
 use Rattle.face_typing.proofs.LibrariesTyped.{faces_are_typed, known_views_carry}
 use Rattle.judged_laws.specs.CarryingLaws.{IsTranslated}
 use Rattle.judged_laws.proofs.Translated.{carry_is_translation}

@@ -1,3 +1,4 @@
+pub mod Below
 pub mod Carried
 pub mod CarriedInReach
 pub mod ReachFaces

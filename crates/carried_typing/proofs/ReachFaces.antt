@@ -10,8 +10,8 @@ use Rattle.library_meaning.specs.Coherence.{IsCoherent}
 use Rattle.text_meaning.specs.Dependencies.{dependencies}
 use Rattle.verdict_meaning.specs.Rounds.{verdict_under, known_if, known_of, verdicts, told_by}
 use Rattle.verdict_laws.proofs.Shortness.{reach_within_reach}
-use Rattle.coherence_laws.specs.CoherenceLaws.{AreClosed}
-use Rattle.coherence_laws.proofs.LibrariesHold.{told_under, known_in, absent_known, closed_are_coherent}
+use Rattle.face_typing.specs.Below.CoherenceLaws.{AreClosed}
+use Rattle.face_typing.proofs.Below.LibrariesHold.{told_under, known_in, absent_known, closed_are_coherent}
 use Rattle.acceptance_laws.proofs.Alike.{Alike}
 use Rattle.carried_typing.specs.CarriedTyping.{HaveReachOf}
 use Rattle.list_laws.proofs.Members.{member_place}

@@ -9,7 +9,7 @@ use Rattle.library_meaning.specs.Faces.{Environment, flat_of}
 use Rattle.library_meaning.specs.Coherence.{IsCoherent}
 use Rattle.text_meaning.specs.Dependencies.{dependencies}
 use Rattle.verdict_meaning.specs.Rounds.{known_of, verdicts, told_by}
-use Rattle.row_typing.specs.TypedFaces.{IsTypedEnvironment}
+use Rattle.face_typing.specs.Below.TypedFaces.{IsTypedEnvironment}
 use Rattle.judged_meaning.specs.Carrying.{CarriedTo, carry}
 use Rattle.judged_laws.specs.CarryingLaws.{IsTranslated}
 

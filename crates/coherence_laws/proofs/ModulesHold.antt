@@ -16,16 +16,16 @@ use Rattle.text_meaning.specs.Tokens.{Span}
 use Rattle.text_meaning.specs.Trees.{Expr, Written, Assign, Decl, IncludeDecl, StructDecl, ConstDecl, first_name}
 use Rattle.expansion_meaning.specs.Rules.{Rule}
 use Rattle.expansion_meaning.specs.Values.{expand_class, expand_value}
-use Rattle.expansion_laws.proofs.ValuesStand.{class_sound, value_sound}
+use Rattle.link_coherence_laws.proofs.Below.ValuesStand.{class_sound, value_sound}
 use Rattle.link_meaning.specs.Refusals.{labelled, each}
 use Rattle.link_meaning.specs.Assignments.{Setting, read_assigns}
 use Rattle.link_meaning.specs.Coverings.{covered_tests}
 use Rattle.link_meaning.specs.Passes.{map_all, shared_test, assigned_map, link_map}
 use Rattle.link_meaning.specs.Induced.{with_structure}
-use Rattle.link_laws.proofs.Covered.{good_same}
-use Rattle.link_laws.proofs.Valued.{demand_holds, label_came}
-use Rattle.link_laws.proofs.Reading.{assigns_sound}
-use Rattle.link_laws.proofs.Linked.{own_named}
+use Rattle.link_coherence_laws.proofs.Below.Covered.{good_same}
+use Rattle.link_coherence_laws.proofs.Below.Valued.{demand_holds, label_came}
+use Rattle.link_coherence_laws.proofs.Below.Reading.{assigns_sound}
+use Rattle.link_coherence_laws.proofs.Below.Linked.{own_named}
 use Rattle.verdict_meaning.specs.Modules.{known_theory as theory_known, module_test, scope_in, is_used, unused_test, declared_value, structure_setting, declare, declare_all, empty_theory, view_setting, checked_view}
 use Rattle.holding_laws.specs.HoldingLaws.{Grows}
 use Rattle.holding_laws.specs.ExpansionHolds.{scope_signature, ScopeHolds}

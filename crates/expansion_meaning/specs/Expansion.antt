@@ -1,9 +1,9 @@
 -- Expansion: the term that a written expression stands for, or its first fault (this profile). Each argument is taken by the
 -- head so far (Harper and Licata 2007, section 2: hereditary substitution at the erasure of the classifier).
 use Rattle.std.specs.Prelude.{Option, Some, None, Ok}
-use Rattle.lf_meaning.specs.Terms.{Object, Lam, Family, Pi, AtFamily, Kind, Ty, PiKind}
-use Rattle.lf_meaning.specs.Equality.{same_family}
-use Rattle.translation_meaning.specs.Heads.{Head, ObjectHead, FamilyHead, head_takes}
+use Rattle.library_meaning.specs.Below.Terms.{Object, Lam, Family, Pi, AtFamily, Kind, Ty, PiKind}
+use Rattle.library_meaning.specs.Below.Equality.{same_family}
+use Rattle.library_meaning.specs.Below.Heads.{Head, ObjectHead, FamilyHead, head_takes}
 use Rattle.library_meaning.specs.Resolution.{Scope}
 use Rattle.text_meaning.specs.Tokens.{Span}
 use Rattle.text_meaning.specs.Trees.{Expr, TypeExpr, NameExpr, AppExpr, PiExpr, LamExpr, TypedLamExpr, ArrowExpr, BackExpr, Exprs, NoArgs, ThenArg}

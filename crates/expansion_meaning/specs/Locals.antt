@@ -2,8 +2,8 @@
 -- is this profile).
 use Rattle.std.specs.Prelude.{ℕ, suc, List, ◌∷◌, Option, map, slice_get, option_map}
 use Rattle.name_meaning.specs.Names.{Name}
-use Rattle.lf_meaning.specs.Terms.{Family, Context}
-use Rattle.lf_meaning.specs.Raising.{raise_family}
+use Rattle.library_meaning.specs.Below.Terms.{Family, Context}
+use Rattle.library_meaning.specs.Below.Raising.{raise_family}
 use Rattle.library_meaning.specs.Resolution.{Variables}
 
 -- The name of a binder, if it has one, and the family of its variable.

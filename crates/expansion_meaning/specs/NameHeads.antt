@@ -1,9 +1,9 @@
 -- What a written name begins as: a constant with a value begins as that value, any other head as itself (this profile).
 use Rattle.std.specs.Prelude.{ℕ, zero, Bool, true, false, Option, Some, None, Ok}
-use Rattle.lf_meaning.specs.Terms.{Constant, At, Var, Con, Family, AtFamily, FamilyCon, Kind}
+use Rattle.library_meaning.specs.Below.Terms.{Constant, At, Var, Con, Family, AtFamily, FamilyCon, Kind}
 use Rattle.name_meaning.specs.Names.{Path}
-use Rattle.lf_meaning.specs.Signatures.{Class, FamilyClass, KindClass, Value, SameAs, TermValue, FamilyValue, Declaration}
-use Rattle.translation_meaning.specs.Heads.{Head, ObjectHead, FamilyHead}
+use Rattle.library_meaning.specs.Below.Signatures.{Class, FamilyClass, KindClass, Value, SameAs, TermValue, FamilyValue, Declaration}
+use Rattle.library_meaning.specs.Below.Heads.{Head, ObjectHead, FamilyHead}
 use Rattle.library_meaning.specs.Resolution.{Scope, Resolved, Variable, Declared, Unknown, Ambiguous, resolve}
 use Rattle.text_meaning.specs.Tokens.{Span}
 use Rattle.expansion_meaning.specs.Rules.{Rule}

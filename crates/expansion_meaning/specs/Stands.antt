@@ -2,11 +2,11 @@
 -- (this profile; heads take arguments as in Harper and Licata 2007, section 2).
 use Rattle.std.specs.Prelude.{◌≡◌, ℕ, Some, None, true, false, [], ⊤}
 use Rattle.name_meaning.specs.Names.{Path}
-use Rattle.lf_meaning.specs.Terms.{Object, Lam, At, Var, Family, Pi, Kind, Ty, PiKind, domain_count}
-use Rattle.lf_meaning.specs.Signatures.{Class, FamilyClass, KindClass, Value, Declaration}
-use Rattle.translation_meaning.specs.AtomicFamilies.{IsAtomicFamily}
-use Rattle.translation_meaning.specs.Heads.{Head, ObjectHead, FamilyHead, head_takes}
-use Rattle.translation_meaning.specs.Translation.{object_value, family_value}
+use Rattle.library_meaning.specs.Below.Terms.{Object, Lam, At, Var, Family, Pi, Kind, Ty, PiKind, domain_count}
+use Rattle.library_meaning.specs.Below.Signatures.{Class, FamilyClass, KindClass, Value, Declaration}
+use Rattle.library_meaning.specs.Below.AtomicFamilies.{IsAtomicFamily}
+use Rattle.library_meaning.specs.Below.Heads.{Head, ObjectHead, FamilyHead, head_takes}
+use Rattle.library_meaning.specs.Below.Translation.{object_value, family_value}
 use Rattle.library_meaning.specs.Resolution.{Scope, Resolved, Variable, Declared, Unknown, Ambiguous}
 use Rattle.library_meaning.specs.StandsFor.{StandsFor}
 use Rattle.library_meaning.specs.Words.{own_value}

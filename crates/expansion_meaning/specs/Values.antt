@@ -2,11 +2,11 @@
 -- profile).
 use Rattle.std.specs.Prelude.{Bool, true, false, [], Ok}
 use Rattle.name_meaning.specs.Names.{Path}
-use Rattle.lf_meaning.specs.Terms.{Family, Kind, Ty, PiKind, domain_count}
-use Rattle.lf_meaning.specs.Signatures.{Class, FamilyClass, KindClass, Value, Declaration}
-use Rattle.lf_meaning.specs.Equality.{same_family, same_class}
-use Rattle.translation_meaning.specs.Heads.{Head}
-use Rattle.translation_meaning.specs.Translation.{object_value, family_value}
+use Rattle.library_meaning.specs.Below.Terms.{Family, Kind, Ty, PiKind, domain_count}
+use Rattle.library_meaning.specs.Below.Signatures.{Class, FamilyClass, KindClass, Value, Declaration}
+use Rattle.library_meaning.specs.Below.Equality.{same_family, same_class}
+use Rattle.library_meaning.specs.Below.Heads.{Head}
+use Rattle.library_meaning.specs.Below.Translation.{object_value, family_value}
 use Rattle.library_meaning.specs.Resolution.{Scope, Resolved, Variable, Declared, Unknown, Ambiguous, resolve}
 use Rattle.library_meaning.specs.Words.{own_value}
 use Rattle.text_meaning.specs.Tokens.{Span}

@@ -1,3 +1,4 @@
+pub mod Below
 pub mod TypedAfter
 pub mod TheoriesTyped
 pub mod ModulesTyped

@@ -1,3 +1,4 @@
+pub mod Below
 pub mod FaceTypingLaws
 pub mod JudgedTyping
 pub mod BuildingTyping

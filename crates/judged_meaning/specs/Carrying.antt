@@ -10,9 +10,9 @@ use Rattle.lf_meaning.specs.HeadMaps.{HeadMap}
 use Rattle.translation_meaning.specs.Translation.{translate_object, translate_family}
 use Rattle.library_meaning.specs.Faces.{TheoryFace, ViewFace, Environment, theory_of, view_of}
 use Rattle.library_meaning.specs.Resolution.{Scope}
-use Rattle.expansion_meaning.specs.Answers.{Fault, Answer}
-use Rattle.expansion_meaning.specs.Rules.{Rule}
-use Rattle.expansion_meaning.specs.Expansion.{expand_object, expand_family}
+use Rattle.verdict_meaning.specs.Below.Answers.{Fault, Answer}
+use Rattle.verdict_meaning.specs.Below.Rules.{Rule}
+use Rattle.verdict_meaning.specs.Below.Expansion.{expand_object, expand_family}
 use Rattle.verdict_meaning.specs.Modules.{scope_in}
 
 -- A judgement is carried to this object and family; or no accepted view has the name; or the judgement breaks a rule at a

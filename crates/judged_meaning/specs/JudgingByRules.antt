@@ -2,14 +2,14 @@
 use Rattle.std.specs.Prelude.{[], Option, Some, None}
 use Rattle.name_meaning.specs.Names.{Name, Text}
 use Rattle.log_meaning.specs.Log.{Library}
-use Rattle.link_meaning.specs.Refusals as refusals
-use Rattle.expansion_meaning.specs.Rules.{word_of}
+use Rattle.verdict_meaning.specs.Below.Refusals as refusals
+use Rattle.verdict_meaning.specs.Below.Rules.{word_of}
 use Rattle.text_meaning.specs.Dependencies.{dependencies}
 use Rattle.verdict_meaning.specs.Verdicts as verdicts
 use Rattle.verdict_meaning.specs.Rounds.{verdict_of, told_by}
-use Rattle.printing_meaning.specs.VerdictLines.{Refusal, Judged, Refused, AcceptedTheory, AcceptedView}
+use Rattle.run_meaning.specs.Below.VerdictLines.{Refusal, Judged, Refused, AcceptedTheory, AcceptedView}
 use Rattle.run_meaning.specs.Judging.{Judging}
-use Rattle.printing_meaning.specs.CarriedLines.{Carried, Carries, NoView, Ill}
+use Rattle.run_meaning.specs.Below.CarriedLines.{Carried, Carries, NoView, Ill}
 use Rattle.judged_meaning.specs.Carrying.{Carriage, CarriedTo, NoSuchView, IllBy, carry}
 
 -- A refusal, as it is printed: the place where it begins, the rule's word and the label.

@@ -1,3 +1,4 @@
+pub mod Below
 pub mod Carrying
 pub mod JudgingByRules
 pub mod Outputs

@@ -1,3 +1,4 @@
+pub mod Below
 pub mod Mapped
 pub mod OneLibraryKnown
 pub mod CarriedJudgements

@@ -10,7 +10,7 @@ use Rattle.library_meaning.specs.Environments.{known_or_absent}
 use Rattle.verdict_meaning.specs.Verdicts as meaning
 use Rattle.verdict_meaning.specs.Verdicts.{known_by}
 use Rattle.verdict_meaning.specs.Rounds.{known_if, known_of, verdicts, verdict_of}
-use Rattle.coherence_laws.proofs.LibrariesHold.{known_in, told_under}
+use Rattle.carried_typing.proofs.Below.LibrariesHold.{known_in, told_under}
 use Rattle.mmt_interface.specs.Readings.{read_verdict, read_faces, environment_of}
 use Rattle.mmt_interface.specs.declared.verdict.Verdict.{Verdict}
 

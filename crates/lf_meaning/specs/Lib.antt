@@ -1,3 +1,4 @@
+pub mod Below
 pub mod Terms
 pub mod Raising
 pub mod Erasure

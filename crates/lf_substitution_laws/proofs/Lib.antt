@@ -1,3 +1,4 @@
+pub mod Below
 pub mod Indices
 pub mod Raising
 pub mod Replacing

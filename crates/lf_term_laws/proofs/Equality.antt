@@ -2,7 +2,7 @@
 use Rattle.std.proofs.Common.{◌≡◌, List, [], ◌∷◌, Bool, true, nat_eq, refl, ap, ap₂, subst, Decides, eqb-true, eq-eqb}
 use Rattle.std.proofs.lemmas.Bool.{and_parts, and_from}
 use lib.Pointwise.{pointwise}
-use Rattle.name_meaning.specs.Names.{same_name}
+use Rattle.lf_meaning.specs.Below.Names.{same_name}
 use Rattle.lf_meaning.specs.Terms.{Constant, Object, Lam, At, Atomic, Var, Con, App, Family, Pi, AtFamily, AtomicFamily, FamilyCon, FamilyApp, Kind, Ty, PiKind}
 use Rattle.lf_meaning.specs.Signatures.{same_constant, Class, FamilyClass, KindClass, Value, SameAs, TermValue, FamilyValue}
 use Rattle.lf_meaning.specs.Equality.{same_object, same_atomic, same_atomic_family, same_family, same_kind, same_class, same_value}

@@ -1,3 +1,4 @@
+pub mod Below
 pub mod Equality
 pub mod Lookups
 pub mod SpineSynthesis

@@ -8,7 +8,7 @@ use Rattle.std.specs.Cmp.Lexicographic.{lists_equiv, nat_list_eq_equiv}
 use Rattle.std.proofs.lemmas.Bool.{ltb-true, lt-ltb, eqb-true, eq-eqb}
 use Rattle.name_meaning.specs.Names.{Path, same_name}
 use Rattle.term_trees.specs.declared.flat_decl.FlatDecl.{FlatDecl}
-use Rattle.lf_term_laws.proofs.Equality.{pointwise_sound, pointwise_itself}
+use Rattle.term_trees.proofs.Below.Equality.{pointwise_sound, pointwise_itself}
 use Rattle.list_laws.proofs.Booleans.{both_ways}
 use Rattle.lf_terms.specs.Tables.{same_path, first_place, HasFirstPlaces}
 

@@ -4,7 +4,7 @@ use Rattle.std.proofs.Common.{ap}
 use Rattle.std.specs.Cmp.{IsEquivalence}
 use Rattle.lf_meaning.specs.Terms.{Constant}
 use Rattle.lf_meaning.specs.Signatures.{same_constant}
-use Rattle.lf_term_laws.proofs.Equality.{same_constant_sound, same_constant_itself}
+use Rattle.term_trees.proofs.Below.Equality.{same_constant_sound, same_constant_itself}
 use Rattle.term_trees.specs.Readings.{read_constant}
 use Rattle.base_types.specs.declared.qname.QName.{QName}
 use Rattle.list_laws.proofs.Booleans.{both_ways}

@@ -8,7 +8,7 @@ use Rattle.std.proofs.lemmas.List.Concat.{flat_map-append}
 use Rattle.std.proofs.lemmas.Map.Keys.{IsDistinct-push}
 use Rattle.name_meaning.specs.Names.{Name, same_name}
 use Rattle.lf_meaning.specs.Signatures.{same_constant}
-use Rattle.lf_term_laws.proofs.Equality.{pointwise_sound}
+use Rattle.term_trees.proofs.Below.Equality.{pointwise_sound}
 use Rattle.base_types.specs.declared.qname.QName.{QName}
 use Rattle.term_trees.specs.declared.flat_decl.Image.{Image}
 use Rattle.term_trees.specs.Readings.{read_constant}

@@ -1,3 +1,4 @@
+pub mod Below
 pub mod Identities
 pub mod Parts
 pub mod Tables

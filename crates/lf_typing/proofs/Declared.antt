@@ -3,7 +3,7 @@ use Rattle.std.proofs.Common.{◌≡◌, [], ◌∷◌, ◌++◌, Option, Some, 
 use Rattle.lf_meaning.specs.Terms.{Constant}
 use Rattle.lf_meaning.specs.Signatures.{Class, Declaration, Signature, same_constant, declaration_of, undefined_class, declared_class, class_of}
 use Rattle.lf_meaning.specs.Judgements.{IsClass, IsSignature}
-use Rattle.lf_term_laws.proofs.Declarations.{undefined_is, declaration_front}
+use Rattle.lf_substitution_laws.proofs.Below.Declarations.{undefined_is, declaration_front}
 
 keep_found : (b : Bool) (d e : Declaration) (x y : Option Declaration) → (x ≡ Some e → y ≡ Some e) → cond b (Some d) x ≡ Some e → cond b (Some d) y ≡ Some e
 keep_found true d e x y f h = h

@@ -9,7 +9,7 @@ use Rattle.lf_meaning.specs.Signatures.{Class, FamilyClass, KindClass, Value, Sa
 use Rattle.lf_meaning.specs.Judgements.{Checks, Synthesises, SynthesisesKind, IsFamily, IsKind, IsClass, Fits, ValueFits, IsDeclaration, IsSignature}
 use Rattle.lf_meaning.specs.Equality.{same_family, same_kind}
 use Rattle.lf_meaning.specs.Faults.{Mismatch, Fault, here, inside, first_fault, unless_fault, variable_answer, constant_answer, application_answer, stands_at, object_fault, synthesised, family_constant_answer, family_application_answer, synthesised_kind, stands_at_type, family_fault, kind_fault, class_fault, same_fault, value_fault, optional_value_fault, declaration_fault, BadDeclaration, bad_at, signature_fault_after, signature_fault}
-use Rattle.lf_term_laws.proofs.Equality.{same_family_sound, same_family_itself, same_kind_sound, same_kind_itself}
+use Rattle.lf_substitution_laws.proofs.Below.Equality.{same_family_sound, same_family_itself, same_kind_sound, same_kind_itself}
 
 -- what the answers tell, from none
 inside_none : (step : ℕ) (o : Option Fault) → inside step o ≡ None → o ≡ None

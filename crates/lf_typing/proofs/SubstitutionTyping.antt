@@ -9,9 +9,9 @@ use Rattle.lf_meaning.specs.Signatures.{FamilyClass, KindClass, Signature, class
 use Rattle.lf_meaning.specs.Judgements.{VariableHas, Checks, Synthesises, SynthesisesKind, IsFamily, IsKind, IsContext, IsTyping, IsSignature}
 use Rattle.lf_meaning.specs.Sorts.{HasSort, IsSortedFamily, IsSortedKind, sorts_of}
 use Rattle.lf_substitution_laws.proofs.Indices.{Position, below, at, above, position}
-use Rattle.lf_term_laws.proofs.Lookups.{get_at, get_above, get_front, get_more}
+use Rattle.lf_substitution_laws.proofs.Below.Lookups.{get_at, get_above, get_front, get_more}
 use Rattle.lf_substitution_laws.proofs.Domains.{AllDomains, by_domains}
-use Rattle.lf_term_laws.proofs.Substituted.{substituted_below, substituted_at, substituted_above}
+use Rattle.lf_substitution_laws.proofs.Below.Substituted.{substituted_below, substituted_at, substituted_above}
 use Rattle.lf_substitution_laws.proofs.Families.{erase_map, raise_below_substitution_family, substitute_raised_family}
 use Rattle.lf_substitution_laws.proofs.Commutation.{substitutions_commute_family, substitutions_commute_kind}
 use Rattle.lf_typing.proofs.Typed.{checks_sort, family_sorted}

@@ -7,7 +7,7 @@ use Rattle.lf_meaning.specs.Substitution.{substitute, substitute_family}
 use Rattle.lf_meaning.specs.Signatures.{Class, FamilyClass, KindClass, Signature, class_of}
 use Rattle.lf_meaning.specs.Judgements.{Checks, Synthesises, SynthesisesKind, IsFamily, IsKind}
 use Rattle.lf_meaning.specs.Sorts.{HasSort, SynthesisesSort, IsSortedAtomicFamily, IsSortedFamily, IsSortedKind, sort_of_class, sorts_of}
-use Rattle.lf_term_laws.proofs.Lookups.{get_more, get_map}
+use Rattle.lf_substitution_laws.proofs.Below.Lookups.{get_more, get_map}
 use Rattle.lf_substitution_laws.proofs.Families.{erase_map}
 
 -- the erasure of what an application synthesises is the erased body

@@ -9,7 +9,7 @@ use Rattle.lf_meaning.specs.Substitution.{substitute_family, substitute_kind}
 use Rattle.lf_meaning.specs.Signatures.{FamilyClass, KindClass, Signature}
 use Rattle.lf_meaning.specs.Judgements.{VariableHas, Checks, Synthesises, SynthesisesKind, IsFamily, IsKind, IsContext, IsTyping, IsSignature}
 use Rattle.lf_substitution_laws.proofs.Indices.{raised_below, raised_above}
-use Rattle.lf_term_laws.proofs.Lookups.{get_front, get_more}
+use Rattle.lf_substitution_laws.proofs.Below.Lookups.{get_front, get_more}
 use Rattle.lf_substitution_laws.proofs.Indices.{get_raised}
 use Rattle.lf_substitution_laws.proofs.Families.{erase_map, raise_family_swap, raise_family_twice, raise_above_substitution_family, raise_above_substitution_kind}
 use Rattle.lf_typing.proofs.Closed.{raise_class_family, raise_class_kind}

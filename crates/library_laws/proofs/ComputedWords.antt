@@ -2,7 +2,7 @@
 use Rattle.std.proofs.Common.{refl}
 use Rattle.name_meaning.specs.Names.{is_among}
 use Rattle.lf_meaning.specs.HeadMaps.{image_of}
-use Rattle.translation_meaning.specs.Translation.{translate_object, translate_head, translate_family, translate_kind, translate_value, compose}
+use Rattle.library_meaning.specs.Below.Translation.{translate_object, translate_head, translate_family, translate_kind, translate_value, compose}
 use Rattle.library_meaning.specs.Faces.{structure_of}
 use Rattle.library_meaning.specs.Words.{structures_link, row_from, row_meaning}
 use Rattle.library_laws.specs.WordExamples.{StructuresCompose, WordsCompose, OwnStructuresAreHere, EndsAreApart, ModuleIsUnknown, ModuleIsRefused, TheoryIsNoWord, ViewHasNoStructures, StructureIsUnknown}

@@ -1,7 +1,7 @@
 -- The inclusion closure of a theory (Rabe and Kohlhase 2013, section 3: inclusions are transitive; that each theory counts
 -- once is this profile).
 use Rattle.std.specs.Prelude.{Bool, List, [], ◌∷◌, ◌++◌, fold, if◌then◌else◌}
-use Rattle.name_meaning.specs.Names.{Name, is_among}
+use Rattle.translation_meaning.specs.Below.Names.{Name, is_among}
 use Rattle.library_meaning.specs.Faces.{Environment, theory_of, includes_of}
 
 -- The theory is one of these.

@@ -1,10 +1,10 @@
 -- What holds of all that is known of modules when it was made by the rules (this profile). The laws of links and of faces ask
 -- for it; those of resolution and expansion ask for nothing.
 use Rattle.std.specs.Prelude.{◌≡◌, ◌≢◌, ℕ, ◌<◌, true, List, [], ◌∷◌, map, take, length, slice_get, Some, IsSome}
-use Rattle.name_meaning.specs.Names.{Name, Path}
-use Rattle.lf_meaning.specs.Terms.{Constant}
-use Rattle.lf_meaning.specs.Signatures.{Declaration, Signature, declaration_of}
-use Rattle.lf_meaning.specs.HeadMaps.{Mapping, HeadMap}
+use Rattle.translation_meaning.specs.Below.Names.{Name, Path}
+use Rattle.translation_meaning.specs.Below.Terms.{Constant}
+use Rattle.translation_meaning.specs.Below.Signatures.{Declaration, Signature, declaration_of}
+use Rattle.translation_meaning.specs.Below.HeadMaps.{Mapping, HeadMap}
 use Rattle.library_meaning.specs.Faces.{StructureFace, TheoryFace, ViewFace, IsTheory, IsView, Environment, theory_of, includes_of, own_part, flat_signature, flat_of}
 use Rattle.library_meaning.specs.Closure.{sees}
 use Rattle.library_meaning.specs.Holding.{ClassHolds, OptionalValueHolds, ValueHolds, AlikeClasses}

@@ -1,7 +1,7 @@
 -- Environments that rows of names give: something is known of the names that they have, and all others are absent (this
 -- profile).
 use Rattle.std.specs.Prelude.{Option, Some, None, option_map}
-use Rattle.name_meaning.specs.Rows.{Rows, row_of}
+use Rattle.translation_meaning.specs.Below.Rows.{Rows, row_of}
 use Rattle.library_meaning.specs.Faces.{Known, IsAbsent, Environment}
 
 -- What is known of a module; of none, that it is absent.

@@ -1,9 +1,9 @@
 -- What a module shows to others, and what is known of each module (Rabe and Kohlhase 2013, section 3: theories, structures
 -- and views as they are after flattening).
 use Rattle.std.specs.Prelude.{List, [], ◌∷◌, ◌++◌, Option, Some, None, flat_map, if◌then◌else◌}
-use Rattle.name_meaning.specs.Names.{Name, same_name}
-use Rattle.lf_meaning.specs.Signatures.{Signature}
-use Rattle.lf_meaning.specs.HeadMaps.{HeadMap}
+use Rattle.translation_meaning.specs.Below.Names.{Name, same_name}
+use Rattle.translation_meaning.specs.Below.Signatures.{Signature}
+use Rattle.translation_meaning.specs.Below.HeadMaps.{HeadMap}
 
 -- A structure's name, the theory that it is from, and its map, from that theory's flat signature to the declaring
 -- theory's.

@@ -1,9 +1,9 @@
 -- Which constants and variables a term holds, and whether each stands at its level (this profile). Nothing is asked of types:
 -- it is what the operations on terms need so that no step of them is a misfit of levels.
 use Rattle.std.specs.Prelude.{◌≡◌, ℕ, suc, ◌<◌, Some, None, Option, ⊤}
-use Rattle.lf_meaning.specs.Terms.{Constant, Object, Lam, At, Atomic, Var, Con, App, Family, Pi, AtFamily, AtomicFamily, FamilyCon, FamilyApp, Kind, Ty, PiKind, family_argument_count, domain_count}
-use Rattle.lf_meaning.specs.Erasure.{head_constant}
-use Rattle.lf_meaning.specs.Signatures.{Class, FamilyClass, KindClass, Value, SameAs, TermValue, FamilyValue, Signature, class_of}
+use Rattle.translation_meaning.specs.Below.Terms.{Constant, Object, Lam, At, Atomic, Var, Con, App, Family, Pi, AtFamily, AtomicFamily, FamilyCon, FamilyApp, Kind, Ty, PiKind, family_argument_count, domain_count}
+use Rattle.translation_meaning.specs.Below.Erasure.{head_constant}
+use Rattle.translation_meaning.specs.Below.Signatures.{Class, FamilyClass, KindClass, Value, SameAs, TermValue, FamilyValue, Signature, class_of}
 use Rattle.translation_meaning.specs.ProperValues.{IsNoConstant, IsValueBody}
 
 -- The constant is one of objects.

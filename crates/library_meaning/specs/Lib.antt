@@ -1,3 +1,4 @@
+pub mod Below
 pub mod Faces
 pub mod Environments
 pub mod Closure

@@ -1,8 +1,8 @@
 -- What a written path stands for (this profile).
 use Rattle.std.specs.Prelude.{ℕ, zero, suc, Bool, false, List, [], ◌∷◌, Option, Some, None, find, filter_map, if◌then◌else◌}
 use lib.Pointwise.{pointwise}
-use Rattle.name_meaning.specs.Names.{Name, Path, same_name}
-use Rattle.lf_meaning.specs.Signatures.{Declaration, Signature}
+use Rattle.translation_meaning.specs.Below.Names.{Name, Path, same_name}
+use Rattle.translation_meaning.specs.Below.Signatures.{Declaration, Signature}
 use Rattle.library_meaning.specs.Faces.{Environment, own_part}
 use Rattle.library_meaning.specs.Closure.{sees}
 

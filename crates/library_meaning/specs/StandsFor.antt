@@ -1,7 +1,7 @@
 -- What a written path stands for, as a relation: the four cases, each where none before it applies (this profile).
 use Rattle.std.specs.Prelude.{◌≡◌, ◌≢◌, ℕ, ◌<◌, true, [], ◌∷◌, Some, slice_get}
-use Rattle.name_meaning.specs.Names.{Name, Path}
-use Rattle.lf_meaning.specs.Signatures.{Declaration}
+use Rattle.translation_meaning.specs.Below.Names.{Name, Path}
+use Rattle.translation_meaning.specs.Below.Signatures.{Declaration}
 use Rattle.library_meaning.specs.Faces.{own_part}
 use Rattle.library_meaning.specs.Closure.{sees}
 use Rattle.library_meaning.specs.Resolution.{Scope, Variables, own_at, Resolved, Variable, Declared, Unknown, Ambiguous, resolve}

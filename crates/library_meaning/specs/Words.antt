@@ -1,9 +1,9 @@
 -- Morphism words and rows of them (Rabe and Kohlhase 2013, section 3: composition of morphisms and structures; which written
 -- words there are is this profile).
 use Rattle.std.specs.Prelude.{ℕ, zero, suc, Bool, true, false, List, [], ◌∷◌, ◌||◌, map, Option, Some, None, if◌then◌else◌}
-use Rattle.name_meaning.specs.Names.{Name, Path, same_name}
-use Rattle.lf_meaning.specs.Signatures.{Value, SameAs, Declaration, Signature}
-use Rattle.lf_meaning.specs.HeadMaps.{Mapping, HeadMap}
+use Rattle.translation_meaning.specs.Below.Names.{Name, Path, same_name}
+use Rattle.translation_meaning.specs.Below.Signatures.{Value, SameAs, Declaration, Signature}
+use Rattle.translation_meaning.specs.Below.HeadMaps.{Mapping, HeadMap}
 use Rattle.translation_meaning.specs.Translation.{compose}
 use Rattle.library_meaning.specs.Faces.{StructureFace, TheoryFace, ViewFace, Known, IsAbsent, IsRefused, IsTheory, IsView, Environment, theory_of, structure_of, includes_of}
 use Rattle.library_meaning.specs.Closure.{sees}

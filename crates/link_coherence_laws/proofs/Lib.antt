@@ -1,3 +1,4 @@
+pub mod Below
 pub mod Onces
 pub mod WordsHold
 pub mod ImagesHold

@@ -1,3 +1,4 @@
+pub mod Below
 pub mod LinkTargets
 pub mod TheoryScopes
 pub mod BetweenTheories

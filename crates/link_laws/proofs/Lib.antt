@@ -1,3 +1,4 @@
+pub mod Below
 pub mod Agreeing
 pub mod Covered
 pub mod Following

@@ -6,7 +6,7 @@ use Rattle.name_meaning.specs.Names.{Name}
 use Rattle.lf_meaning.specs.Terms.{Constant}
 use Rattle.lf_meaning.specs.Signatures.{Value, Declaration}
 use Rattle.lf_meaning.specs.HeadMaps.{HeadMap}
-use Rattle.translation_meaning.specs.Differ.{value_in, differ}
+use Rattle.expansion_meaning.specs.Below.Differ.{value_in, differ}
 use Rattle.library_meaning.specs.Faces.{Environment, theory_of, includes_of, own_part}
 use Rattle.library_meaning.specs.Closure.{sees}
 use Rattle.library_meaning.specs.Words.{identity_map}

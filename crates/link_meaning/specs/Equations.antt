@@ -4,8 +4,8 @@ use Rattle.std.specs.Prelude.{◌≡◌, ℕ, true, false, List, slice_get, Opti
 use Rattle.name_meaning.specs.Names.{Name, Path}
 use Rattle.lf_meaning.specs.Signatures.{Class, Value, SameAs, Declaration}
 use Rattle.lf_meaning.specs.HeadMaps.{Mapping, HeadMap}
-use Rattle.translation_meaning.specs.Translation.{translate_class, translate_value}
-use Rattle.translation_meaning.specs.Differ.{value_in}
+use Rattle.expansion_meaning.specs.Below.Translation.{translate_class, translate_value}
+use Rattle.expansion_meaning.specs.Below.Differ.{value_in}
 use Rattle.library_meaning.specs.Faces.{theory_of, includes_of, own_parts, flat_of}
 use Rattle.library_meaning.specs.Closure.{sees}
 use Rattle.library_meaning.specs.Coherence.{declared_names, mapped_names}

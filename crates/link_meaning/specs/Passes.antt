@@ -7,8 +7,8 @@ use Rattle.lf_meaning.specs.Terms.{Constant}
 use Rattle.lf_meaning.specs.Signatures.{Class, Value, SameAs, Declaration, Signature}
 use Rattle.lf_meaning.specs.Equality.{same_value}
 use Rattle.lf_meaning.specs.HeadMaps.{Mapping, HeadMap}
-use Rattle.translation_meaning.specs.Translation.{translate_class, translate_value}
-use Rattle.translation_meaning.specs.Differ.{value_in, agree}
+use Rattle.expansion_meaning.specs.Below.Translation.{translate_class, translate_value}
+use Rattle.expansion_meaning.specs.Below.Differ.{value_in, agree}
 use Rattle.library_meaning.specs.Faces.{theory_of, includes_of, own_parts, flat_of}
 use Rattle.library_meaning.specs.Words.{Link}
 use Rattle.text_meaning.specs.Tokens.{Span}

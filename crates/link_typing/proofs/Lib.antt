@@ -1,3 +1,4 @@
+pub mod Below
 pub mod LinkInterface
 pub mod BetweenTyped
 pub mod Assigning

@@ -1,5 +1,5 @@
 -- Answers taken apart, and put together.
-use Rattle.std.proofs.Common.{◌≡◌, Result, Ok, Err, refl, sym, ap, ◌∙◌, true≢false}
+use Rattle.std.proofs.Common.{◌≡◌, ℕ, Result, Ok, Err, IfErr, refl, sym, ap, ◌∙◌, true≢false}
 use Rattle.std.specs.Result.{IsOk, OnOk, OnErr}
 use Rattle.answer_meaning.specs.Answers.{◌>>=◌}
 
@@ -38,3 +38,8 @@ on_err (Err fault) p = p
 pub at_ok : {E A : Type 0} (answer : Result A E) (P : Type 0) → IsOk answer → OnOk answer P → P
 at_ok (Ok item) P h p = p
 at_ok (Err fault) P h p = absurd (true≢false (sym h))
+
+-- the place that is told where none was found
+pub where_missing : (r : Result ℕ ℕ) (P : ℕ → Type 0) → ((x : ℕ) → r ≡ Ok x → ⊥) → IfErr r P → (x : ℕ) × P x
+where_missing (Ok x) P n h = absurd (n x (λ i. Ok x))
+where_missing (Err x) P n h = (x, h)

@@ -4,3 +4,4 @@ pub mod Lists
 pub mod Options
 pub mod Booleans
 pub mod Answers
+pub mod Writes

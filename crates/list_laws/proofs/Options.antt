@@ -1,6 +1,7 @@
 -- Options that hold something or nothing.
-use Rattle.std.proofs.Common.{◌≡◌, Bool, true, false, cond, Option, Some, None, is_some, refl, sym, true≢false}
+use Rattle.std.proofs.Common.{◌≡◌, Bool, true, false, cond, Option, Some, None, Bor, is_some, refl, sym, true≢false}
 use Rattle.std.specs.Prelude.{option_map}
+use Rattle.std.specs.Option.{option_copied}
 
 pub none_of : {A : Type 0} (o : Option A) → is_some o ≡ false → o ≡ None
 none_of None h = refl
@@ -24,3 +25,7 @@ mapped_none f (Some x) h = absurd (cc)
 pub some_mapped : {A B : Type 0} (f : A → B) (o : Option A) → is_some (option_map f o) ≡ is_some o
 some_mapped f None = refl
 some_mapped f (Some x) = refl
+
+pub copied_some : {X : Type 0} (found : Option (Bor X)) → is_some (option_copied found) ≡ is_some found
+copied_some None = refl
+copied_some (Some b) = refl

@@ -8,7 +8,7 @@ use Rattle.name_laws.proofs.RowLookups.{row_mapped}
 use Rattle.library_meaning.specs.Faces.{Known, IsAbsent, theory_of, view_of, theory_face, view_face}
 use Rattle.library_meaning.specs.Environments.{known_or_absent, environment_from}
 use Rattle.library_laws.proofs.KnownRows.{known_pushed, known_mapped}
-use Rattle.verdict_meaning.specs.Verdicts.{known_by}
+use Rattle.judged_meaning.specs.Below.Verdicts.{known_by}
 use Rattle.mmt_interface.specs.Readings.{read_theory, read_view, read_verdict, read_faces, environment_of, theory_in, view_in, theory_under, view_under}
 use Rattle.mmt_interface.specs.declared.verdict.Interface.TheVariants.{Theory, View}
 use Rattle.mmt_interface.specs.declared.verdict.Verdict.{Verdict}

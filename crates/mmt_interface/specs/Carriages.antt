@@ -1,6 +1,6 @@
 -- What carrying a judgement came to, read off the answer of a call.
 use Rattle.std.specs.Prelude.{◌≡◌, Result, Ok, Err, ⊤}
-use Rattle.term_trees.specs.Readings.{read_object, read_family}
+use Rattle.lf_terms.specs.Below.Readings.{read_object, read_family}
 use Rattle.judged_meaning.specs.Carrying.{Carriage, CarriedTo, NoSuchView, IllBy}
 use Rattle.mmt_syntax.specs.Readings.{read_span}
 use Rattle.mmt_interface.specs.ReadRules.{read_rule}

@@ -5,7 +5,7 @@ use Rattle.name_meaning.specs.Rows.{Rows, row_of}
 use Rattle.library_meaning.specs.Faces.{flat_signature}
 use Rattle.library_meaning.specs.Faces as faces
 use Rattle.library_meaning.specs.Coherence.{IsCoherentTheory, IsCoherent}
-use Rattle.verdict_meaning.specs.Verdicts as verdicts
+use Rattle.judged_meaning.specs.Below.Verdicts as verdicts
 use Rattle.mmt_interface.specs.Readings.{read_theory, read_faces, environment_of}
 use Rattle.mmt_interface.specs.declared.face.TheoryFace.{TheoryFace}
 use Rattle.mmt_interface.specs.declared.verdict.Verdict.{Verdict}

@@ -1,5 +1,5 @@
 -- The rule that a value of this crate stands for.
-use Rattle.expansion_meaning.specs.Rules as rules
+use Rattle.judged_meaning.specs.Below.Rules as rules
 use Rattle.mmt_interface.specs.declared.rule.Rule.{Rule}
 use Rattle.mmt_interface.specs.declared.rule.Rule.TheVariants as rule
 

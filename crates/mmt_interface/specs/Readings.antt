@@ -5,11 +5,11 @@ use Rattle.std.specs.Option.{option_and_then}
 use Rattle.std.specs.List.{IsDistinct}
 use Rattle.name_meaning.specs.Names.{Name, same_name}
 use Rattle.name_meaning.specs.Rows.{Rows, row_names, row_of}
-use Rattle.term_trees.specs.Readings.{read_signature, read_map}
+use Rattle.lf_terms.specs.Below.Readings.{read_signature, read_map}
 use Rattle.library_meaning.specs.Faces as faces
 use Rattle.library_meaning.specs.Environments.{environment_from}
-use Rattle.link_meaning.specs.Refusals as refusals
-use Rattle.verdict_meaning.specs.Verdicts as verdicts
+use Rattle.judged_meaning.specs.Below.Refusals as refusals
+use Rattle.judged_meaning.specs.Below.Verdicts as verdicts
 use Rattle.mmt_syntax.specs.Readings.{read_span}
 use Rattle.mmt_interface.specs.ReadRules.{read_rule}
 use Rattle.mmt_interface.specs.declared.face.StructFace.{StructFace}

@@ -1,6 +1,6 @@
 //! The rules that a text can break (this profile).
 ghost use Rattle.std.specs.Prelude.{◌≡◌};
-ghost use Rattle.expansion_meaning.specs.Rules.{number_of, word_of};
+ghost use Rattle.judged_meaning.specs.Below.Rules.{number_of, word_of};
 ghost use Rattle.mmt_interface.specs.ReadRules.{read_rule};
 
 /// A rule that a text can break. Its number is its place in this list, counted from 1; numbers name the rules and say

@@ -1,6 +1,6 @@
 -- Verdicts that are gathered from a library's texts.
-use Rattle.std.proofs.Common.{◌≡◌, ℕ, true, false, cond, List, [], ◌∷◌, ◌++◌, Option, Some, None, is_some, suc, take, Bor, inl, inr, refl, sym, ap, ◌∙◌, subst, true≢false, slice_get, ⊎_elim}
-use Rattle.std.specs.Prelude.{option_map, option_copied}
+use Rattle.std.proofs.Common.{◌≡◌, ℕ, true, false, cond, List, [], ◌∷◌, ◌++◌, Option, Some, None, is_some, suc, take, inl, inr, refl, sym, ap, ◌∙◌, subst, true≢false, slice_get, ⊎_elim}
+use Rattle.std.specs.Prelude.{option_map}
 use Rattle.std.proofs.lemmas.List.{map-append}
 use Rattle.name_meaning.specs.Names.{Name, Text}
 use Rattle.name_meaning.specs.Rows.{Rows, row_names, row_of}
@@ -37,10 +37,6 @@ next_there faces names place n here there before name m =
     only : Member name (n ∷ []) → name ≡ n
     only (inl e) = e
     only (inr e) = absurd e
-
-pub some_there : (o : Option (Bor Verdict)) → is_some o ≡ true → is_some (option_copied o) ≡ true
-some_there None h = h
-some_there (Some v) h = refl
 
 module _ (library : Library) where
   pub no_verdicts : AreVerdicts library []

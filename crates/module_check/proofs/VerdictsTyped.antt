@@ -5,9 +5,9 @@ use Rattle.log_meaning.specs.Log.{Library}
 use Rattle.verdict_meaning.specs.Verdicts.{Verdict, Accepted, Refused, Theory, View}
 use Rattle.verdict_meaning.specs.Rounds.{known_if, told_by, verdict_of}
 use Rattle.coherence_laws.proofs.LibrariesHold.{library_coherent}
-use Rattle.link_typing.proofs.LinksTyped.{links_are_typed}
-use Rattle.face_typing.proofs.LibrariesTyped.{faces_are_typed}
-use Rattle.face_typing.proofs.MapsCarry.{typed_theories_flatten, typed_views_carry}
+use Rattle.judgement_carrying.proofs.Below.LinksTyped.{links_are_typed}
+use Rattle.judgement_carrying.proofs.Below.LibrariesTyped.{faces_are_typed}
+use Rattle.judgement_carrying.proofs.Below.MapsCarry.{typed_theories_flatten, typed_views_carry}
 use Rattle.module_check.specs.TypedVerdicts.{IsTypedVerdict}
 
 pub verdict_is_typed : (library : Library) (name : Name) (verdict : Verdict) → verdict_of library name ≡ Some verdict → IsTypedVerdict library verdict

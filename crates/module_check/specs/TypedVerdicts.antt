@@ -3,7 +3,7 @@ use Rattle.std.specs.Prelude.{⊤}
 use Rattle.log_meaning.specs.Log.{Library}
 use Rattle.verdict_meaning.specs.Verdicts.{Verdict, Accepted, Refused, Theory, View}
 use Rattle.verdict_meaning.specs.Rounds.{told_by}
-use Rattle.face_typing.specs.CarryingMaps.{FlattensTyped, ViewCarriesTyping}
+use Rattle.judgement_carrying.specs.Below.CarryingMaps.{FlattensTyped, ViewCarriesTyping}
 
 -- An accepted theory flattens to a well-typed signature, and each of its structures carries typing to it; an accepted view carries
 -- typing from its domain to its codomain. Of a refused module nothing is said.

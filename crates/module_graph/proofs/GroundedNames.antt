@@ -1,6 +1,5 @@
 -- Grounded names of a graph, as a list and one by one.
-use Rattle.std.proofs.Common.{◌≡◌, ℕ, Bool, true, false, not, Result, Ok, Err, IfOk, IfErr, is_err, Bor, length, map, slice_get, Option, Some, None, is_some, ◌⊎◌, inl, inr, refl, sym, ap, ◌∙◌, subst, true≢false}
-use Rattle.std.specs.Option.{option_copied}
+use Rattle.std.proofs.Common.{◌≡◌, ℕ, Bool, true, false, not, Result, Ok, Err, IfOk, IfErr, is_err, length, map, slice_get, Some, is_some, ◌⊎◌, inl, inr, refl, sym, ap, ◌∙◌, subst, true≢false}
 use Rattle.std.specs.List.Sorted.{IsSearchInRange, IsBinarySearchResult}
 use Rattle.std.specs.Ordering.{nat_cmp}
 use Rattle.std.specs.Cmp.Lexicographic.{slice_cmp}
@@ -61,7 +60,3 @@ ungrounded_searched graph n r t p range found =
     by : (r : Result ℕ ℕ) → record { found : IfOk r (λ i. slice_get (map (λ (m : Name). m) (graph_grounded graph)) i ≡ Some n); absent : IfErr r (IsGap (map (λ (m : Name). m) (graph_grounded graph)) n) } → is_err r ≡ is_graph_ungrounded graph n
     by (Ok i) s = sym (ungrounded_found graph n i (ap (λ names. slice_get names i) (sym (each_itself (graph_grounded graph))) ∙ s.found))
     by (Err i) s = sym (ungrounded_not_found graph n i p (subst (λ names. IsGap names n i) (each_itself (graph_grounded graph)) s.absent))
-
-pub copied_some : {X : Type 0} (found : Option (Bor X)) → is_some (option_copied found) ≡ is_some found
-copied_some None = refl
-copied_some (Some b) = refl

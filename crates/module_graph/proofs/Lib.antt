@@ -1,5 +1,4 @@
 mod GroundedNames
 mod Firsts
 mod Reached
-mod Writes
 mod Peeled

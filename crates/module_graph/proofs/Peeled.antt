@@ -1,42 +1,23 @@
 -- The steps in which names are taken off a graph.
 use Rattle.std.proofs.Common.{◌≡◌, ℕ, zero, suc, ◌+◌, ◌-◌, ◌<◌, ◌≤◌, Bool, true, false, List, [], ◌∷◌, ◌++◌, length, set, replicate, slice_get, unwrap_or, Some, is_some, ◌⊎◌, inl, inr, ⊎_elim, refl, sym, ap, ◌∙◌, subst, true≢false, arith}
-use Rattle.std.specs.List.{list_all}
-use Rattle.std.proofs.lemmas.Bool.{and_parts}
+use Rattle.std.proofs.lemmas.Bool.{cases_lt}
 use Rattle.std.proofs.lemmas.List.{length-replicate}
-use Rattle.name_meaning.specs.Names.{Name, comes_before, is_ascending}
+use Rattle.name_meaning.specs.Names.{Name}
 use Rattle.name_meaning.specs.Rows.{row_names, IsTable, row_of, IsGap}
 use Rattle.log_meaning.specs.Log.{is_present}
 use Rattle.walk_meaning.specs.Walks.{direct, is_grounded}
 use Rattle.walk_meaning.specs.Graphs.{Graph, row_dependencies, row_library}
 use Rattle.list_laws.proofs.Members.{Member, place_member, in_append, append_left, append_right}
 use Rattle.list_laws.proofs.Places.{place_within}
-use Rattle.name_laws.proofs.Order.{not_before_itself}
 use Rattle.name_laws.proofs.Rows.{gap_absent, row_at, place_of_member}
+use Rattle.name_laws.proofs.Sorted.{one_place}
 use Rattle.walk_laws.proofs.Graphs.{row_direct, row_present, row_library_names, peeled_grounded, left_ungrounded}
 use Rattle.walk_laws.proofs.Walking.{present_in}
 use Rattle.module_graph.specs.Peeling.{IsPassed, IsWaiting, IsPeeling, TellsGrounded, IsOpenAt, AllPassed}
 use Rattle.module_graph.specs.PeelingState.{places}
-use Rattle.module_graph.proofs.Writes.{set_long, set_here, set_found, set_left, set_stays, item_at}
+use Rattle.list_laws.proofs.Writes.{set_long, set_here, set_found, set_left, set_stays, item_at}
 
 -- ---- places of names
-
--- a name stands at one place alone
-all_behind : (x : Name) (names : List Name) (i : ℕ) (n : Name) → list_all (comes_before x) names ≡ true → slice_get names i ≡ Some n → comes_before x n ≡ true
-all_behind x [] i n h e = absurd (cc)
-all_behind x (y ∷ names) zero n h e = let f : y ≡ n = cc in subst (λ z. comes_before x z ≡ true) f (and_parts (comes_before x y) (list_all (comes_before x) names) h).0
-all_behind x (y ∷ names) (suc i) n h e = all_behind x names i n (and_parts (comes_before x y) (list_all (comes_before x) names) h).1 e
-
-pub one_place : (names : List Name) (i k : ℕ) (n : Name) → is_ascending names ≡ true → slice_get names i ≡ Some n → slice_get names k ≡ Some n → i ≡ k
-unfolding is_ascending
-one_place [] i k n t h g = absurd (cc)
-one_place (x ∷ names) zero zero n t h g = refl
-one_place (x ∷ names) zero (suc k) n t h g =
-    let e : x ≡ n = cc in
-    absurd (not_before_itself n (subst (λ z. comes_before z n ≡ true) e (all_behind x names k n (and_parts (list_all (comes_before x) names) (is_ascending names) t).0 g)))
-one_place (x ∷ names) (suc i) zero n t h g =
-    let e : x ≡ n = cc in
-    absurd (not_before_itself n (subst (λ z. comes_before z n ≡ true) e (all_behind x names i n (and_parts (list_all (comes_before x) names) (is_ascending names) t).0 h)))
-one_place (x ∷ names) (suc i) (suc k) n t h g = ap suc (one_place names i k n (and_parts (list_all (comes_before x) names) (is_ascending names) t).1 h g)
 
 row_named : (graph : Graph) (i : ℕ) (row : Name × List Name) → slice_get graph i ≡ Some row → slice_get (row_names graph) i ≡ Some row.0
 row_named [] i row h = absurd (cc)
@@ -63,11 +44,6 @@ passed_absent graph taken name place gap other h = absurd (gap_absent name (row_
 
 passed_later : (graph : Graph) (taken : List Bool) (i : ℕ) (name : Name) → IsPassed graph taken name → IsPassed graph (set taken i true) name
 passed_later graph taken i name h place g = set_stays taken i true place (h place g)
-
-cases_lt : (i k : ℕ) → (i < k) ⊎ (k ≤ i)
-cases_lt i zero = inr (omega arith)
-cases_lt zero (suc k) = inl (omega arith)
-cases_lt (suc i) (suc k) = ⊎_elim (λ q. inl (omega (arith, q))) (λ q. inr (omega (arith, q))) (cases_lt i k)
 
 pub open_as : (graph : Graph) (taken known : List Bool) (dependencies row : List Name) (from seen at other : ℕ) → taken ≡ known → dependencies ≡ row → from ≡ seen
     → IsOpenAt graph taken dependencies from at other → IsOpenAt graph known row seen at other

@@ -13,8 +13,8 @@ use Rattle.library_meaning.specs.Faces.{Environment, flat_signature}
 use Rattle.library_meaning.specs.Coherence.{IsCoherentTheory}
 use Rattle.verdict_meaning.specs.Modules.{declare, declare_all, empty_theory}
 use Rattle.verdict_meaning.specs.Verdicts as verdicts
-use Rattle.coherence_laws.specs.BuildingLaws.{IsBuiltOver}
-use Rattle.coherence_laws.proofs.BuildingHolds.{empty_is_built, declarations_keep_built}
+use Rattle.struct_flatten.specs.Below.BuildingLaws.{IsBuiltOver}
+use Rattle.struct_flatten.proofs.Below.BuildingHolds.{empty_is_built, declarations_keep_built}
 use Rattle.term_trees.specs.Readings.{read_signature}
 use Rattle.mmt_syntax.specs.Readings.{read_decl, read_decls}
 use Rattle.mmt_syntax.specs.declared.decl.Decl.{Decl}

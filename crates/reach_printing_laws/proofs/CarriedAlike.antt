@@ -15,7 +15,7 @@ use Rattle.expansion_meaning.specs.Answers.{Answer}
 use Rattle.expansion_meaning.specs.Expansion.{expand_family}
 use Rattle.verdict_meaning.specs.Modules.{scope_in}
 use Rattle.verdict_meaning.specs.Rounds.{known_of, verdicts, told_by}
-use Rattle.acceptance_laws.proofs.Alike.{AllNamed, stands_for_alike}
+use Rattle.carried_typing.proofs.Below.Alike.{AllNamed, stands_for_alike}
 use Rattle.judged_meaning.specs.Carrying.{carried_object, carried_family, carried_over, carried_text, carried_along, carry}
 use Rattle.carried_typing.specs.CarriedTyping.{HaveReachOf}
 use Rattle.carried_typing.proofs.ReachFaces.{reached, of_reach, reach_coherent, itself_reached, there_reached, reach_alike, told_same, known_same}

@@ -1,3 +1,4 @@
+pub mod Below
 pub mod CarriedAlike
 pub mod ExpandedAlike
 pub mod PrintedInReach

@@ -12,7 +12,7 @@ use Rattle.printing_meaning.specs.Constants.{Seen}
 use Rattle.printing_meaning.specs.Prefixes.{prefix_of}
 use Rattle.printing_meaning.specs.VerdictLines.{theory_line, view_line}
 use Rattle.printing_meaning.specs.PrintedTables.{declaration_line, mapping_line, seen_from, seen_from_face, theory_text, view_text}
-use Rattle.acceptance_laws.proofs.Alike.{flat_alike}
+use Rattle.carried_typing.proofs.Below.Alike.{flat_alike}
 use Rattle.carried_typing.specs.CarriedTyping.{HaveReachOf}
 use Rattle.carried_typing.proofs.ReachFaces.{reached, of_reach, reach_coherent, itself_reached, there_reached, reach_alike, told_same, known_same}
 use Rattle.reach_printing_laws.specs.PrintedFaces.{FacesPrintTheories, FacesPrintViews}

@@ -1,3 +1,4 @@
+pub mod Below
 pub mod Grown
 pub mod ProperImages
 pub mod WordsTyped

@@ -18,8 +18,8 @@ use Rattle.translation_meaning.specs.TypedMaps.{KeepsValue, IsTypedAt, IsTypedMa
 use Rattle.library_meaning.specs.Faces.{StructureFace, TheoryFace, IsTheory, Environment, theory_face, theory_of, includes_of, own_of, own_part, own_parts, flat_signature, flat_of}
 use Rattle.library_meaning.specs.Coherence.{IsCoherent}
 use Rattle.link_meaning.specs.Induced.{defined_by, induced_with}
-use Rattle.holding_laws.specs.HoldingLaws.{Grows}
-use Rattle.holding_laws.proofs.Declared.{front_grows}
+use Rattle.link_coherence_laws.specs.Below.HoldingLaws.{Grows}
+use Rattle.link_coherence_laws.proofs.Below.Declared.{front_grows}
 use Rattle.link_coherence_laws.proofs.Onces.{Once, once_left, member_declared}
 use Rattle.link_coherence_laws.proofs.WordsHold.{flat_once}
 use Rattle.row_typing.specs.TypedFaces.{IsPlaced, IsTypedTheory, IsTypedEnvironment}

@@ -1,3 +1,4 @@
+pub mod Below
 pub mod Judging
 pub mod Parts
 pub mod ScriptCommands

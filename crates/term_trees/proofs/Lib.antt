@@ -1,3 +1,4 @@
+pub mod Below
 pub mod ReadingEquations
 pub mod Raised
 pub mod SpineSameness

@@ -17,7 +17,7 @@ use Rattle.term_trees.specs.declared.obj.Spine.{Spine}
 use Rattle.term_trees.specs.declared.fam.Fam.{Fam}
 use Rattle.term_trees.specs.declared.fam.Fam.TheVariants as fams
 use Rattle.term_trees.proofs.ReadingEquations.{read_object_at, read_family_at}
-use Rattle.list_laws.proofs.Booleans.{both_ways}
+use Rattle.lf_term_laws.proofs.Below.Booleans.{both_ways}
 
 and_right : (x : Bool) → x ≡ x && true
 and_right true = refl

@@ -1,3 +1,4 @@
+pub mod Below
 pub mod Heads
 pub mod Translation
 pub mod Unmapped

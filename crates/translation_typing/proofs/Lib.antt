@@ -1,3 +1,4 @@
+pub mod Below
 pub mod TypedHeads
 pub mod Carrying
 pub mod Agreeing

@@ -4,7 +4,6 @@ pub mod Kept
 pub mod Rooms
 pub mod Calls
 pub mod Jobs
-pub mod Writing
 pub mod Parking
 pub mod Transitions
 pub mod Reports

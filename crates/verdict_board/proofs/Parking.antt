@@ -12,7 +12,8 @@ use Rattle.list_laws.proofs.Places.{place_within, take_more}
 use Rattle.std.proofs.Math.ListN.{length-set}
 use Rattle.verdict_board.specs.declared.stage.Stage.{Stage}
 use Rattle.verdict_board.specs.Stages.{is_waiting, standing_in}
-use Rattle.verdict_board.proofs.Writing.{AreEmpty, one_place, set_here, set_found, set_left, set_value}
+use Rattle.list_laws.proofs.Writes.{AreEmpty, set_here, set_found, set_left, set_value}
+use Rattle.name_laws.proofs.Sorted.{one_place}
 use Rattle.verdict_board.specs.Readiness.{awaits_claim, lacks_verdict, IsBlocked, IsLacking, IsParked, IsReadyAt, IsUnreadyAt, NoneLacks, AreCandidates, AreAll, AreMarked}
 
 -- ---- lists

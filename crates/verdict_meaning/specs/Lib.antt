@@ -1,3 +1,4 @@
+pub mod Below
 pub mod Inclusions
 pub mod Modules
 pub mod Verdicts

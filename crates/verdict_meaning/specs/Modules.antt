@@ -8,9 +8,9 @@ use Rattle.library_meaning.specs.Closure.{with_inclusion}
 use Rattle.library_meaning.specs.Resolution.{Scope, own_at}
 use Rattle.text_meaning.specs.Tokens.{Span}
 use Rattle.text_meaning.specs.Trees.{Expr, Written, Assign, Decl, IncludeDecl, StructDecl, ConstDecl, first_name}
-use Rattle.expansion_meaning.specs.Rules.{Rule}
+use Rattle.link_meaning.specs.Below.Rules.{Rule}
 use Rattle.answer_meaning.specs.Answers.{◌>>=◌}
-use Rattle.expansion_meaning.specs.Values.{expand_class, expand_value}
+use Rattle.link_meaning.specs.Below.Values.{expand_class, expand_value}
 use Rattle.link_meaning.specs.Refusals.{Outcome, refused, labelled, demand}
 use Rattle.link_meaning.specs.Assignments.{Setting}
 use Rattle.link_meaning.specs.Passes.{link_map}

@@ -5,7 +5,7 @@ use Rattle.library_meaning.specs.Faces.{TheoryFace, ViewFace, Known, IsRefused, 
 use Rattle.text_meaning.specs.Trees.{Written, Module, SigModule, ViewModule, first_name}
 use Rattle.text_meaning.specs.Reading.{ModuleText, ModuleTree, JudgementTree, Answer, Read, Syntax, TooDeep, Unsupported}
 use Rattle.text_meaning.specs.TextAnswers.{read}
-use Rattle.expansion_meaning.specs.Rules.{Rule}
+use Rattle.link_meaning.specs.Below.Rules.{Rule}
 use Rattle.answer_meaning.specs.Answers.{◌>>=◌}
 use Rattle.link_meaning.specs.Refusals.{Refusal, Outcome, refused, demand}
 use Rattle.text_meaning.specs.Dependencies.{Dependency, module_dependencies}

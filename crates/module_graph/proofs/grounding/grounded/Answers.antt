@@ -5,7 +5,7 @@ use Rattle.name_meaning.specs.Rows.{row_names}
 use Rattle.walk_meaning.specs.Walks.{is_grounded}
 use Rattle.walk_meaning.specs.Graphs.{Graph, row_dependencies, row_library, graph_grounded}
 use Rattle.module_graph.specs.Peeling.{TellsGrounded}
-use Rattle.module_graph.proofs.Writes.{item_read, item_at, filter_more}
+use Rattle.list_laws.proofs.Writes.{item_read, item_at, filter_more}
 use Rattle.module_graph.proofs.Peeled.{names_long}
 use Rattle.module_graph.proofs.grounding.grounded.Goals as goal
 use Rattle.module_graph.proofs.grounding.grounded.Goals.{then-index+in_ok-copy+in_ok-push, else-index}

@@ -1,15 +1,11 @@
-use Rattle.std.proofs.Common.{◌≡◌, ℕ, ◌<◌, true, false, List, length, get_or, slice_get, Some, Result, Ok, Err, IfErr, sym, ap, ◌∙◌, arith}
+use Rattle.std.proofs.Common.{◌≡◌, ℕ, ◌<◌, true, false, List, length, get_or, slice_get, Some, sym, ap, ◌∙◌, arith}
 use Rattle.std.proofs.lemmas.Option.{slice_get-get_or}
+use Rattle.list_laws.proofs.Answers.{where_missing}
 use Rattle.list_laws.proofs.Places.{place_within}
-use Rattle.module_graph.proofs.Writes.{item_read}
+use Rattle.list_laws.proofs.Writes.{item_read}
 use Rattle.module_graph.proofs.Peeled.{passed_taken, passed_absent, passed_more}
 use Rattle.module_graph.proofs.grounding.next_open.Goals as goal
 use Rattle.module_graph.proofs.grounding.next_open.Goals.{in-Ok+else-not-taken-other, in_default}
-
--- the gap, where no place was found
-where_missing : (r : Result ℕ ℕ) (P : ℕ → Type 0) → ((x : ℕ) → r ≡ Ok x → ⊥) → IfErr r P → (x : ℕ) × P x
-where_missing (Ok x) P n h = absurd (n x (λ i. Ok x))
-where_missing (Err x) P n h = (x, h)
 
 item_here : {X : Type 0} (xs : List X) (i : ℕ) (x : X) → i < length xs → x ≡ get_or xs i x → slice_get xs i ≡ Some x
 item_here xs i x h e = slice_get-get_or xs i x h ∙ ap Some (sym e)

@@ -3,7 +3,8 @@ use Rattle.std.specs.List.Sorted.{IsSearchInRange, IsBinarySearchResult}
 use Rattle.std.specs.Ordering.{nat_cmp}
 use Rattle.std.specs.Cmp.Lexicographic.{slice_cmp}
 use Rattle.name_meaning.specs.Names.{Name}
-use Rattle.module_graph.proofs.GroundedNames.{ungrounded_searched, ungrounded_absent, copied_some}
+use Rattle.list_laws.proofs.Options.{copied_some}
+use Rattle.module_graph.proofs.GroundedNames.{ungrounded_searched, ungrounded_absent}
 use Rattle.module_graph.proofs.ungrounded.is_ungrounded.Goals as goal
 
 pub returns-then-is_some : goal.returns-then-is_some

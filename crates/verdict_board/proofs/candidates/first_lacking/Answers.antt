@@ -1,7 +1,8 @@
-use Rattle.std.proofs.Common.{◌≡◌, ℕ, ◌+◌, suc, Bool, true, false, not, Option, Some, None, is_some, Result, Ok, Err, IfErr, Bor, refl, sym, ap, ◌∙◌, subst, true≢false, arith}
-use Rattle.std.specs.Option.{option_copied}
+use Rattle.std.proofs.Common.{◌≡◌, ℕ, ◌+◌, suc, Bool, true, false, not, Some, is_some, refl, sym, ap, ◌∙◌, subst, true≢false, arith}
 use Rattle.std.proofs.lemmas.Option.{slice_get-get_or}
+use Rattle.list_laws.proofs.Answers.{where_missing}
 use Rattle.list_laws.proofs.Members.{Member, place_member}
+use Rattle.list_laws.proofs.Options.{copied_some}
 use Rattle.verdict_board.proofs.Parking.{stage_lacks, absent_lacks, none_more}
 use Rattle.verdict_board.proofs.candidates.first_lacking.Goals as goal
 use Rattle.verdict_board.proofs.candidates.first_lacking.Goals.{in-Ok+else-is_none, in_default}
@@ -12,19 +13,10 @@ turned true false h = refl
 turned false true h = refl
 turned false false h = absurd (true≢false (sym h))
 
-copied : {X : Type 0} (found : Option (Bor X)) → is_some found ≡ is_some (option_copied found)
-copied None = refl
-copied (Some b) = refl
-
--- the gap, where no place was found
-where_missing : (r : Result ℕ ℕ) (P : ℕ → Type 0) → ((x : ℕ) → r ≡ Ok x → ⊥) → IfErr r P → (x : ℕ) × P x
-where_missing (Ok x) P n h = absurd (n x (λ i. Ok x))
-where_missing (Err x) P n h = (x, h)
-
 pub returns-then-is_none : goal.returns-then-is_none
 returns-then-is_none g c =
     let here = slice_get-get_or c.as_slice-name-items.result.now c.loop-name.name-index c.name-item.result c.loop-name-test.true ∙ ap Some (sym c.name-item.is) in
-    let lacks = sym (turned (is_some c.standing.result) c.is_none.result c.is_none.ensures ∙ ap not (copied c.standing.result ∙ ap is_some c.standing.ensures)) ∙ c.if-is_none.true in
+    let lacks = sym (turned (is_some c.standing.result) c.is_none.result c.is_none.ensures ∙ ap not (sym (copied_some c.standing.result) ∙ ap is_some c.standing.ensures)) ∙ c.if-is_none.true in
     record {
       name = c.name-item.result;
       named = c.in-Ok.ensures.found;
@@ -39,6 +31,6 @@ loop-name-preserved g c =
     rw one (none_more c.args.stages.now c.requires c.as_slice-name-items.result.now c.loop-name.name-index c.name-item.result here c.loop-name.invariant
     (elim c.match-place.branch [
       | in-Ok+else-is_none w ↦ stage_lacks c.args.stages.now c.requires w.in-Ok.place c.name-item.result w.row_at.result.0.now w.row_at.result.1.now false w.in-Ok.ensures.found w.row_at.ensures
-          (sym (turned (is_some w.standing.result) w.is_none.result w.is_none.ensures ∙ ap not (copied w.standing.result ∙ ap is_some w.standing.ensures)) ∙ w.if-is_none.false)
+          (sym (turned (is_some w.standing.result) w.is_none.result w.is_none.ensures ∙ ap not (sym (copied_some w.standing.result) ∙ ap is_some w.standing.ensures)) ∙ w.if-is_none.false)
       | in_default w ↦ let q = where_missing c.place.result _ w.in_default.not-Ok c.place.ensures.absent in absent_lacks c.args.stages.now c.requires c.name-item.result q.0 q.1
     ]))

@@ -5,7 +5,7 @@ use Rattle.name_meaning.specs.Names.{same_name}
 use Rattle.base_types.specs.declared.qname.QName.{QName}
 use Rattle.term_trees.specs.declared.flat_decl.Image.{Image}
 use Rattle.indexmap.proofs.CallerLemmas.{insert_entry-new}
-use Rattle.lf_term_laws.proofs.Equality.{pointwise_sound}
+use Rattle.term_trees.proofs.Below.Equality.{pointwise_sound}
 use Rattle.list_laws.proofs.Options.{none_of}
 use Rattle.lf_terms.specs.Tables.{image_of}
 use Rattle.lf_terms.specs.Parts.{AreOfTheory}

@@ -1,6 +1,6 @@
 use Rattle.std.proofs.Common.{◌≡◌, ◌+◌, [], ◌∷◌, length, length-append, false, true, inl, refl, sym, ap, ◌∙◌, arith, rules}
 use Rattle.std.specs.Vec.{vec_len}
-use Rattle.module_graph.proofs.Writes.{fewer_left, item_read}
+use Rattle.list_laws.proofs.Writes.{fewer_left, item_read}
 use Rattle.module_graph.proofs.Peeled.{step_over, step_wait, step_take, open_as, all_passed_as, open_within}
 use Rattle.module_graph.proofs.grounding.Peeling.look.Goals as goal
 

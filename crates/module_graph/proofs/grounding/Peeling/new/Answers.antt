@@ -1,15 +1,15 @@
 use Rattle.std.proofs.Common.{◌≡◌, ◌+◌, replicate, false, subst, sym, ap, ◌∙◌, arith, rules}
-use Rattle.module_graph.proofs.Writes.{AllNew, none_new, more_new}
+use Rattle.list_laws.proofs.Writes.{AreEmpty, none_empty, more_empty}
 use Rattle.module_graph.proofs.Peeled.{first_state}
 use Rattle.module_graph.proofs.grounding.Peeling.new.Goals as goal
 
 pub loop-init : goal.loop-init
-loop-init c = subst (λ lists. AllNew (λ list. list.items) lists 0) (sym c.new-waiting.ensures.items) (none_new (λ list. list.items))
+loop-init c = subst (λ lists. AreEmpty (λ list. list.items) lists 0) (sym c.new-waiting.ensures.items) (none_empty (λ list. list.items))
 
 pub loop-preserved : goal.loop-preserved
 loop-preserved c =
-    subst (λ lists. AllNew (λ list. list.items) lists (c.loop.counter + 1)) (sym c.in_ok-push.ensures.items)
-    (more_new (λ list. list.items) c.loop.waiting.items c.loop.counter c.new.result c.loop.invariant c.new.ensures.items)
+    subst (λ lists. AreEmpty (λ list. list.items) lists (c.loop.counter + 1)) (sym c.in_ok-push.ensures.items)
+    (more_empty (λ list. list.items) c.loop.waiting.items c.loop.counter c.new.result c.loop.invariant c.new.ensures.items)
 
 pub returns : goal.returns
 returns c =

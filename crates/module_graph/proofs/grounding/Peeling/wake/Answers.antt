@@ -1,7 +1,7 @@
 use Rattle.std.proofs.Common.{◌≡◌, ◌+◌, [], ◌∷◌, length, drop, inl, refl, sym, ap, ◌∙◌, subst, arith, rules}
 use Rattle.std.specs.Vec.{vec_len}
 use Rattle.list_laws.proofs.Members.{append_right}
-use Rattle.module_graph.proofs.Writes.{item_read, drop_past}
+use Rattle.list_laws.proofs.Writes.{item_read, drop_past}
 use Rattle.module_graph.proofs.Peeled.{step_wake, pending_as}
 use Rattle.module_graph.specs.PeelingState.{IsState}
 use Rattle.module_graph.proofs.grounding.Peeling.wake.Goals as goal

@@ -1,5 +1,5 @@
 use Rattle.std.proofs.Common.{◌≡◌, ◌+◌, replicate, true, subst, sym, arith, rules}
-use Rattle.verdict_board.proofs.Writing.{AreEmpty, none_empty, more_empty}
+use Rattle.list_laws.proofs.Writes.{AreEmpty, none_empty, more_empty}
 use Rattle.verdict_board.proofs.Parking.{all_new}
 use Rattle.verdict_board.proofs.candidates.Candidates.new.Goals as goal
 

@@ -1,4 +1,4 @@
-use Rattle.verdict_board.proofs.Writing.{AreEmpty}
+use Rattle.list_laws.proofs.Writes.{AreEmpty}
 use Rattle.verdict_board.proofs.candidates.Candidates.new.Given as goal
 
 abbrev pub invariant-loop : goal.invariant-loop

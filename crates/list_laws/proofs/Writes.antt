@@ -31,6 +31,12 @@ module _ {X : Type 0} where
   set_left (x ∷ xs) (suc i) v zero y h = inr h
   set_left (x ∷ xs) (suc i) v (suc k) y h = ⊎_elim (λ q. inl (ap suc q)) (λ q. inr q) (set_left xs i v k y h)
 
+  -- what is found where a value was written is that value
+  pub set_value : (xs : List X) (i : ℕ) (v y : X) → slice_get (set xs i v) i ≡ Some y → y ≡ v
+  set_value [] i v y h = absurd (cc)
+  set_value (x ∷ xs) zero v y h = cc
+  set_value (x ∷ xs) (suc i) v y h = set_value xs i v y h
+
   -- writing what was written before changes nothing that was so
   pub set_stays : (xs : List X) (i : ℕ) (v : X) (k : ℕ) → slice_get xs k ≡ Some v → slice_get (set xs i v) k ≡ Some v
   set_stays [] i v k h = h
@@ -57,15 +63,15 @@ fewer_left taken i h =
     omega (arith, e, g)
 
 -- So many lists, all of them empty.
-pub record AllNew {W : Type 0} (items : W → List ℕ) (lists : List W) (count : ℕ) : Type 0 where
+pub record AreEmpty {W : Type 0} (items : W → List ℕ) (lists : List W) (count : ℕ) : Type 0 where
   pub long : length lists ≡ count
   pub each : (i : ℕ) (list : W) → slice_get lists i ≡ Some list → items list ≡ []
 
-pub none_new : {W : Type 0} (items : W → List ℕ) → AllNew items [] 0
-none_new items = record { long = refl; each = λ i list h. absurd (cc) }
+pub none_empty : {W : Type 0} (items : W → List ℕ) → AreEmpty items [] 0
+none_empty items = record { long = refl; each = λ i list h. absurd (cc) }
 
-pub more_new : {W : Type 0} (items : W → List ℕ) (lists : List W) (count : ℕ) (list : W) → AllNew items lists count → items list ≡ [] → AllNew items (lists ++ list ∷ []) (count + 1)
-more_new items lists count list so_far empty = record {
+pub more_empty : {W : Type 0} (items : W → List ℕ) (lists : List W) (count : ℕ) (list : W) → AreEmpty items lists count → items list ≡ [] → AreEmpty items (lists ++ list ∷ []) (count + 1)
+more_empty items lists count list so_far empty = record {
   long = let l = so_far.long in let a = length-append lists (list ∷ []) in omega (arith, l, a);
   each = λ i other h. ⊎_elim (λ q. so_far.each i other q) (λ q. ap items (sym q.1) ∙ empty) (get_more lists list other i h);
 }

@@ -1,0 +1,3 @@
+-- What those above cite of the crates below, which they have from here.
+pub use Rattle.name_meaning.specs.Names
+pub use Rattle.name_meaning.specs.Rows

@@ -1,0 +1,2 @@
+-- What those above cite of the crates below, which they have from here.
+pub use Rattle.carried_typing.specs.CarriedTyping
