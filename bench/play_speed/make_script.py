@@ -9,6 +9,7 @@ many     a theory of NUMBER declarations with a value of eleven nodes
 late     the same behind as many further constants
 even     a declaration with a value of NUMBER nodes whose halves are even
 heavy    NUMBER theories of 1,000 declarations with a value of eleven nodes, which need nothing of each other, and a check
+doubled  NUMBER theories of twelve definitions, each of which applies the last one twice, which need nothing of each other, and a check
 judged   a small algebra, and NUMBER theories with a hundred structures of it, which need nothing of each other, and a check
 edited   NUMBER theories, each of which includes one of those before it, and as many edits, each with a report of a theory behind it
 applied  a theory of NUMBER declarations with a value of 400 applications, one in the other
@@ -93,6 +94,13 @@ def modules(shape, count):
 def heavy(count):
     for i in range(count):
         yield put(*theory(f"T{i}", HEAD + values(1000)))
+    yield "check\n"
+
+
+def doubled(count):
+    lines = ["d0 : a -> a = [x:a] g x z."] + [f"d{i} : a -> a = [x:a] d{i - 1} (d{i - 1} x)." for i in range(1, 12)]
+    for i in range(count):
+        yield put(*theory(f"T{i}", HEAD + "\n".join(lines) + "\n"))
     yield "check\n"
 
 
@@ -203,6 +211,8 @@ def pieces(shape, count):
     match shape:
         case "heavy":
             yield from heavy(count)
+        case "doubled":
+            yield from doubled(count)
         case "judged":
             yield from judged(count)
         case "edited":
