@@ -1,10 +1,11 @@
 //! The first pass: what the assignments of a link give, in the order of the text.
-ghost use Rattle.std.specs.Prelude.{◌≡◌, [], IfOk};
+ghost use Rattle.std.specs.Prelude.{◌≡◌, [], IfOk, Ok};
 ghost use Rattle.std.specs.Option.{option_copied};
 ghost use Rattle.text_meaning.specs.Trees.{ConstAssign, IncludeAssign, StructAssign};
 ghost use Rattle.library_meaning.specs.Words as words;
 ghost use Rattle.expansion_meaning.specs.Rules as rules;
 ghost use Rattle.link_meaning.specs.Assignments as passes;
+ghost use Rattle.link_meaning.specs.Assignments.{Sharing};
 ghost use Rattle.link_meaning.specs.Refusals as refusals;
 ghost use Rattle.link_meaning.specs.Refusals.{Outcome, or_refused};
 ghost use Rattle.mmt_syntax.specs.Readings as trees;
@@ -34,11 +35,28 @@ pub fn read_assigns<'a>(
 {
     let mut given = Vec::new(alloc);
     let mut targets = Targets::new(alloc);
-    for assign in assigns.as_slice() {
-        given.push(read_assign(alloc, setting, &targets, assign)?)?;
+    read_all(alloc, setting, &mut targets, &mut given, assigns.as_slice())?;
+    Ok(given)
+}
+
+/// Adds to nothing what assignments give, in order, and their targets.
+fn read_all<'a>(
+    alloc: Global,
+    setting: &Setting<'a>,
+    targets: &mut Targets<'a>,
+    given: &mut Vec<Assigned<'a>>,
+    assigns: &'a [Assign],
+) -> Result<(), LinkFault>
+    requires targets { earlier_targets targets.old ≡ [] }
+    requires tabled { AreTabled targets.old }
+    requires nothing { given.old.items ≡ [] }
+    ensures { Links (λ _. read_all_assigned given.new.items) result (passes.read_assigns (read_setting setting.now) [] (trees.read_assigns assigns.now)) }
+{
+    for assign in assigns {
+        given.push(read_assign(alloc, setting, targets, assign)?)?;
         targets.add(alloc, assign)?;
     }
-    Ok(given)
+    Ok(())
 }
 
 /// What one assignment gives, behind these targets.
@@ -96,9 +114,11 @@ fn covering<'a>(
 {
     let by = words_link(alloc, setting, morph, None)?;
     let first = first_place(morph);
-    let ends = covering_ends(setting, &by);
-    demand(alloc, setting, ends, first, Rule::MorphismEnds, None)?;
-    Ok(Assigned::Covering { first, by })
+    if covering_ends(setting, &by) {
+        return Ok(Assigned::Covering { first, by });
+    }
+    drop(by);
+    Err(broken(alloc, setting, first, Rule::MorphismEnds, None))
 }
 
 /// A structure of the domain is shared by a link.
@@ -113,24 +133,47 @@ fn sharing<'a>(
     ensures { Links read_assigned result (passes.read_assign (read_setting setting.now) (earlier_targets earlier.now) (StructAssign (trees.read_written target.now) (trees.read_morph morph.now))) }
 {
     let structure = target_link(alloc, setting, target)?;
+    match sharing_link(alloc, setting, earlier, &structure, target, morph) {
+        Ok(by) => Ok(Assigned::Sharing {
+            target: &target.path,
+            structure,
+            first: first_place(morph),
+            by,
+        }),
+        Err(fault) => {
+            drop(structure);
+            Err(fault)
+        }
+    }
+}
+
+/// The link by which an assignment shares this structure, which it names.
+fn sharing_link(
+    alloc: Global,
+    setting: &Setting<'_>,
+    earlier: &Targets<'_>,
+    structure: &Link,
+    target: &Written,
+    morph: &Morph,
+) -> Result<Link, LinkFault>
+    requires tabled { AreTabled earlier.now }
+    requires known { or_refused (passes.structure_at (read_setting setting.now) target.now.path) (trees.read_span target.now.span) rules.Rule.UnknownTarget (passes.label_along (read_setting setting.now) target.now.path) ≡ Ok (read_link structure.now) }
+    ensures { Links (λ by. Sharing target.now.path (read_link structure.now) (passes.word_place (trees.read_morph morph.now) 0) (read_link by)) result (passes.read_assign (read_setting setting.now) (earlier_targets earlier.now) (StructAssign (trees.read_written target.now) (trees.read_morph morph.now))) }
+{
     demand_free(alloc, setting, earlier, target)?;
     let by = words_link(alloc, setting, morph, Some(&target.path))?;
+    if sharing_ends(setting, structure, &by) {
+        return Ok(by);
+    }
+    drop(by);
     let first = first_place(morph);
-    let ends = sharing_ends(setting, &structure, &by);
-    demand(
+    Err(broken(
         alloc,
         setting,
-        ends,
         first,
         Rule::MorphismEnds,
         Some(&target.path),
-    )?;
-    Ok(Assigned::Sharing {
-        target: &target.path,
-        structure,
-        first,
-        by,
-    })
+    ))
 }
 
 /// The own link of the structure that an assignment names.

@@ -4,6 +4,7 @@ ghost use Rattle.link_meaning.specs.LinkMaps.{IsSettled};
 ghost use Rattle.term_trees.specs.Readings.{read_map};
 ghost use Rattle.morphism.specs.Readings.{read_all_assigned, read_setting};
 ghost use Rattle.morphism.specs.Answers.{Links};
+ghost use Rattle.morphism.specs.CoverTables.{assigned_of, setting_of, AreCoverings};
 
 use crate::images::images;
 use crate::link_coverings::Coverings;
@@ -27,8 +28,9 @@ pub fn covering_map(
     ensures { Links read_map result (passes.covering_map (read_setting setting.now) (read_all_assigned assigned.now)) }
 {
     let coverings = Coverings::new(alloc, setting, assigned)?;
-    coverings.test_domain(alloc)?;
-    images(alloc, &coverings)
+    let map = tested_images(alloc, &coverings);
+    drop(coverings);
+    map
 }
 
 /// The same over coherent faces, where the domain is an accepted theory. A theory that the identity covers, and whose own part has the
@@ -43,6 +45,26 @@ pub fn settled_covering_map(
     ensures { Links read_map result (passes.covering_map (read_setting setting.now) (read_all_assigned assigned.now)) }
 {
     let coverings = Coverings::new(alloc, setting, assigned)?;
+    let map = tested_shared_images(alloc, &coverings);
+    drop(coverings);
+    map
+}
+
+/// The images, where the tests of coverings pass.
+fn tested_images(alloc: Global, coverings: &Coverings<'_>) -> Result<HeadMap, LinkFault>
+    requires { AreCoverings coverings.now }
+    ensures { Links read_map result (passes.covering_map (setting_of coverings.now.covers) (assigned_of coverings.now.covers)) }
+{
     coverings.test_domain(alloc)?;
-    shared_images(alloc, &coverings)
+    images(alloc, coverings)
+}
+
+/// The images, where the tests of coverings pass; shared where they can be.
+fn tested_shared_images(alloc: Global, coverings: &Coverings<'_>) -> Result<HeadMap, LinkFault>
+    requires tables { AreCoverings coverings.now }
+    requires settled { IsSettled (setting_of coverings.now.covers) }
+    ensures { Links read_map result (passes.covering_map (setting_of coverings.now.covers) (assigned_of coverings.now.covers)) }
+{
+    coverings.test_domain(alloc)?;
+    shared_images(alloc, coverings)
 }

@@ -14,7 +14,7 @@ use crate::LinkFault;
 use crate::chosen::{Chosen, value_at};
 use crate::covering_refusals::not_covered;
 use crate::link_coverings::Coverings;
-use lf_terms::{Class, FlatDecl, FlatSig, HeadMap, Image, Memory, Name, Value};
+use lf_terms::{Class, FlatDecl, FlatSig, HeadMap, Image, Memory, Name, QName, Value};
 use lf_translate::translate_class;
 use std::alloc::Global;
 
@@ -116,9 +116,22 @@ fn add_image(
 ) -> Result<(), Memory>
     ensures { OnOk result (read_map so_far.new ≡ read_map so_far.old ++ mapping_to (read_map so_far.old) (read_declaration decl.now) (read_value value) ∷ []) }
 {
-    let class = translated_class(alloc, so_far, &decl.class)?;
-    let name = decl.name.copy(alloc)?;
-    match so_far.push(name, Image { class, value }) {
+    let Ok(class) = translated_class(alloc, so_far, &decl.class) else {
+        drop(value);
+        return Err(Memory);
+    };
+    push_image(alloc, so_far, &decl.name, Image { class, value })
+}
+
+/// Adds an image under a copy of the name of its constant.
+fn push_image(alloc: Global, so_far: &mut HeadMap, name: &QName, image: Image) -> Result<(), Memory>
+    ensures { OnOk result (so_far.new ≡ so_far.old ++ (name.now, image) ∷ []) }
+{
+    let Ok(name) = name.copy(alloc) else {
+        drop(image);
+        return Err(Memory);
+    };
+    match so_far.push(name, image) {
         Ok(()) => Ok(()),
         Err(fault) => {
             // No constant is twice in coherent faces, so this is want of memory.

@@ -1,5 +1,5 @@
 //! Edits of the library.
-ghost use Rattle.std.specs.Prelude.{◌≡◌, ◌≤◌, not, true, false, length, filter, IfOk, IfSome, OnErr, OnOk};
+ghost use Rattle.std.specs.Prelude.{◌≡◌, ◌≤◌, ◌∷◌, ◌++◌, [], not, true, false, length, filter, IfOk, IfSome, OnErr, OnOk};
 ghost use Rattle.std.specs.Option.{option_copied};
 ghost use Rattle.name_meaning.specs.Names.{Name, is_among, is_ascending};
 ghost use Rattle.name_meaning.specs.Limits.{text_limit};
@@ -12,7 +12,8 @@ ghost use Rattle.walk_meaning.specs.Walks.{is_grounded, is_ungrounded, ungrounde
 ghost use Rattle.board_meaning.specs.Events.{library_after};
 ghost use Rattle.board_meaning.specs.Machine.{edit_reply, EditCall, after_call};
 ghost use Rattle.edit_log.specs.Readings.{read_edit, IsAnswer};
-ghost use Rattle.verdict_board.specs.Entries.{read_event};
+ghost use Rattle.verdict_board.specs.Entries.{entry, read_event};
+ghost use Rattle.verdict_board.specs.Searching.{AreNew};
 ghost use Rattle.verdict_board.specs.Stages.{IsStage, AreStages, IsAnew, after_edit_of};
 ghost use Rattle.board_meaning.specs.Events as board;
 
@@ -21,13 +22,22 @@ use crate::claim::MOST;
 use crate::in_place::change;
 use crate::search::contains;
 use crate::stage::{Stage, after_edit};
-use crate::trail::noted;
+use crate::trail::{Trail, noted};
 use crate::{Board, Event};
 use edit_log::{Edit, EditFault, Edited};
 use lf_terms::{Memory, Name, Names};
 use module_graph::{Graph, Subject, grounded, reaches_itself};
 use name_table::NameTable;
 use std::alloc::Global;
+
+/// What stands after an edit: the stages where they are not changed in place.
+#[derive(Drop)]
+struct Next<A> {
+    graph: Graph,
+    candidates: Candidates,
+    anew: Option<NameTable<Stage<A>>>,
+    history: Trail,
+}
 
 impl<S: Subject> Board<S> {
     /// Makes an edit, unless one of the log's tests holds; see `Log::append`. Want of memory may come in place of `Made` alone. At
@@ -46,19 +56,43 @@ impl<S: Subject> Board<S> {
         if self.entries >= MOST || self.opened >= MOST {
             return Err(EditFault::Memory);
         }
-        let graph = self.graph_after(alloc, &edit)?;
-        let event = event_of(alloc, &edit)?;
-        let candidates = Candidates::new(alloc, graph.len())?;
-        let anew = self.stages_anew(alloc, &edit, &graph)?;
-        match change(alloc, &mut self.log, &mut self.stages, &graph, anew, edit) {
+        let next = self.next(alloc, pass, version, &edit)?;
+        let anew = next.anew;
+        match change(alloc, &mut self.log, &mut self.stages, &next.graph, anew, edit) {
             Ok(_) => {}
             Err(fault) => return Err(fault),
         }
-        self.graph = graph;
-        self.candidates = candidates;
-        self.history = noted(&self.history, pass, version, event);
+        self.graph = next.graph;
+        self.candidates = next.candidates;
+        self.history = next.history;
         self.entries += 1;
         Ok(answer)
+    }
+
+    /// What stands after an edit that becomes this version, made beside what there is.
+    fn next(
+        &self,
+        alloc: Global,
+        pass: u32,
+        version: u32,
+        edit: &Edit,
+    ) -> Result<Next<S::Answer>, Memory>
+        requires { is_short (read_edit edit.now) ≡ true }
+        ensures holds { IfOk result (λ next. HoldsDependencies next.graph S.subject.dependencies (edited (library_after self.now) (read_edit edit.now))) }
+        ensures candidates { IfOk result (λ next. AreNew (length next.graph) next.candidates) }
+        ensures anew { IfOk result (λ next. IsAnew S.subject S.meaning self.now (read_edit edit.now) next.anew) }
+        ensures history { IfOk result (λ next. next.history.entries ≡ self.now ++ entry pass version (board.EditMade (read_edit edit.now)) ∷ []) }
+    {
+        let history = noted_edit(&self.history, alloc, pass, version, edit)?;
+        let graph = self.graph_after(alloc, edit)?;
+        let candidates = Candidates::new(alloc, graph.len())?;
+        let anew = self.stages_anew(alloc, edit, &graph)?;
+        Ok(Next {
+            graph,
+            candidates,
+            anew,
+            history,
+        })
     }
 
     /// The dependencies of the modules after an edit.
@@ -223,6 +257,20 @@ fn others(alloc: Global, graph: &Graph, known: &Names) -> Result<Names, Memory>
         names.push(name.copy(alloc)?)?;
     }
     Ok(Names::from_vec(names))
+}
+
+/// A history with the entry of this edit, made by this pass.
+fn noted_edit(
+    history: &Trail,
+    alloc: Global,
+    pass: u32,
+    version: u32,
+    edit: &Edit,
+) -> Result<Trail, Memory>
+    ensures { IfOk result (λ trail. trail.entries ≡ history.now.entries ++ entry pass version (board.EditMade (read_edit edit.now)) ∷ []) }
+{
+    let event = event_of(alloc, edit)?;
+    Ok(noted(history, pass, version, event))
 }
 
 /// What happens where this edit is made.

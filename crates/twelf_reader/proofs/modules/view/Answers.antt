@@ -1,7 +1,7 @@
-use Rattle.std.proofs.Common.{[], refl, ap, ap₂, ◌∙◌}
+use Rattle.std.proofs.Common.{refl, ap, ap₂, ◌∙◌}
 use Rattle.text_meaning.specs.Trees.{ViewModule}
 use Rattle.text_meaning.specs.Reading.{ModuleTree, Read}
-use Rattle.text_meaning.specs.Parsing.{AtAssign, InView, as_written}
+use Rattle.text_meaning.specs.Parsing.{as_written}
 use Rattle.mmt_syntax.specs.Readings.{read_assigns, read_written}
 use Rattle.twelf_expressions.specs.Going.{simple_of}
 use Rattle.twelf_expressions.proofs.Moves.{stopped}
@@ -20,43 +20,20 @@ returns-in_err-codomain c =
     stopped c.from_residual-in_err-codomain.result _ _ c.from_residual-in_err-codomain.ensures.1
     (c.in_ok-name.ensures.goes view_named (λ _. refl) ∙ c.in_ok-domain.ensures.goes (view_from x) (λ _. refl)) (c.in_err-codomain.ensures.goes (view_to x y) (λ _. refl))
 
-pub returns-in_err-open_body : goal.returns-in_err-open_body
-returns-in_err-open_body c =
-    let x = simple_of c.in_ok-name.name in
-    let y = simple_of c.in_ok-domain.domain in
-    let o = InView x y (simple_of c.in_ok-codomain.codomain) in
-    stopped c.from_residual-in_err-open_body.result _ _ c.from_residual-in_err-open_body.ensures.1
-    (c.in_ok-name.ensures.goes view_named (λ _. refl) ∙ c.in_ok-domain.ensures.goes (view_from x) (λ _. refl) ∙ c.in_ok-codomain.ensures.goes (view_to x y) (λ _. refl))
-    (c.in_err-open_body.ensures.goes (AtAssign o []) refl)
-
 pub returns-in_err-assigns : goal.returns-in_err-assigns
 returns-in_err-assigns c =
     let x = simple_of c.in_ok-name.name in
     let y = simple_of c.in_ok-domain.domain in
-    let o = InView x y (simple_of c.in_ok-codomain.codomain) in
     stopped c.from_residual-in_err-assigns.result _ _ c.from_residual-in_err-assigns.ensures.1
-    (c.in_ok-name.ensures.goes view_named (λ _. refl) ∙ c.in_ok-domain.ensures.goes (view_from x) (λ _. refl) ∙ c.in_ok-codomain.ensures.goes (view_to x y) (λ _. refl) ∙ c.in_ok-open_body.ensures.goes (AtAssign o []) refl)
-    (c.in_err-assigns.ensures.goes o)
-
-pub returns-in_err-end_text : goal.returns-in_err-end_text
-returns-in_err-end_text c =
-    let x = simple_of c.in_ok-name.name in
-    let y = simple_of c.in_ok-domain.domain in
-    let z = simple_of c.in_ok-codomain.codomain in
-    let o = InView x y z in
-    let tree = ModuleTree (ViewModule (as_written x) (as_written y) (as_written z) (read_assigns c.in_ok-assigns.assigns)) in
-    stopped c.from_residual-in_err-end_text.result _ _ c.from_residual-in_err-end_text.ensures.1
-    (c.in_ok-name.ensures.goes view_named (λ _. refl) ∙ c.in_ok-domain.ensures.goes (view_from x) (λ _. refl) ∙ c.in_ok-codomain.ensures.goes (view_to x y) (λ _. refl) ∙ c.in_ok-open_body.ensures.goes (AtAssign o []) refl ∙ c.in_ok-assigns.ensures.goes o)
-    (c.in_err-end_text.ensures tree)
+    (c.in_ok-name.ensures.goes view_named (λ _. refl) ∙ c.in_ok-domain.ensures.goes (view_from x) (λ _. refl) ∙ c.in_ok-codomain.ensures.goes (view_to x y) (λ _. refl))
+    (c.in_err-assigns.ensures x y (simple_of c.in_ok-codomain.codomain))
 
 pub returns : goal.returns
 returns c =
     let x = simple_of c.in_ok-name.name in
     let y = simple_of c.in_ok-domain.domain in
     let z = simple_of c.in_ok-codomain.codomain in
-    let o = InView x y z in
     let xs = read_assigns c.in_ok-assigns.assigns in
-    c.in_ok-name.ensures.goes view_named (λ _. refl) ∙ c.in_ok-domain.ensures.goes (view_from x) (λ _. refl) ∙ c.in_ok-codomain.ensures.goes (view_to x y) (λ _. refl) ∙ c.in_ok-open_body.ensures.goes (AtAssign o []) refl
-    ∙ c.in_ok-assigns.ensures.goes o ∙ c.in_ok-end_text.ensures (ModuleTree (ViewModule (as_written x) (as_written y) (as_written z) xs))
+    c.in_ok-name.ensures.goes view_named (λ _. refl) ∙ c.in_ok-domain.ensures.goes (view_from x) (λ _. refl) ∙ c.in_ok-codomain.ensures.goes (view_to x y) (λ _. refl) ∙ c.in_ok-assigns.ensures x y z
     ∙ ap₂ (λ a b. Read (ModuleTree (ViewModule a b (as_written z) xs))) c.in_ok-name.ensures.one c.in_ok-domain.ensures.one
     ∙ ap (λ d. Read (ModuleTree (ViewModule (read_written c.in_ok-name.name) (read_written c.in_ok-domain.domain) d xs))) c.in_ok-codomain.ensures.one

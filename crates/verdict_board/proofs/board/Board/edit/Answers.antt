@@ -4,11 +4,10 @@ use Rattle.log_meaning.specs.Append.{Made, append_answer}
 use Rattle.log_laws.proofs.Libraries.{library_ascending}
 use Rattle.log_laws.proofs.Limits.{made_short}
 use Rattle.walk_meaning.specs.Graphs.{HoldsDependencies}
-use Rattle.board_meaning.specs.Events.{EditMade, Event, History, log_of, library_after, version_after}
+use Rattle.board_meaning.specs.Events.{EditMade, History, log_of, library_after, version_after}
 use Rattle.edit_log.specs.Readings.{read_edit, read_edited, IsAnswer}
 use Rattle.verdict_board.specs.Entries.{entry}
 use Rattle.verdict_board.specs.Stages.{AreStages, after_edit_of}
-use Rattle.verdict_board.specs.Searching.{AreNew}
 use Rattle.verdict_board.proofs.Falls.{changed_staged, inputs_sorted, names_edited}
 use Rattle.verdict_board.proofs.Calls.{edit_after}
 use Rattle.verdict_board.proofs.Edits.{kept_edit}
@@ -25,12 +24,8 @@ returns-in_default g c =
       unchanged = tt;
     }
 
-pub graph_after-requires-after_bounds : goal.graph_after-requires-after_bounds
-graph_after-requires-after_bounds g c κs b =
-    made_short c.self.inside.log (read_edit c.args.edit) c.in-Made.version (c.in_ok-answer.ensures ∙ ap read_edited c.in-Made.is)
-
-pub stages_anew-requires-clause-short : goal.stages_anew-requires-clause-short
-stages_anew-requires-clause-short g c κs b =
+pub next-requires-after_bounds : goal.next-requires-after_bounds
+next-requires-after_bounds g c κs b =
     made_short c.self.inside.log (read_edit c.args.edit) c.in-Made.version (c.in_ok-answer.ensures ∙ ap read_edited c.in-Made.is)
 
 pub change-requires-clause-sorted : goal.change-requires-clause-sorted
@@ -41,7 +36,7 @@ change-requires-clause-sorted g c =
 pub change-requires-clause-names : goal.change-requires-clause-names
 change-requires-clause-names g c =
     let e = read_edit c.args.edit in
-    let holds : HoldsDependencies c.in_ok-graph.graph g.S.Subject.subject.dependencies (edited (library_after c.self.inside.history.entries) e) = rw c.self.view_is c.in_ok-graph.ensures in
+    let holds : HoldsDependencies c.in_ok-next.next.graph g.S.Subject.subject.dependencies (edited (library_after c.self.inside.history.entries) e) = rw c.self.view_is c.in_ok-next.ensures.holds in
     names_edited (library_after c.self.inside.history.entries) c.self.inside.stages e (library_ascending (log_of c.self.inside.history.entries)) c.self.invariant.staged.names ∙ sym holds.names
 
 pub returns-in-Err-clause-answer : goal.returns-in-Err-clause-answer
@@ -58,16 +53,16 @@ invariant_of-self-2 g c =
     let reply : append_answer (log_of c.self.inside.history.entries) e ≡ Made c.in-Made.version = ap (λ log. append_answer log e) (sym c.self.invariant.logged) ∙ made in
     let v : c.in-Made.version ≡ suc (version_after c.self.inside.history.entries) = made_version (log_of c.self.inside.history.entries) e c.in-Made.version reply in
     let lawful = (g.met.S.Subject g.world.𝓛 g.world.𝓜 g.world.𝓡 ((λ s x. x), (λ x. x), (λ x. x), λ x. x)).lawful in
-    let next = changed_staged g.S.Subject.subject g.S.Subject.meaning c.self.inside.history.entries c.self.invariant.legal lawful.reach c.self.inside.stages c.self.invariant.staged e c.in_ok-anew.anew (rw c.self.view_is c.in_ok-anew.ensures) in
+    let next = changed_staged g.S.Subject.subject g.S.Subject.meaning c.self.inside.history.entries c.self.invariant.legal lawful.reach c.self.inside.stages c.self.invariant.staged e c.in_ok-next.next.anew (rw c.self.view_is c.in_ok-next.ensures.anew) in
     let stages = subst (λ (z : History). AreStages g.S.Subject.subject g.S.Subject.meaning z c.change.new.stages)
     (λ i. c.self.inside.history.entries ++ entry (sym c.requires i) (sym v i) (EditMade e) ∷ [])
     (subst (AreStages g.S.Subject.subject g.S.Subject.meaning (after_edit_of c.self.inside.history.entries e)) (sym c.in-Ok.ensures.stages) next) in
-    let holds : HoldsDependencies c.in_ok-graph.graph g.S.Subject.subject.dependencies (edited (library_after c.self.inside.history.entries) e) = rw c.self.view_is c.in_ok-graph.ensures in
+    let holds : HoldsDependencies c.in_ok-next.next.graph g.S.Subject.subject.dependencies (edited (library_after c.self.inside.history.entries) e) = rw c.self.view_is c.in_ok-next.ensures.holds in
     let few = c.if-self-ge-MOST.false in
     let less = c.if-self-ge-MOST-2.false in
-    let new = subst (λ (count : ℕ). AreNew count c.in_ok-candidates.candidates) c.len.ensures.len c.in_ok-candidates.ensures in
-    rw (c.noted-self-inside.ensures, c.in_ok-event.ensures)
-    (kept_edit g.S.Subject.subject g.S.Subject.meaning c.self.inside.history.entries c.self.inside.log c.self.inside.graph c.self.inside.stages c.self.inside.closed c.self.inside.opened c.self.inside.entries c.self.inside.installed c.self.invariant e c.args.pass c.in-Made.version c.in-Made.version c.change.new.log c.in_ok-graph.graph c.change.new.stages c.in_ok-candidates.candidates new c.requires reply v
+    let noted : c.in_ok-next.next.history.entries ≡ c.self.inside.history.entries ++ entry c.args.pass c.in-Made.version (EditMade e) ∷ [] = rw c.self.view_is c.in_ok-next.ensures.history in
+    rw noted
+    (kept_edit g.S.Subject.subject g.S.Subject.meaning c.self.inside.history.entries c.self.inside.log c.self.inside.graph c.self.inside.stages c.self.inside.closed c.self.inside.opened c.self.inside.entries c.self.inside.installed c.self.invariant e c.args.pass c.in-Made.version c.in-Made.version c.change.new.log c.in_ok-next.next.graph c.change.new.stages c.in_ok-next.next.candidates c.in_ok-next.ensures.candidates c.requires reply v
     (c.in-Ok.ensures.log ∙ appended_made c.self.inside.log e c.in-Made.version made) holds stages (omega (arith, few)) (omega (arith, less)))
 
 pub returns-clause-history : goal.returns-clause-history
@@ -76,5 +71,5 @@ returns-clause-history g c =
     let made : append_answer c.self.inside.log e ≡ Made c.in-Made.version = c.in_ok-answer.ensures ∙ ap read_edited c.in-Made.is in
     let reply : append_answer (log_of c.self.inside.history.entries) e ≡ Made c.in-Made.version = ap (λ log. append_answer log e) (sym c.self.invariant.logged) ∙ made in
     let v : c.in-Made.version ≡ suc (version_after c.self.inside.history.entries) = made_version (log_of c.self.inside.history.entries) e c.in-Made.version reply in
-    c.noted-self-inside.ensures ∙ ap (λ (event : Event). c.self.inside.history.entries ++ entry c.args.pass c.in-Made.version event ∷ []) c.in_ok-event.ensures
-    ∙ rw (← c.self.view_is) (sym (edit_after g.S.Subject.subject.dependencies c.self.inside.history.entries c.args.pass c.in-Made.version e c.in-Made.version reply v))
+    let noted : c.in_ok-next.next.history.entries ≡ c.self.inside.history.entries ++ entry c.args.pass c.in-Made.version (EditMade e) ∷ [] = rw c.self.view_is c.in_ok-next.ensures.history in
+    noted ∙ rw (← c.self.view_is) (sym (edit_after g.S.Subject.subject.dependencies c.self.inside.history.entries c.args.pass c.in-Made.version e c.in-Made.version reply v))

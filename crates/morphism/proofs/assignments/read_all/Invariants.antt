@@ -4,13 +4,13 @@ use Rattle.mmt_syntax.specs.Readings as trees
 use Rattle.morphism.specs.Readings.{read_all_assigned, read_setting}
 use Rattle.morphism.specs.Steps.{AreTabled, earlier_targets}
 use Rattle.morphism.proofs.AssignmentsLeft.{goes_on_with}
-use Rattle.morphism.proofs.assignments.read_assigns.Given as goal
+use Rattle.morphism.proofs.assignments.read_all.Given as goal
 
 -- What all assignments give is what those so far have given, and what those that are left give behind their targets.
 abbrev pub invariant-loop-assign : goal.invariant-loop-assign
 invariant-loop-assign l = record {
   given :
-      passes.read_assigns (read_setting l.setting) [] (trees.read_assigns l.assign-items)
-      ≡ goes_on_with (read_setting l.setting) (earlier_targets l.targets) (read_all_assigned l.given.items) (drop l.assign-index l.assign-items);
+      passes.read_assigns (read_setting l.setting) [] (trees.read_assigns l.assigns)
+      ≡ goes_on_with (read_setting l.setting) (earlier_targets l.targets) (read_all_assigned l.given.items) (drop l.assign-index l.assigns);
   tabled : AreTabled l.targets;
 }
