@@ -1,5 +1,5 @@
 -- The two tables of a flat signature, as declarations come and go at the end.
-use Rattle.std.proofs.Common.{◌≡◌, ℕ, true, false, List, [], ◌∷◌, ◌++◌, map, cond, Option, Some, None, is_some, Result, Ok, Err, length, refl, sym, ap, subst, ◌∙◌, true≢false}
+use Rattle.std.proofs.Common.{◌≡◌, ℕ, Bool, true, false, List, [], ◌∷◌, ◌++◌, map, cond, Option, Some, None, is_some, Result, Ok, Err, length, refl, sym, ap, subst, ◌∙◌, true≢false}
 use Rattle.std.specs.Prelude.{nat_eq}
 use Rattle.std.specs.Map.{keys_of, values_of, lookup}
 use Rattle.std.specs.Option.{option_eq}
@@ -16,6 +16,14 @@ use Rattle.lf_terms.proofs.FirstPlaces.{table_grows, table_left, table_shrinks, 
 -- Declarations under their names, and the first place of each path.
 abbrev pub AreTables : List (Path × ℕ) → List (QName × FlatDecl) → Type 0
 AreTables places es = (keys_of es ≡ map (λ (d : FlatDecl). d.name) (values_of es)) × HasFirstPlaces places (values_of es)
+
+-- The test whether an optional number is this one.
+pub is_that : (o : Option ℕ) (n : ℕ) → option_eq nat_eq o (Some n) ≡ true → o ≡ Some n
+is_that None n h = absurd (true≢false (sym h))
+is_that (Some i) n h = ap Some (eqb-true i n h)
+
+pub is_other : (o : Option ℕ) (n : ℕ) → option_eq nat_eq o (Some n) ≡ false → o ≡ Some n → ⊥
+is_other o n h e = true≢false (sym (ap (λ x. option_eq nat_eq x (Some n)) e ∙ eq-eqb n n refl) ∙ h)
 
 module _ (places : List (Path × ℕ)) (es : List (QName × FlatDecl)) (d : FlatDecl) where
   values_last : (name : QName) → values_of (es ++ (name, d) ∷ []) ≡ values_of es ++ d ∷ []
@@ -50,6 +58,21 @@ module _ (places : List (Path × ℕ)) (es : List (QName × FlatDecl)) (d : Flat
     pub tables_left : (lookup (same_path d.name.path) places ≡ Some (length es) → ⊥) → AreTables places es
     tables_left other = (keyed_popped (λ (e : FlatDecl). e.name) es (name, d) h.0, table_left places (values_of es) d before (λ e. other (e ∙ ap Some counted)))
 
+    -- the last one goes, and its path where it was the first of it
+    pub tables_leave : (after : List (Path × ℕ)) (index : ℕ) → index ≡ length es
+        → (lookup (same_path d.name.path) places ≡ Some index → (path : Path) → lookup (same_path path) after ≡ cond (same_path d.name.path path) None (lookup (same_path path) places))
+        → ((lookup (same_path d.name.path) places ≡ Some index → ⊥) → after ≡ places) → AreTables after es
+    tables_leave after index at gone stays = by (option_eq nat_eq stands (Some index)) refl
+      where
+        stands : Option ℕ
+        stands = lookup (same_path d.name.path) places
+
+        by : (b : Bool) → option_eq nat_eq stands (Some index) ≡ b → AreTables after es
+        by true e = let first = is_that stands index e in tables_shrink after (first ∙ ap Some at) (gone first)
+        by false e =
+            let other = is_other stands index e in
+            subst (λ left. AreTables left es) (sym (stays other)) (tables_left (λ there. other (there ∙ ap Some (sym at))))
+
 -- What holds after an answer: of what is new where it is one, and else of what was there.
 module _ {T E A B : Type 0} (P : A → B → Type 0) where
   pub either_way : (r : Result T E) (old more new : A) (was grown now : B)
@@ -60,11 +83,3 @@ module _ {T E A B : Type 0} (P : A → B → Type 0) where
   pub one_way : (r : Result T E) (old more new : A) (b : B) → OnOk r (new ≡ more) → OnErr r (new ≡ old) → P more b → P old b → P new b
   one_way (Ok x) old more new b ok err p q = subst (λ a. P a b) (sym ok) p
   one_way (Err e) old more new b ok err p q = subst (λ a. P a b) (sym err) q
-
--- The test whether an optional number is this one.
-pub is_that : (o : Option ℕ) (n : ℕ) → option_eq nat_eq o (Some n) ≡ true → o ≡ Some n
-is_that None n h = absurd (true≢false (sym h))
-is_that (Some i) n h = ap Some (eqb-true i n h)
-
-pub is_other : (o : Option ℕ) (n : ℕ) → option_eq nat_eq o (Some n) ≡ false → o ≡ Some n → ⊥
-is_other o n h e = true≢false (sym (ap (λ x. option_eq nat_eq x (Some n)) e ∙ eq-eqb n n refl) ∙ h)

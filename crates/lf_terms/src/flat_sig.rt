@@ -1,11 +1,12 @@
 //! Flat signatures: declarations in order, with a table of their names and one of their paths.
-ghost use Rattle.std.specs.Prelude.{◌≡◌, ◌↔◌, ◌≤◌, ◌-◌, ◌∷◌, ◌++◌, [], length, slice_get, take, IfErr, IfOk, IfSome, IsErrOf, IsSome, None, MatchOption, OnErr, OnOk, IsNone, true};
+ghost use Rattle.std.specs.Prelude.{◌≡◌, ◌↔◌, ◌≤◌, ◌-◌, ◌∷◌, ◌++◌, [], length, slice_get, take, IfErr, IfOk, IfSome, IsErrOf, IsSome, None, Some, MatchOption, OnErr, OnOk, IsNone, if◌then◌else◌, true};
 ghost use Rattle.std.specs.List.{find};
 ghost use Rattle.std.specs.Map.{lookup};
 ghost use Rattle.std.specs.Option.{option_copied, option_map};
+ghost use Rattle.name_meaning.specs.Names as names;
 ghost use Rattle.lf_meaning.specs.Signatures.{declaration_of, same_constant, Declaration};
 ghost use Rattle.library_meaning.specs.Words.{identity_map, identity_mapping, own_value};
-ghost use Rattle.term_trees.specs.Readings.{read_constant, read_declaration, read_map, read_signature, read_value};
+ghost use Rattle.term_trees.specs.Readings.{read_constant, read_declaration, read_image, read_map, read_signature, read_value};
 ghost use Rattle.lf_terms.specs.Identities.{AreIdentity};
 ghost use Rattle.lf_terms.specs.Tables.{declared, first_with_path, handed_back, place_of, same_path, HasDistinctNames};
 ghost use Rattle.lf_terms.specs.declared.flat_sig.PushFault.TheVariants.{Twice};
@@ -157,10 +158,8 @@ impl FlatSig {
         self.identity = None;
         if let Some((name, decl)) = self.decls.pop() {
             drop(name);
-            let path = &decl.name.path;
-            if self.by_path.get(path).copied() == Some(self.decls.len()) {
-                self.by_path.swap_remove(path);
-            }
+            leave(&mut self.by_path, &decl.name.path, self.decls.len());
+            drop(decl);
         }
     }
 
@@ -260,13 +259,35 @@ fn insert_first(
     Ok(())
 }
 
+/// Takes a path out of the table, if it stands there with this index.
+fn leave(by_path: &mut IndexMap<Path, usize>, path: &Path, index: usize)
+    ensures gone { lookup (same_path path.now) by_path.old.entries ≡ Some index → (other : names.Path) → lookup (same_path other) by_path.new.entries ≡ (if same_path path.now other then None else lookup (same_path other) by_path.old.entries) }
+    ensures stays { (lookup (same_path path.now) by_path.old.entries ≡ Some index → ⊥) → by_path.new.entries ≡ by_path.old.entries }
+{
+    if by_path.get(path).copied() == Some(index) {
+        by_path.swap_remove(path);
+    }
+}
+
 /// Adds a declared constant with the image that the identity gives to it, and says so, where it is of the part's theory.
 fn push_own(alloc: Global, part: &mut MapPart, decl: &FlatDecl) -> Result<bool, Memory>
     ensures { IfOk result (λ added. added ≡ true → read_map part.new ≡ read_map part.old ++ identity_mapping (read_declaration decl.now) ∷ []) }
 {
+    let name = decl.name.copy(alloc)?;
+    let image = own_image(alloc, decl)?;
+    part.push(name, image)
+}
+
+/// The image that the identity gives to a declared constant.
+fn own_image(alloc: Global, decl: &FlatDecl) -> Result<Image, Memory>
+    ensures { IfOk result (λ image. read_image image ≡ (identity_mapping (read_declaration decl.now)).image) }
+{
     let value = own_value(alloc, decl)?;
-    let class = decl.class.copy(alloc)?;
-    part.push(decl.name.copy(alloc)?, Image { class, value })
+    let Ok(class) = decl.class.copy(alloc) else {
+        drop(value);
+        return Err(Memory);
+    };
+    Ok(Image { class, value })
 }
 
 /// The value that the identity gives to a declared constant.

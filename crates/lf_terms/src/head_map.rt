@@ -192,8 +192,9 @@ impl HeadMap {
     fn push_copy(&mut self, alloc: Global, name: &QName, image: &Image) -> Result<(), Memory>
         ensures { OnOk result (read_map self.new ≡ read_map self.old ++ read_mapping (name.now, image.now) ∷ []) }
     {
-        let copied = image.copy(alloc)?;
-        match self.push(name.copy(alloc)?, copied) {
+        let name = name.copy(alloc)?;
+        let image = image.copy(alloc)?;
+        match self.push(name, image) {
             Ok(()) => Ok(()),
             // The names of a map differ, so this is want of memory.
             Err(fault) => {

@@ -51,6 +51,8 @@ impl MapPart {
         ensures { IfOk result (λ added. self.new ≡ (if added then self.old ++ (name, image) ∷ [] else self.old)) }
     {
         if name.theory != self.theory || self.images.contains_key(&name) {
+            drop(name);
+            drop(image);
             return Ok(false);
         }
         let previous = self.images.insert(name, image)?;

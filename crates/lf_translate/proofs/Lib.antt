@@ -3,3 +3,4 @@ pub mod TranslatedObjects
 pub mod TranslatedFamilies
 pub mod BareValues
 pub mod ListsLeft
+pub mod Made

@@ -8,6 +8,7 @@ ghost use Rattle.translation_meaning.specs.Translation.{family_image, family_of,
 ghost use Rattle.translation_meaning.specs.Translation as meant;
 ghost use Rattle.translation_meaning.specs.Unmapped.{unmapped_family, unmapped_kind};
 ghost use Rattle.term_trees.specs.Readings.{read_arguments, read_class, read_constant, read_family, read_kind, read_map, read_object, read_value};
+ghost use Rattle.term_trees.specs.declared.fam.Fam.TheVariants as families;
 ghost use Rattle.lf_translate.specs.Answers.{Answers};
 
 use crate::TranslateFault;
@@ -50,14 +51,8 @@ pub fn family_in_place(
     ensures { IfOk result (λ a. (p : AtomicFamily) → read_family a ≡ family_of (head_takes_all (family_image (read_constant constant.now) (read_class class.now) (read_value value.now)) (read_arguments spine)) p) }
 {
     match value {
-        Value::Same(other) => Ok(Fam::At {
-            head: other.copy(alloc)?,
-            spine,
-        }),
-        Value::Term(_) => Ok(Fam::At {
-            head: constant.copy(alloc)?,
-            spine,
-        }),
+        Value::Same(other) => constant_at(alloc, other, spine),
+        Value::Term(_) => constant_at(alloc, constant, spine),
         Value::Fam { binders, body } => match class {
             Class::Kind(kind) => Ok(filled(alloc, *binders, body, kind, spine)?),
             Class::Fam(_) => {
@@ -66,6 +61,16 @@ pub fn family_in_place(
             }
         },
     }
+}
+
+/// A constant with arguments.
+fn constant_at(alloc: Global, constant: &QName, spine: Spine) -> Result<Fam, Memory>
+    ensures { IfOk result (λ a. a ≡ families.At constant.now spine) }
+{
+    Ok(Fam::At {
+        head: constant.copy(alloc)?,
+        spine,
+    })
 }
 
 /// The body under so many binders, of a family value of that kind, with the arguments.
@@ -80,7 +85,7 @@ fn filled(alloc: Global, binders: u32, body: &Fam, kind: &Kind, spine: Spine) ->
     let mut domains = kind;
     for argument in spine.as_slice() {
         if left == 0 {
-            family = with_argument(family, argument.copy(alloc)?)?;
+            family = with_copied(alloc, family, argument)?;
         } else {
             match domains {
                 Kind::Pi(domain, further) => {
@@ -106,8 +111,36 @@ fn with_substituted(
 ) -> Result<Fam, Memory>
     ensures { IfOk result (λ a. read_family a ≡ substitute_family (read_object argument.now) (erasure.erase (read_family domain.now)) at (read_family family)) }
 {
+    let made = substituted(alloc, &family, at, argument, domain);
+    drop(family);
+    made
+}
+
+/// A copy of the family with an argument in place of a variable.
+fn substituted(
+    alloc: Global,
+    family: &Fam,
+    at: u32,
+    argument: &Obj,
+    domain: &Fam,
+) -> Result<Fam, Memory>
+    ensures { IfOk result (λ a. read_family a ≡ substitute_family (read_object argument.now) (erasure.erase (read_family domain.now)) at (read_family family.now)) }
+{
     let simple = erase(alloc, domain)?;
-    Ok(subst_fam(alloc, argument, &simple, at, &family)?)
+    let made = subst_fam(alloc, argument, &simple, at, family);
+    drop(simple);
+    made
+}
+
+/// The family with a copy of an argument on its spine.
+fn with_copied(alloc: Global, family: Fam, argument: &Obj) -> Result<Fam, Memory>
+    ensures { IfOk result (λ a. read_family a ≡ family_takes (read_family family) (read_object argument.now)) }
+{
+    let Ok(argument) = argument.copy(alloc) else {
+        drop(family);
+        return Err(Memory);
+    };
+    with_argument(family, argument)
 }
 
 /// The family with an argument on its spine. A Π takes none, and stays.
@@ -115,12 +148,21 @@ fn with_argument(family: Fam, argument: Obj) -> Result<Fam, Memory>
     ensures { IfOk result (λ a. read_family a ≡ family_takes (read_family family) (read_object argument)) }
 {
     match family {
-        Fam::At { head, mut spine } => {
-            spine.add(argument)?;
-            Ok(Fam::At { head, spine })
+        Fam::At { head, spine } => constant_with(head, spine, argument),
+        Fam::Pi(domain, body) => {
+            drop(argument);
+            Ok(Fam::Pi(domain, body))
         }
-        Fam::Pi(domain, body) => Ok(Fam::Pi(domain, body)),
     }
+}
+
+/// A constant with its arguments and one more.
+fn constant_with(head: QName, spine: Spine, argument: Obj) -> Result<Fam, Memory>
+    ensures { IfOk result (λ a. read_family a ≡ family_takes (read_family (families.At head spine)) (read_object argument)) }
+{
+    let mut spine = spine;
+    spine.add(argument)?;
+    Ok(Fam::At { head, spine })
 }
 
 /// The kind with its domains translated, as `translate_fam` does it.

@@ -37,10 +37,17 @@ fn add_translated(
     ensures { Answers (λ _. read_map composed.new) result (unmapped_image (read_map map.now) (read_image image.now)) (read_map composed.old ++ record { name = read_constant name.now; image = meant.translate_image (read_map map.now) (read_image image.now) } ∷ []) }
 {
     let image = translate_image(alloc, map, image)?;
-    match composed.push(name.copy(alloc)?, image) {
+    let Ok(name) = name.copy(alloc) else {
+        drop(image);
+        return Err(TranslateFault::Memory);
+    };
+    match composed.push(name, image) {
         Ok(()) => Ok(()),
         // The names of a map differ, so this is want of memory.
-        Err(_) => Err(TranslateFault::Memory),
+        Err(fault) => {
+            drop(fault);
+            Err(TranslateFault::Memory)
+        }
     }
 }
 

@@ -78,6 +78,7 @@ impl<'a> Reader<'a> {
         ensures less { OnOk result (length (left self.new) < length (left self.old)) }
     {
         if !self.sees(Sign::RParen) {
+            drop(inside);
             return Err(self.refuse_behind());
         }
         let closing = self.take(Sign::RParen);
@@ -101,6 +102,8 @@ impl<'a> Reader<'a> {
     {
         let closing = brace.closing();
         if !self.sees(closing) {
+            drop(name);
+            drop(domain);
             return Err(self.refuse_behind());
         }
         self.take(closing);

@@ -23,12 +23,30 @@ impl<'a> Reader<'a> {
         ensures less { OnOk result (length (left self.new) ≤ length (left self.old)) }
     {
         let mut stack = self.stack();
+        let tree = self.tree(&mut stack);
+        self.put_back(stack);
+        tree
+    }
+
+    /// The expression that the operand of the stack begins, which nothing else in the stack waits for.
+    fn tree(&mut self, stack: &mut Stack) -> Result<Expr, ReadFault>
+        ensures goes { (p : Purpose) → Goes (answer_on (stands stack.old (Ends p)) (left self.old)) result (λ e. answer_with (λ t. purpose_ends p (read_expr e) t.kind) (left self.new)) }
+        ensures less { OnOk result (length (left self.new) ≤ length (left self.old)) }
+    {
         'turns: loop {
-            if let Some(whole) = self.turn(&mut stack)? {
-                drop(mem::replace(&mut self.frames, stack.frames));
+            if let Some(whole) = self.turn(stack)? {
                 return Ok(whole.tree);
             }
         }
+    }
+
+    /// Keeps the room of the frames for the next expression.
+    fn put_back(&mut self, stack: Stack)
+        ensures { left self.new ≡ left self.old }
+    {
+        let Stack { frames, operand } = stack;
+        drop(operand);
+        drop(mem::replace(&mut self.frames, frames));
     }
 
     /// The stack before an expression.

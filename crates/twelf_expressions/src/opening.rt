@@ -77,8 +77,14 @@ impl<'a> Reader<'a> {
                 self.take(Sign::RBracket);
                 self.open(stack, Opening::Body(opening, Binding::Lam(name)))
             }
-            (_, Brace::Curly) => Err(self.refuse(Spot::Variable)),
-            (_, Brace::Square) => Err(self.refuse(Spot::Elsewhere)),
+            (_, Brace::Curly) => {
+                drop(name);
+                Err(self.refuse(Spot::Variable))
+            }
+            (_, Brace::Square) => {
+                drop(name);
+                Err(self.refuse(Spot::Elsewhere))
+            }
         }
     }
 

@@ -4,7 +4,7 @@ ghost use Rattle.text_meaning.specs.Grammar as grammar;
 ghost use Rattle.text_meaning.specs.Parsing as parsing;
 ghost use Rattle.text_meaning.specs.Trees.{ArrowExpr, ThenArg};
 ghost use Rattle.mmt_syntax.specs.Readings.{expressions_of, read_arguments, read_expr, read_node, read_span};
-ghost use Rattle.twelf_expressions.specs.Frames.{IsBody, IsSpelled, read_atoms, read_binding, read_row};
+ghost use Rattle.twelf_expressions.specs.Frames.{IsBody, IsSpelled, read_atoms, read_binding, read_row, read_some_atoms};
 
 use crate::frame::{Atoms, Binding, Operand, Row, Spelled};
 use lf_terms::{Memory, Span};
@@ -60,8 +60,7 @@ pub(crate) fn in_row(alloc: Global, row: Row, operand: Spelled) -> Result<Spelle
         Row::AfterArrow => Ok(operand),
         Row::AfterBack(so_far) => {
             let span = join(so_far.span, operand.span);
-            let body = Box::new(alloc, so_far.tree)?;
-            let dom = Box::new(alloc, operand.tree)?;
+            let (body, dom) = boxed(alloc, so_far.tree, operand.tree)?;
             Ok(spelled(span, Node::Back { body, dom }))
         }
     }
@@ -142,9 +141,47 @@ pub(crate) fn arrow(alloc: Global, dom: Spelled, body: Spelled) -> Result<Spelle
         (ArrowExpr (grammar.join (read_span dom.span) (read_span body.span)) (read_expr dom.tree) (read_expr body.tree))) }
 {
     let span = join(dom.span, body.span);
-    let dom = Box::new(alloc, dom.tree)?;
-    let body = Box::new(alloc, body.tree)?;
+    let (dom, body) = boxed(alloc, dom.tree, body.tree)?;
     Ok(spelled(span, Node::Arrow { dom, body }))
+}
+
+/// Two expressions, each in a box.
+fn boxed(alloc: Global, first: Expr, second: Expr) -> Result<(Box<Expr>, Box<Expr>), Memory>
+    ensures { IfOk result (λ both. (both.0.value ≡ first) × (both.1.value ≡ second)) }
+{
+    let Ok(first) = Box::new(alloc, first) else {
+        drop(second);
+        return Err(Memory);
+    };
+    let second = Box::new(alloc, second)?;
+    Ok((first, second))
+}
+
+/// An atom behind the atoms so far, or by itself. It takes this span.
+fn with_atom(alloc: Global, atoms: Option<Atoms>, span: Span, atom: Expr) -> Result<Atoms, Memory>
+    ensures { IfOk result (λ all. read_some_atoms all ≡ parsing.add_atom (read_atoms atoms) (read_span span) (read_expr atom)) }
+{
+    match atoms {
+        None => Ok(Atoms {
+            span,
+            head: atom,
+            args: Exprs::new(alloc),
+        }),
+        Some(atoms) => longer(atoms, span, atom),
+    }
+}
+
+/// Atoms and one more, which takes this span.
+fn longer(atoms: Atoms, span: Span, atom: Expr) -> Result<Atoms, Memory>
+    ensures { IfOk result (λ all. read_some_atoms all ≡ parsing.add_atom (read_some_atoms atoms) (read_span span) (read_expr atom)) }
+{
+    let span = join(atoms.span, span);
+    let head = atoms.head;
+    let Ok(args) = with_argument(atoms.args, atom) else {
+        drop(head);
+        return Err(Memory);
+    };
+    Ok(Atoms { span, head, args })
 }
 
 impl Operand {
@@ -154,26 +191,9 @@ impl Operand {
         ensures row { OnOk result (self.new.row ≡ self.old.row) }
         ensures level { OnOk result (self.new.level.n ≡ self.old.level.n) }
     {
-        match self.atoms.take() {
-            None => {
-                let args = Exprs::new(alloc);
-                self.atoms = Some(Atoms {
-                    span,
-                    head: atom,
-                    args,
-                });
-                Ok(())
-            }
-            Some(atoms) => {
-                let args = with_argument(atoms.args, atom)?;
-                self.atoms = Some(Atoms {
-                    span: join(atoms.span, span),
-                    head: atoms.head,
-                    args,
-                });
-                Ok(())
-            }
-        }
+        let atoms = with_atom(alloc, self.atoms.take(), span, atom)?;
+        drop(mem::replace(&mut self.atoms, Some(atoms)));
+        Ok(())
     }
 
     /// Adds the atom that is this node.

@@ -18,7 +18,7 @@ pushed (Err fault) old new pair mapping e h = tt
 pub returns : goal.returns
 returns c =
     let decl = c.args.decl.now in
-    let pair : QName × Image = (c.in_ok-copy.field-0, record { class = c.in_ok-class.class; value = c.in_ok-value.value }) in
+    let pair : QName × Image = (c.in_ok-name.name, c.in_ok-image.image) in
     let is : read_mapping pair ≡ identity_mapping (read_declaration decl) =
-    (λ i. record { name = read_constant (c.in_ok-copy.ensures i); image = record { class = c.in_ok-class.ensures i; value = c.in_ok-value.ensures i } }) in
+    (λ i. record { name = read_constant (c.in_ok-name.ensures i); image = c.in_ok-image.ensures i }) in
     pushed c.push.result c.args.part.now c.push.new.self pair (identity_mapping (read_declaration decl)) is c.push.ensures
