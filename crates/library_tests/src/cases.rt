@@ -91,24 +91,29 @@ fn accept_face(
 /// The diamond: B and C include A, and D both of them. Two of them have a constant `k`.
 pub fn diamond(alloc: Global) -> Result<Faces, Fail> {
     let mut faces = Faces::new(alloc);
-    accept(alloc, &mut faces, "A", "", "A.a : type")?;
-    accept(alloc, &mut faces, "B", "A", "B.k : type\nB.b : type")?;
-    accept(
-        alloc,
-        &mut faces,
-        "C",
-        "A",
-        "C.k : type\nC.A.a : type\nC.B.q : type",
-    )?;
-    let own = "D.d : type\nD.B.b : type\nD.A.z : type\nD.B.q : type";
-    accept(alloc, &mut faces, "D", "B C", own)?;
+    let b = "B.k : type\nB.b : type";
+    let c = "C.k : type\nC.A.a : type\nC.B.q : type";
+    let d = "D.d : type\nD.B.b : type\nD.A.z : type\nD.B.q : type";
+    accept_diamond(alloc, &mut faces, "A.a : type", (b, c, d))?;
     Ok(faces)
+}
+
+/// Accepts the theories of a diamond with these own constants.
+fn accept_diamond(
+    alloc: Global,
+    faces: &mut Faces,
+    a: &str,
+    (b, c, d): (&str, &str, &str),
+) -> Result<(), Fail> {
+    accept(alloc, faces, "A", "", a)?;
+    accept(alloc, faces, "B", "A", b)?;
+    accept(alloc, faces, "C", "A", c)?;
+    accept(alloc, faces, "D", "B C", d)
 }
 
 /// The diamond of the worked case: D is being built over B and C. In B and in C there is a constant `k` too, or none.
 pub fn worked_diamond(alloc: Global, second: bool) -> Result<Faces, Fail> {
-    let mut faces = Faces::new(alloc);
-    let (b, c, d) = if second {
+    let own = if second {
         (
             "B.b : A.a\nB.k : type",
             "C.c : A.a\nC.k : type",
@@ -117,21 +122,25 @@ pub fn worked_diamond(alloc: Global, second: bool) -> Result<Faces, Fail> {
     } else {
         ("B.b : A.a", "C.c : A.a", "D.d : A.a")
     };
-    accept(alloc, &mut faces, "A", "", "A.a : type")?;
-    accept(alloc, &mut faces, "B", "A", b)?;
-    accept(alloc, &mut faces, "C", "A", c)?;
-    accept(alloc, &mut faces, "D", "B C", d)?;
+    let mut faces = Faces::new(alloc);
+    accept_diamond(alloc, &mut faces, "A.a : type", own)?;
     Ok(faces)
 }
 
 /// A chain of 1,000 theories, each of which includes the last.
 pub fn long_chain(alloc: Global) -> Result<Faces, Fail> {
     let mut faces = Faces::new(alloc);
-    accept(alloc, &mut faces, "T0", "", "")?;
-    for before in 0..999 {
-        add_link(alloc, &mut faces, before)?;
-    }
+    accept_chain(alloc, &mut faces)?;
     Ok(faces)
+}
+
+/// Accepts the theories of a chain.
+fn accept_chain(alloc: Global, faces: &mut Faces) -> Result<(), Fail> {
+    accept(alloc, faces, "T0", "", "")?;
+    for before in 0..999 {
+        add_link(alloc, faces, before)?;
+    }
+    Ok(())
 }
 
 /// Accepts the theory that includes the one with this number.
@@ -155,13 +164,18 @@ fn add_ray(alloc: Global, faces: &mut Faces, all: &mut String, number: usize) ->
 /// Theories from T0 on, as many as are wanted, with a constant `c` each, and one, U, that includes all of them.
 pub fn star(alloc: Global, count: usize) -> Result<Faces, Fail> {
     let mut faces = Faces::new(alloc);
+    accept_star(alloc, &mut faces, count)?;
+    Ok(faces)
+}
+
+/// Accepts the theories of a star.
+fn accept_star(alloc: Global, faces: &mut Faces, count: usize) -> Result<(), Fail> {
     let mut all = String::new(alloc);
     for i in 0..count {
-        add_ray(alloc, &mut faces, &mut all, i)?;
+        add_ray(alloc, faces, &mut all, i)?;
     }
     let includes = names(alloc, all.as_str())?;
-    accept_over(alloc, &mut faces, "U", includes, "U.c : type")?;
-    Ok(faces)
+    accept_over(alloc, faces, "U", includes, "U.c : type")
 }
 
 /// Whether the names are those of the text.

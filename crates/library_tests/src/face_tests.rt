@@ -58,20 +58,32 @@ fn kinds(alloc: Global, faces: &Faces, name: &str) -> Result<(bool, bool, bool),
     Ok((is_there, is_view, is_theory))
 }
 
+/// Whether the view V and the theory D are found as what they are.
+fn are_found(alloc: Global, faces: &Faces) -> Result<bool, Fail> {
+    let view = kinds(alloc, faces, "V")?;
+    let theory = kinds(alloc, faces, "D")?;
+    Ok(view == (true, true, false) && theory == (true, false, true))
+}
+
+/// Whether the refused module R and an absent one are found as neither.
+fn are_not_found(alloc: Global, faces: &Faces) -> Result<bool, Fail> {
+    let refused_module = kinds(alloc, faces, "R")?;
+    let absent = kinds(alloc, faces, "E")?;
+    Ok(refused_module == (true, false, false) && absent == (false, false, false))
+}
+
 #[test]
 fn modules_are_found_by_kind(rt: HostRuntime) -> Result<(), Fail> {
     let alloc = rt.alloc();
     let mut faces = diamond(alloc)?;
     let once = added_once(alloc, &mut faces)?;
-    let view = kinds(alloc, &faces, "V")?;
-    let theory = kinds(alloc, &faces, "D")?;
-    let refused_module = kinds(alloc, &faces, "R")?;
-    let absent = kinds(alloc, &faces, "E")?;
+    let found = are_found(alloc, &faces)?;
+    let others = are_not_found(alloc, &faces)?;
     let count = faces.len();
     drop(faces);
     assert!(rt; once && count == 6);
-    assert!(rt; view == (true, true, false) && theory == (true, false, true));
-    assert!(rt; refused_module == (true, false, false) && absent == (false, false, false));
+    assert!(rt; found);
+    assert!(rt; others);
     Ok(())
 }
 

@@ -160,16 +160,19 @@ fn among_many(alloc: Global, count: usize, written: &str) -> Result<String, Fail
     among(alloc, &own, &vars, written)
 }
 
+/// Paths, and what they stand for among a thousand variables and constants.
+const AMONG_MANY: &[(&str, &str)] = &[
+    ("x0", "#999"),
+    ("x999", "#0"),
+    ("c0", "E.c0"),
+    ("c999", "E.c999"),
+    ("c1000", "unknown"),
+];
+
 #[test]
 fn paths_among_many(rt: HostRuntime) -> Result<(), Fail> {
     let alloc = rt.alloc();
-    for (written, wanted) in [
-        ("x0", "#999"),
-        ("x999", "#0"),
-        ("c0", "E.c0"),
-        ("c999", "E.c999"),
-        ("c1000", "unknown"),
-    ] {
+    for &(written, wanted) in AMONG_MANY {
         let text = among_many(alloc, 1_000, written)?;
         assert!(rt; text.as_str() == wanted, "{written}");
     }

@@ -157,17 +157,20 @@ fn is_family(alloc: Global, found: &Fam, wanted: &str) -> Result<bool, Fail> {
     Ok(same_fam(found, &wanted))
 }
 
+/// Heads with their arguments, and the families that they synthesise.
+const SYNTHESISED: &[((&str, &str), &str)] = &[
+    (("cons", "n z"), "vec n -> vec (s n)"),
+    (("z", ""), "nat"),
+    (("vec", ""), "level"),
+    (("s", "(nil z)"), "not-a-function 2 2"),
+];
+
 #[test]
 fn a_head_synthesises_its_family(rt: HostRuntime) -> Result<(), Fail> {
     let alloc = rt.alloc();
     let sig = signature(alloc, VECTORS)?;
     let ctx = context(alloc, CONTEXT)?;
-    for (applied, wanted) in [
-        (("cons", "n z"), "vec n -> vec (s n)"),
-        (("z", ""), "nat"),
-        (("vec", ""), "level"),
-        (("s", "(nil z)"), "not-a-function 2 2"),
-    ] {
+    for &(applied, wanted) in SYNTHESISED {
         assert!(rt;
             synthesises(alloc, &sig, &ctx, applied, wanted)?,
             "{wanted}"

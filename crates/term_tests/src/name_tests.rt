@@ -5,33 +5,39 @@ use std::alloc::Global;
 use std::collections::{BTreeSet, HashSet};
 use std::test::Fail;
 
+/// Texts that are names.
+const IDENTIFIERS: &[&str] = &[
+    "nat",
+    "a->b",
+    "type'",
+    "=>",
+    "__",
+    "x'1",
+    "\u{e9}\u{3bb}",
+    "#",
+    "\u{8}",
+];
+
 #[test]
 fn identifiers_are_names(rt: HostRuntime) -> Result<(), Fail> {
     let alloc = rt.alloc();
-    for text in [
-        "nat",
-        "a->b",
-        "type'",
-        "=>",
-        "__",
-        "x'1",
-        "\u{e9}\u{3bb}",
-        "#",
-        "\u{8}",
-    ] {
+    for &text in IDENTIFIERS {
         let name = Name::new(alloc, text)?;
         assert_eq!(rt; name.copy(alloc)?.as_str(), text);
     }
     Ok(())
 }
 
+/// Texts that are no names.
+const OTHER_TEXTS: &[&str] = &[
+    "", "type", "->", "<-", "=", "_", "a.b", "a b", "a\t", "\r", "\u{b}", "\u{c}", "a:", "a(", ")",
+    "[", "]", "{", "}", "%a", "\"", "a\n",
+];
+
 #[test]
 fn other_texts_are_no_names(rt: HostRuntime) {
     let alloc = rt.alloc();
-    for text in [
-        "", "type", "->", "<-", "=", "_", "a.b", "a b", "a\t", "\r", "\u{b}", "\u{c}", "a:", "a(",
-        ")", "[", "]", "{", "}", "%a", "\"", "a\n",
-    ] {
+    for &text in OTHER_TEXTS {
         assert_eq!(rt;
             Name::new(alloc, text).err(),
             Some(NameFault::NotAName),

@@ -66,19 +66,22 @@ Monoid.e : FOL.i
 Monoid.left : FOL.pf (FOL.all ([x] FOL.eq (Monoid.mag.op Monoid.e x) x))
 Monoid.right : {x:FOL.i} FOL.pf (FOL.eq (Monoid.mag.op x Monoid.e) x)";
 
+/// Signatures, and the answers about them.
+const WHOLE: &[(&str, &str)] = &[
+    (MONOID, "ok"),
+    ("a : type\nf : a -> a\nc : a = f f", "2 mismatch 1 2"),
+    (
+        "a : type\nf : (a -> a) -> a\nc : a = f f",
+        "2 not-canonical 1 2",
+    ),
+    ("a : type\nb : q\nc : r", "1 unknown-constant 0"),
+    ("c : a\na : type", "0 unknown-constant 0"),
+    ("a : a -> type", "0 unknown-constant 0 0"),
+];
+
 #[test]
 fn whole_signatures(rt: HostRuntime) -> Result<(), Fail> {
-    for (text, wanted) in [
-        (MONOID, "ok"),
-        ("a : type\nf : a -> a\nc : a = f f", "2 mismatch 1 2"),
-        (
-            "a : type\nf : (a -> a) -> a\nc : a = f f",
-            "2 not-canonical 1 2",
-        ),
-        ("a : type\nb : q\nc : r", "1 unknown-constant 0"),
-        ("c : a\na : type", "0 unknown-constant 0"),
-        ("a : a -> type", "0 unknown-constant 0 0"),
-    ] {
+    for &(text, wanted) in WHOLE {
         assert!(rt; is_answered(rt.alloc(), text, wanted)?, "{text}");
     }
     Ok(())
@@ -157,17 +160,20 @@ of-ones : eq (s z) (s z) = step z z (refl z) ? ok
 of-another : eq z (s z) = refl z ? mismatch 1
 from-another : eq z (s z) = sym (s z) z (refl z) ? mismatch 1 4";
 
+/// Signatures, and lines behind them.
+const BEHIND: &[(&str, &str)] = &[
+    (VECTORS, LISTS),
+    (VECTORS, CLASSES),
+    (VECTORS, OBJECTS),
+    (VECTORS, TWO_FAULTS),
+    (VECTORS, FAMILIES),
+    (DEFINED, MENTIONS),
+    (EQUALITY, PROOFS),
+];
+
 #[test]
 fn declarations_behind_others(rt: HostRuntime) -> Result<(), Fail> {
-    for (text, lines) in [
-        (VECTORS, LISTS),
-        (VECTORS, CLASSES),
-        (VECTORS, OBJECTS),
-        (VECTORS, TWO_FAULTS),
-        (VECTORS, FAMILIES),
-        (DEFINED, MENTIONS),
-        (EQUALITY, PROOFS),
-    ] {
+    for &(text, lines) in BEHIND {
         assert_eq!(rt; first_wrong(rt.alloc(), text, lines)?, None);
     }
     Ok(())

@@ -15,27 +15,30 @@ fn raises(alloc: Global, text: &str, by: u32, from: u32, wanted: &str) -> Result
     Ok(same(&found, &wanted))
 }
 
+/// Terms, how far and from which variable on they are raised, and what they become.
+const RAISED: &[(&str, u32, u32, &str)] = &[
+    ("g #0 #1", 2, 0, "g #2 #3"),
+    ("[x] g x #1 #2", 5, 1, "[x] g x #1 #7"),
+    ("#0 ([x] #1 x)", 1, 0, "#1 ([x] #2 x)"),
+    ("[x] g x #1", u32::MAX - 1, 0, "[x] g x #4294967295"),
+    ("g| #0|", 1, 0, "g| #1|"),
+    ("|[x] |g x #500", 1, 0, "|[x] |g x #501"),
+    ("family {x:a #0} a x #1", 2, 0, "family {x:a #2} a x #3"),
+    ("family b| #0|", 1, 0, "family b| #1|"),
+    ("family |{x:a} |b x #500", 1, 0, "family |{x:a} |b x #501"),
+    ("kind {x:a #0 #1} type", 2, 1, "kind {x:a #0 #3} type"),
+    ("kind {x:b| #0|} type", 1, 0, "kind {x:b| #1|} type"),
+    (
+        "kind |{x:a} |b #500 -> type",
+        1,
+        0,
+        "kind |{x:a} |b #501 -> type",
+    ),
+];
+
 #[test]
 fn indices_are_raised_from_a_place(rt: HostRuntime) -> Result<(), Fail> {
-    for (text, by, from, wanted) in [
-        ("g #0 #1", 2, 0, "g #2 #3"),
-        ("[x] g x #1 #2", 5, 1, "[x] g x #1 #7"),
-        ("#0 ([x] #1 x)", 1, 0, "#1 ([x] #2 x)"),
-        ("[x] g x #1", u32::MAX - 1, 0, "[x] g x #4294967295"),
-        ("g| #0|", 1, 0, "g| #1|"),
-        ("|[x] |g x #500", 1, 0, "|[x] |g x #501"),
-        ("family {x:a #0} a x #1", 2, 0, "family {x:a #2} a x #3"),
-        ("family b| #0|", 1, 0, "family b| #1|"),
-        ("family |{x:a} |b x #500", 1, 0, "family |{x:a} |b x #501"),
-        ("kind {x:a #0 #1} type", 2, 1, "kind {x:a #0 #3} type"),
-        ("kind {x:b| #0|} type", 1, 0, "kind {x:b| #1|} type"),
-        (
-            "kind |{x:a} |b #500 -> type",
-            1,
-            0,
-            "kind |{x:a} |b #501 -> type",
-        ),
-    ] {
+    for &(text, by, from, wanted) in RAISED {
         assert!(rt; raises(rt.alloc(), text, by, from, wanted)?, "{text}");
     }
     Ok(())
@@ -101,14 +104,17 @@ fn same_texts(alloc: Global, text: &str, other: &str) -> Result<bool, Fail> {
     Ok(same(&term, &other))
 }
 
+/// Texts of the same terms.
+const SAME_TEXTS: &[(&str, &str)] = &[
+    ("[x] g x #4", "[z] (g #0 #4)"),
+    ("[x] [y] x (g y)", "[a] [b] #1 (g #0)"),
+    ("T.s.c z", "T.s.c t.z"),
+    ("family a -> b -> c", "family {x:a} ({y:b} c)"),
+];
+
 #[test]
 fn texts_are_read_as_terms(rt: HostRuntime) -> Result<(), Fail> {
-    for (text, other) in [
-        ("[x] g x #4", "[z] (g #0 #4)"),
-        ("[x] [y] x (g y)", "[a] [b] #1 (g #0)"),
-        ("T.s.c z", "T.s.c t.z"),
-        ("family a -> b -> c", "family {x:a} ({y:b} c)"),
-    ] {
+    for &(text, other) in SAME_TEXTS {
         assert!(rt; same_texts(rt.alloc(), text, other)?, "{text}");
     }
     Ok(())

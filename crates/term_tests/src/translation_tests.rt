@@ -22,30 +22,33 @@ fn translates(alloc: Global, map: &HeadMap, text: &str, wanted: &str) -> Result<
     Ok(same(&found, &wanted))
 }
 
+/// Terms, and what the view makes of them.
+const TRANSLATED: &[(&str, &str)] = &[
+    ("c", "T.d"),
+    ("f (f c)", "T.g (T.g T.d T.d) (T.g T.d T.d)"),
+    ("[x] f x", "[x] T.g x x"),
+    ("[x] h x (f x) c", "[x] T.h x (T.g x x) T.d"),
+    ("h| c|", "T.h| T.d|"),
+    ("|[x] |f x", "|[x] |T.g x x"),
+    ("family i", "family T.j"),
+    ("family p c", "family T.q T.d T.d"),
+    ("family p (f c) c", "family T.q (T.g T.d T.d) T.d T.d"),
+    (
+        "family {x:i} p x (f x)",
+        "family {x:T.j} T.q x T.d (T.g x x)",
+    ),
+    ("family p c| c|", "family T.q T.d T.d| T.d|"),
+    (
+        "kind |{x:i} |p x -> type",
+        "kind |{x:T.j} |T.q x T.d -> type",
+    ),
+];
+
 #[test]
 fn terms_are_translated(rt: HostRuntime) -> Result<(), Fail> {
     let alloc = rt.alloc();
     let map = map(alloc, VIEW)?;
-    for (text, wanted) in [
-        ("c", "T.d"),
-        ("f (f c)", "T.g (T.g T.d T.d) (T.g T.d T.d)"),
-        ("[x] f x", "[x] T.g x x"),
-        ("[x] h x (f x) c", "[x] T.h x (T.g x x) T.d"),
-        ("h| c|", "T.h| T.d|"),
-        ("|[x] |f x", "|[x] |T.g x x"),
-        ("family i", "family T.j"),
-        ("family p c", "family T.q T.d T.d"),
-        ("family p (f c) c", "family T.q (T.g T.d T.d) T.d T.d"),
-        (
-            "family {x:i} p x (f x)",
-            "family {x:T.j} T.q x T.d (T.g x x)",
-        ),
-        ("family p c| c|", "family T.q T.d T.d| T.d|"),
-        (
-            "kind |{x:i} |p x -> type",
-            "kind |{x:T.j} |T.q x T.d -> type",
-        ),
-    ] {
+    for &(text, wanted) in TRANSLATED {
         assert!(rt; translates(alloc, &map, text, wanted)?, "{text}");
     }
     Ok(())
@@ -67,21 +70,27 @@ fn value_translated(alloc: Global, text: &str, wanted: &str) -> Result<bool, Fai
     Ok(same_value(&found, &wanted))
 }
 
+/// Values, and what the view makes of them.
+const VALUES: &[(&str, &str)] = &[
+    ("same c", "same T.d"),
+    ("same f", "[x] T.g x x"),
+    ("f c", "T.g T.d T.d"),
+    ("family x. p x", "family x. T.q x T.d"),
+];
+
+/// Classes, and what the view makes of them.
+const CLASSES: &[(&str, &str)] = &[
+    ("i -> i", "T.j -> T.j"),
+    ("{x:i} p x -> type", "{x:T.j} T.q x T.d -> type"),
+];
+
 #[test]
 fn classes_and_values_are_translated(rt: HostRuntime) -> Result<(), Fail> {
     let alloc = rt.alloc();
-    for (text, wanted) in [
-        ("i -> i", "T.j -> T.j"),
-        ("{x:i} p x -> type", "{x:T.j} T.q x T.d -> type"),
-    ] {
+    for &(text, wanted) in CLASSES {
         assert!(rt; class_translated(alloc, text, wanted)?, "{text}");
     }
-    for (text, wanted) in [
-        ("same c", "same T.d"),
-        ("same f", "[x] T.g x x"),
-        ("f c", "T.g T.d T.d"),
-        ("family x. p x", "family x. T.q x T.d"),
-    ] {
+    for &(text, wanted) in VALUES {
         assert!(rt; value_translated(alloc, text, wanted)?, "{text}");
     }
     Ok(())
@@ -118,22 +127,28 @@ fn value_unmapped(alloc: Global, text: &str, wanted: &str) -> Result<bool, Fail>
     Ok(lacks(&found, &wanted))
 }
 
+/// Values, and the first constant of each that has no image.
+const UNMAPPED_VALUES: &[(&str, &str)] = &[
+    ("same u", "u"),
+    ("h c u v", "u"),
+    ("u (h v)", "u"),
+    ("family x. p u v", "u"),
+];
+
+/// Classes, and the first constant of each that has no image.
+const UNMAPPED_CLASSES: &[(&str, &str)] = &[
+    ("u -> v", "u"),
+    ("p c (h c v w)", "v"),
+    ("{x:p c u} v", "u"),
+];
+
 #[test]
 fn the_first_constant_without_an_image(rt: HostRuntime) -> Result<(), Fail> {
     let alloc = rt.alloc();
-    for (text, wanted) in [
-        ("u -> v", "u"),
-        ("p c (h c v w)", "v"),
-        ("{x:p c u} v", "u"),
-    ] {
+    for &(text, wanted) in UNMAPPED_CLASSES {
         assert!(rt; class_unmapped(alloc, text, wanted)?, "{text}");
     }
-    for (text, wanted) in [
-        ("same u", "u"),
-        ("h c u v", "u"),
-        ("u (h v)", "u"),
-        ("family x. p u v", "u"),
-    ] {
+    for &(text, wanted) in UNMAPPED_VALUES {
         assert!(rt; value_unmapped(alloc, text, wanted)?, "{text}");
     }
     Ok(())
@@ -193,14 +208,17 @@ fn composition_unmapped(alloc: Global, first: &str, wanted: &str) -> Result<bool
     Ok(lacks(&found, &wanted))
 }
 
+/// Maps, and the first constant of each that the second map has no image of.
+const UNMAPPED_MAPS: &[(&str, &str)] = &[
+    ("a : u = same v", "u"),
+    ("a : b = same v", "v"),
+    ("a : b = same v\nk : u = same f", "v"),
+];
+
 #[test]
 fn a_class_is_composed_before_its_value(rt: HostRuntime) -> Result<(), Fail> {
     let alloc = rt.alloc();
-    for (first, wanted) in [
-        ("a : u = same v", "u"),
-        ("a : b = same v", "v"),
-        ("a : b = same v\nk : u = same f", "v"),
-    ] {
+    for &(first, wanted) in UNMAPPED_MAPS {
         assert!(rt; composition_unmapped(alloc, first, wanted)?, "{first}");
     }
     Ok(())
@@ -214,18 +232,22 @@ fn difference(alloc: Global, first: &str, second: &str) -> Result<Option<usize>,
     Ok(differ(&first, &second, &names))
 }
 
+const NAMED: &str = "a : type = same b\nk : b -> b = same k";
+
+/// Two maps, and the first declaration on which they differ.
+const DIFFERENT: &[(&str, &str, Option<usize>)] = &[
+    (NAMED, NAMED, None),
+    (NAMED, "k : b -> b = same k\na : c = same b", None),
+    (NAMED, "a : type = same b\nk : b -> b = [x] k x", Some(1)),
+    (NAMED, "a : type = same b", Some(1)),
+    ("k : b -> b = same k", NAMED, Some(0)),
+    (NAMED, "a : type = same c\nk : b -> b = [x] k x", Some(0)),
+];
+
 #[test]
 fn maps_differ_at_a_first_declaration(rt: HostRuntime) -> Result<(), Fail> {
     let alloc = rt.alloc();
-    let named = "a : type = same b\nk : b -> b = same k";
-    for (first, second, wanted) in [
-        (named, named, None),
-        (named, "k : b -> b = same k\na : c = same b", None),
-        (named, "a : type = same b\nk : b -> b = [x] k x", Some(1)),
-        (named, "a : type = same b", Some(1)),
-        ("k : b -> b = same k", named, Some(0)),
-        (named, "a : type = same c\nk : b -> b = [x] k x", Some(0)),
-    ] {
+    for &(first, second, wanted) in DIFFERENT {
         assert_eq!(rt; difference(alloc, first, second)?, wanted, "{second}");
     }
     Ok(())

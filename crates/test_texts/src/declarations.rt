@@ -21,13 +21,14 @@ fn defined(alloc: Global, text: &str) -> Result<(Box<Class>, Option<Box<Value>>)
 pub fn signature(alloc: Global, text: &str) -> Result<Box<FlatSig>, Fail> {
     let mut sig = Box::new(alloc, FlatSig::new(alloc))?;
     for line in text.lines() {
-        let (name, rest) = line.split_once(" : ").ok_or("no class")?;
-        declare(alloc, &mut sig, name, rest)?;
+        declare(alloc, &mut sig, line)?;
     }
     Ok(sig)
 }
 
-fn declare(alloc: Global, sig: &mut FlatSig, name: &str, rest: &str) -> Result<(), Fail> {
+/// Adds the declaration of a line.
+fn declare(alloc: Global, sig: &mut FlatSig, line: &str) -> Result<(), Fail> {
+    let (name, rest) = line.split_once(" : ").ok_or("no class")?;
     let decl = declaration(alloc, name, rest)?;
     Ok(sig.push(Box::into_inner(decl))?)
 }
@@ -44,11 +45,16 @@ fn declaration(alloc: Global, name: &str, rest: &str) -> Result<Box<FlatDecl>, F
 pub fn map(alloc: Global, text: &str) -> Result<Box<HeadMap>, Fail> {
     let mut map = Box::new(alloc, HeadMap::new(alloc))?;
     for line in text.lines() {
-        let (name, rest) = line.split_once(" : ").ok_or("no class")?;
-        let (written, given) = rest.split_once(" = ").ok_or("no value")?;
-        add_image(alloc, &mut map, name, written, given)?;
+        add_line(alloc, &mut map, line)?;
     }
     Ok(map)
+}
+
+/// Adds the image of a line.
+fn add_line(alloc: Global, map: &mut HeadMap, line: &str) -> Result<(), Fail> {
+    let (name, rest) = line.split_once(" : ").ok_or("no class")?;
+    let (written, given) = rest.split_once(" = ").ok_or("no value")?;
+    add_image(alloc, map, name, written, given)
 }
 
 fn add_image(
@@ -68,13 +74,19 @@ fn add_image(
 
 /// The context of a text: `x : A` is a variable with its family, among the variables before it.
 pub fn context(alloc: Global, text: &str) -> Result<Box<Ctx>, Fail> {
-    let mut ctx = Box::new(alloc, Ctx::new(alloc))?;
     let mut names = String::new(alloc);
+    let mut ctx = Box::new(alloc, Ctx::new(alloc))?;
     for line in text.lines() {
-        let (name, written) = line.split_once(" : ").ok_or("no family")?;
-        ctx.add(Box::into_inner(family(alloc, names.as_str(), written)?))?;
-        names.push_str(" ")?;
-        names.push_str(name)?;
+        add_variable(alloc, &mut ctx, &mut names, line)?;
     }
     Ok(ctx)
+}
+
+/// Adds the variable of a line, and its name to those before it.
+fn add_variable(alloc: Global, ctx: &mut Ctx, names: &mut String, line: &str) -> Result<(), Fail> {
+    let (name, written) = line.split_once(" : ").ok_or("no family")?;
+    let family = family(alloc, names.as_str(), written)?;
+    ctx.add(Box::into_inner(family))?;
+    names.push_str(" ")?;
+    Ok(names.push_str(name)?)
 }
