@@ -53,7 +53,25 @@ fn later_passes(
     ensures { Links read_map result (laws.later_passes (read_setting setting.now) (read_all_assigned assigned.now) (read_map front)) }
 {
     let mut along = front;
-    add_own_images(alloc, setting, assigned, &mut along)?;
-    shared_tests(alloc, setting, &along, assigned)?;
-    Ok(along)
+    match own_passes(alloc, setting, assigned, &mut along) {
+        Ok(()) => Ok(along),
+        Err(fault) => {
+            drop(along);
+            Err(fault)
+        }
+    }
+}
+
+/// The same two passes, which add to the map.
+fn own_passes(
+    alloc: Global,
+    setting: &Setting<'_>,
+    assigned: &[Assigned<'_>],
+    along: &mut HeadMap,
+) -> Result<(), LinkFault>
+    requires { IsSettled (read_setting setting.now) }
+    ensures { Links (λ _. read_map along.new) result (laws.later_passes (read_setting setting.now) (read_all_assigned assigned.now) (read_map along.old)) }
+{
+    add_own_images(alloc, setting, assigned, along)?;
+    shared_tests(alloc, setting, along, assigned)
 }

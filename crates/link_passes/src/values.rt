@@ -1,6 +1,6 @@
 //! The values of the domain's own constants.
 ghost use Rattle.std.specs.Prelude.{◌≡◌, IfOk};
-ghost use Rattle.expansion_meaning.specs.Rules.{DefinitionClash};
+ghost use Rattle.expansion_meaning.specs.Rules.{DefinitionClash, MorphismsDisagree};
 ghost use Rattle.expansion_meaning.specs.Expansion.{span_of};
 ghost use Rattle.link_meaning.specs.Assignments.{label_along};
 ghost use Rattle.link_meaning.specs.Passes as passes;
@@ -121,7 +121,9 @@ fn shared_value(
         theory: structure.domain.copy(alloc)?,
         path: Path::of(alloc, rest.first, rest.more)?,
     };
-    match by.map.get(&constant) {
+    let found = by.map.get(&constant);
+    drop(constant);
+    match found {
         Some(image) => Ok(image.value.copy(alloc)?),
         None => Err(refused(alloc, setting, target, first, Rule::MorphismsDisagree)),
     }
@@ -184,7 +186,28 @@ fn value_by_structure(
 ) -> Result<Value, LinkFault>
     ensures { Links read_value result (value_if_definition (read_setting setting.now) (read_map along.now) target.now (read_span first) (read_declaration decl.now) (read_value value)) }
 {
-    let holds = is_definition(alloc, along, decl, &value)?;
+    match shared_value_test(alloc, setting, along, target, first, decl, &value) {
+        Ok(()) => Ok(value),
+        Err(fault) => {
+            drop(value);
+            Err(fault)
+        }
+    }
+}
+
+/// The value that a sharing link gives is the translated definition, where the constant has one.
+fn shared_value_test(
+    alloc: Global,
+    setting: &Setting<'_>,
+    along: &HeadMap,
+    target: &Path,
+    first: Span,
+    decl: &FlatDecl,
+    value: &Value,
+) -> Result<(), LinkFault>
+    ensures { Links (λ done. done) result (refusals.demand (passes.is_definition (translated_definition (read_map along.now) (read_declaration decl.now).value) (read_value value.now)) (read_span first) MorphismsDisagree (label_along (read_setting setting.now) target.now)) }
+{
+    let holds = is_definition(alloc, along, decl, value)?;
     demand(
         alloc,
         holds,
@@ -192,8 +215,7 @@ fn value_by_structure(
         target,
         first,
         Rule::MorphismsDisagree,
-    )?;
-    Ok(value)
+    )
 }
 
 /// Whether the value is the translated definition, where there is one.

@@ -40,21 +40,25 @@ fn carries(alloc: Global, judged: &Judged, text: &str, wanted: (&str, &str)) -> 
     }
 }
 
+const TWICE: &str = "U.g (U.g U.z U.z) (U.g U.z U.z)";
+
+/// Judgements, and the objects and families to which they are carried along the view F.
+const ALONG: &[(&str, &str, &str)] = &[
+    ("f (f z) : t", TWICE, "U.u"),
+    ("app ([x] f x) : t", TWICE, "U.u"),
+    ("[x] f x : t -> t", "[x] U.g x x", "U.u -> U.u"),
+    (
+        "[h] app ([x] h x) : (t -> t) -> t",
+        "[h] h (h U.z)",
+        "(U.u -> U.u) -> U.u",
+    ),
+];
+
 #[test]
 fn judgements_are_carried(rt: HostRuntime) -> Result<(), Fail> {
     let alloc = rt.alloc();
     let judged = judge_all(alloc, CARRIED)?;
-    let twice = "U.g (U.g U.z U.z) (U.g U.z U.z)";
-    for (text, object, family) in [
-        ("f (f z) : t", twice, "U.u"),
-        ("app ([x] f x) : t", twice, "U.u"),
-        ("[x] f x : t -> t", "[x] U.g x x", "U.u -> U.u"),
-        (
-            "[h] app ([x] h x) : (t -> t) -> t",
-            "[h] h (h U.z)",
-            "(U.u -> U.u) -> U.u",
-        ),
-    ] {
+    for &(text, object, family) in ALONG {
         assert!(rt; carries(alloc, &judged, text, (object, family))?, "{text}");
     }
     Ok(())
@@ -76,21 +80,24 @@ fn refused(alloc: Global, judged: &Judged, view: &str, text: &str) -> Result<Str
     }
 }
 
+/// Views, judgements, and why these are not carried.
+const NOT_CARRIED: &[(&str, &str, &str)] = &[
+    ("F", "f f : t", "ill 3 mismatch"),
+    ("F", "f (f y) : t", "ill 6 unknown-name"),
+    ("F", "y : u", "ill 5 unknown-name"),
+    ("F", "f z t", "ill 6 syntax"),
+    ("F", "", "ill 1 syntax"),
+    ("F", "%mode z : t", "ill 1 unsupported"),
+    ("S", "z : t", "no-view"),
+    ("S", "f z t", "no-view"),
+    ("G", "z : t", "no-view"),
+];
+
 #[test]
 fn judgements_that_are_not_carried(rt: HostRuntime) -> Result<(), Fail> {
     let alloc = rt.alloc();
     let judged = judge_all(alloc, CARRIED)?;
-    for (view, text, wanted) in [
-        ("F", "f f : t", "ill 3 mismatch"),
-        ("F", "f (f y) : t", "ill 6 unknown-name"),
-        ("F", "y : u", "ill 5 unknown-name"),
-        ("F", "f z t", "ill 6 syntax"),
-        ("F", "", "ill 1 syntax"),
-        ("F", "%mode z : t", "ill 1 unsupported"),
-        ("S", "z : t", "no-view"),
-        ("S", "f z t", "no-view"),
-        ("G", "z : t", "no-view"),
-    ] {
+    for &(view, text, wanted) in NOT_CARRIED {
         let found = refused(alloc, &judged, view, text)?;
         assert!(rt; found.as_str() == wanted, "{view} {text}");
     }

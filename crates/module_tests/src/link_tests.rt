@@ -64,48 +64,54 @@ VP\n%view VP : P -> T = {\n%include VR1.\np := x.\n}.\n\n\
 VQ\n%view VQ : Q -> T = {\n%include VR2.\nq := y.\n}.\n\n\
 V\n%view V : S -> T = {\n%include VP.\n%include VQ.\n}.\n";
 
+/// Libraries with structures, and verdicts on their modules.
+const STRUCTURES: &[(&str, &str)] = &[
+    (
+        MONOID,
+        "FOL theory 5\nMagma theory 6\nMonoid theory 9\nBare refused 2:9 include-not-covered FOL",
+    ),
+    (
+        TWO_COPIES,
+        "Car theory 2\nTwo theory 7\nMixed refused 7:16 mismatch w",
+    ),
+    (ASSIGNED, "Nat theory 6"),
+    (RING, "Set theory 1\nMag theory 2\nRing theory 4"),
+    (
+        WORDS,
+        "Mon theory 3\nShared theory 5\nRow theory 5\nByPath theory 5\nInner theory 6",
+    ),
+    (
+        WORDS,
+        "Overlap refused 3:43 double-assignment n.u.a\nBehind refused 3:43 double-assignment n.u\nApart refused 3:40 morphism-ends n.u",
+    ),
+];
+
 #[test]
 fn structures(rt: HostRuntime) -> Result<(), Fail> {
     let alloc = rt.alloc();
-    for (library, verdicts) in [
-        (
-            MONOID,
-            "FOL theory 5\nMagma theory 6\nMonoid theory 9\nBare refused 2:9 include-not-covered FOL",
-        ),
-        (
-            TWO_COPIES,
-            "Car theory 2\nTwo theory 7\nMixed refused 7:16 mismatch w",
-        ),
-        (ASSIGNED, "Nat theory 6"),
-        (RING, "Set theory 1\nMag theory 2\nRing theory 4"),
-        (
-            WORDS,
-            "Mon theory 3\nShared theory 5\nRow theory 5\nByPath theory 5\nInner theory 6",
-        ),
-        (
-            WORDS,
-            "Overlap refused 3:43 double-assignment n.u.a\nBehind refused 3:43 double-assignment n.u\nApart refused 3:40 morphism-ends n.u",
-        ),
-    ] {
+    for &(library, verdicts) in STRUCTURES {
         assert!(rt; holds(alloc, library, verdicts)?, "{verdicts}");
     }
     Ok(())
 }
 
+/// Libraries with views, and verdicts on their modules.
+const VIEWS: &[(&str, &str)] = &[
+    (
+        DEFINED,
+        "V view 3\nW refused 4:6 definition-clash d\nX refused 1:7 missing-assignment c\nY refused 3:6 mismatch c",
+    ),
+    (CARRIED, "S theory 4\nU theory 3\nF view 4"),
+    (
+        DISAGREEING,
+        "S theory 3\nVP view 2\nVQ view 2\nV refused 3:10 morphisms-disagree V",
+    ),
+];
+
 #[test]
 fn views(rt: HostRuntime) -> Result<(), Fail> {
     let alloc = rt.alloc();
-    for (library, verdicts) in [
-        (
-            DEFINED,
-            "V view 3\nW refused 4:6 definition-clash d\nX refused 1:7 missing-assignment c\nY refused 3:6 mismatch c",
-        ),
-        (CARRIED, "S theory 4\nU theory 3\nF view 4"),
-        (
-            DISAGREEING,
-            "S theory 3\nVP view 2\nVQ view 2\nV refused 3:10 morphisms-disagree V",
-        ),
-    ] {
+    for &(library, verdicts) in VIEWS {
         assert!(rt; holds(alloc, library, verdicts)?, "{verdicts}");
     }
     Ok(())

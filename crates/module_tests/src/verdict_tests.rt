@@ -33,69 +33,75 @@ const ETA_SHORT: &str =
     "E\n%sig E = {\na : type.\nf : a -> a.\nc : (a -> a) -> a.\nd : a = c f.\n}.\n\n\
 F\n%sig F = {\na : type.\nf : a -> a.\nc : (a -> a) -> a.\nd : a = c ([x] f x).\n}.\n";
 
+/// Libraries, and verdicts on their modules.
+const THEORIES: &[(&str, &str)] = &[
+    (NAT, "Nat theory 3"),
+    (
+        "Nat\n%sig Nat = {\nnat : type.\nz : nat.\ns : nat -> nta.\n}.\n",
+        "Nat refused 4:12 unknown-name s",
+    ),
+    (DIAMOND, "A theory 1\nB theory 2\nC theory 2\nD theory 4"),
+    (DIAMOND_OF_TWO, "D refused 4:5 ambiguous-name d\nE theory 6"),
+    (ETA_SHORT, "E refused 5:11 not-canonical d\nF theory 4"),
+    (
+        CYCLE,
+        "A refused 2:10 cycle B\nB refused 2:10 cycle A\nC refused 2:10 cycle A",
+    ),
+    (
+        BROKEN_CYCLE,
+        "A refused 2:10 unknown-module B\nC refused 2:10 dependency-refused A",
+    ),
+    (
+        "T\n%sig T = {\na : type.\nc : a -> a.\nd : a -> c.\n}.\n",
+        "T refused 4:10 level d",
+    ),
+    (
+        "A\n%sig A = {\na : type.\na : type.\n}.\n",
+        "A refused 3:1 duplicate-name a",
+    ),
+];
+
 #[test]
 fn theories(rt: HostRuntime) -> Result<(), Fail> {
     let alloc = rt.alloc();
-    for (library, verdicts) in [
-        (NAT, "Nat theory 3"),
-        (
-            "Nat\n%sig Nat = {\nnat : type.\nz : nat.\ns : nat -> nta.\n}.\n",
-            "Nat refused 4:12 unknown-name s",
-        ),
-        (DIAMOND, "A theory 1\nB theory 2\nC theory 2\nD theory 4"),
-        (DIAMOND_OF_TWO, "D refused 4:5 ambiguous-name d\nE theory 6"),
-        (ETA_SHORT, "E refused 5:11 not-canonical d\nF theory 4"),
-        (
-            CYCLE,
-            "A refused 2:10 cycle B\nB refused 2:10 cycle A\nC refused 2:10 cycle A",
-        ),
-        (
-            BROKEN_CYCLE,
-            "A refused 2:10 unknown-module B\nC refused 2:10 dependency-refused A",
-        ),
-        (
-            "T\n%sig T = {\na : type.\nc : a -> a.\nd : a -> c.\n}.\n",
-            "T refused 4:10 level d",
-        ),
-        (
-            "A\n%sig A = {\na : type.\na : type.\n}.\n",
-            "A refused 3:1 duplicate-name a",
-        ),
-    ] {
+    for &(library, verdicts) in THEORIES {
         assert!(rt; holds(alloc, library, verdicts)?, "{verdicts}");
     }
     Ok(())
 }
 
+/// Modules that do not read, and the verdicts on them.
+const TEXTS: &[(&str, &str)] = &[
+    ("Z\n", "Z refused 1:1 syntax Z"),
+    ("Z\n%sig Z = {\n%mode a.\n", "Z refused 2:1 unsupported Z"),
+    ("Z\n%{ open", "Z refused 1:1 syntax Z"),
+    (
+        "Z\n%sig Nat = {\nnat : type.\nz : nat.\ns : nat -> nat.\n}.\n",
+        "Z refused 1:6 wrong-name Nat",
+    ),
+    (
+        "Z\n%sig Z = {\nk : {x} type.\n}.\n",
+        "Z refused 2:7 unsupported Z",
+    ),
+    ("Z\n%sig Z = {\na : type\n", "Z refused 3:1 syntax Z"),
+    ("Z\n%sig Z = {\n%.\n", "Z refused 2:1 syntax Z"),
+    ("Z\n%sig Z = {\nc : _.\n}.\n", "Z refused 2:5 unsupported Z"),
+    (
+        "Z\n%sig Z = {\nc : a -> a <- a.\n}.\n",
+        "Z refused 2:12 syntax Z",
+    ),
+    ("Z\n%sig Z = {\nc : type.z.\n}.\n", "Z refused 2:5 syntax Z"),
+    (
+        "Z\n%sig Z = {\na : type.\n}.\n}\n",
+        "Z refused 4:1 syntax Z",
+    ),
+    ("Z\n%sig Z = {\nc : \"x\".\n}.\n", "Z refused 2:5 syntax Z"),
+];
+
 #[test]
 fn texts_that_do_not_read(rt: HostRuntime) -> Result<(), Fail> {
     let alloc = rt.alloc();
-    for (library, verdicts) in [
-        ("Z\n", "Z refused 1:1 syntax Z"),
-        ("Z\n%sig Z = {\n%mode a.\n", "Z refused 2:1 unsupported Z"),
-        ("Z\n%{ open", "Z refused 1:1 syntax Z"),
-        (
-            "Z\n%sig Nat = {\nnat : type.\nz : nat.\ns : nat -> nat.\n}.\n",
-            "Z refused 1:6 wrong-name Nat",
-        ),
-        (
-            "Z\n%sig Z = {\nk : {x} type.\n}.\n",
-            "Z refused 2:7 unsupported Z",
-        ),
-        ("Z\n%sig Z = {\na : type\n", "Z refused 3:1 syntax Z"),
-        ("Z\n%sig Z = {\n%.\n", "Z refused 2:1 syntax Z"),
-        ("Z\n%sig Z = {\nc : _.\n}.\n", "Z refused 2:5 unsupported Z"),
-        (
-            "Z\n%sig Z = {\nc : a -> a <- a.\n}.\n",
-            "Z refused 2:12 syntax Z",
-        ),
-        ("Z\n%sig Z = {\nc : type.z.\n}.\n", "Z refused 2:5 syntax Z"),
-        (
-            "Z\n%sig Z = {\na : type.\n}.\n}\n",
-            "Z refused 4:1 syntax Z",
-        ),
-        ("Z\n%sig Z = {\nc : \"x\".\n}.\n", "Z refused 2:5 syntax Z"),
-    ] {
+    for &(library, verdicts) in TEXTS {
         assert!(rt; holds(alloc, library, verdicts)?, "{verdicts}");
     }
     Ok(())

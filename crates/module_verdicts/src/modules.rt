@@ -1,6 +1,7 @@
 //! Modules that are read.
-ghost use Rattle.std.specs.Prelude.{◌≡◌, None, false, IfOk};
+ghost use Rattle.std.specs.Prelude.{◌≡◌, None, false, IfOk, length};
 ghost use Rattle.name_meaning.specs.Rows.{row_of};
+ghost use Rattle.library_meaning.specs.Faces.{flat_signature};
 ghost use Rattle.text_meaning.specs.Trees as trees;
 ghost use Rattle.verdict_meaning.specs.Modules as modules;
 ghost use Rattle.verdict_meaning.specs.Modules.{checked_view};
@@ -74,10 +75,29 @@ fn theory(
     ensures { Links read_interface result (verdicts.checked (environment_of faces.now) (trees.SigModule (read_written name.now) (read_decls decls.now))) }
 {
     let mut here = empty_theory(alloc, first_name(name))?;
-    declare_all(alloc, faces, &mut here, decls.as_slice())?;
-    let size = size(faces, &here)?;
-    let face = finished(alloc, here)?;
-    Ok(Interface::Theory { face, size })
+    match declare_all(alloc, faces, &mut here, decls.as_slice()) {
+        Ok(()) => Ok(theory_interface(alloc, faces, here)?),
+        Err(fault) => {
+            drop(here);
+            Err(fault)
+        }
+    }
+}
+
+/// The interface of a theory that has all its declarations.
+fn theory_interface(alloc: Global, faces: &Faces, here: TheoryFace) -> Result<Interface, Memory>
+    ensures { IfOk result (λ interface. read_interface interface ≡ verdicts.Theory (read_theory here) (length (flat_signature (environment_of faces.now) (read_theory here)))) }
+{
+    match size(faces, &here) {
+        Ok(size) => {
+            let face = finished(alloc, here)?;
+            Ok(Interface::Theory { face, size })
+        }
+        Err(fault) => {
+            drop(here);
+            Err(fault)
+        }
+    }
 }
 
 /// The same theory; with its own part stand the images that the identity gives to it, which maps share.
@@ -85,8 +105,13 @@ fn finished(alloc: Global, here: TheoryFace) -> Result<TheoryFace, Memory>
     ensures { IfOk result (λ face. read_theory face ≡ read_theory here) }
 {
     let mut face = here;
-    face.own.finish(alloc)?;
-    Ok(face)
+    match face.own.finish(alloc) {
+        Ok(()) => Ok(face),
+        Err(fault) => {
+            drop(face);
+            Err(fault)
+        }
+    }
 }
 
 /// The theory before its first declaration.

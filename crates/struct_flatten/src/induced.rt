@@ -73,8 +73,15 @@ fn add_one(
 fn induced_with(alloc: Global, constant: QName, image: &Image) -> Result<FlatDecl, Memory>
     ensures { IfOk result (λ decl. read_declaration decl ≡ meant.induced_with (read_constant constant) (read_image image.now)) }
 {
-    let value = defined_by(alloc, &constant, &image.value)?;
-    let class = image.class.copy(alloc)?;
+    let Ok(class) = image.class.copy(alloc) else {
+        drop(constant);
+        return Err(Memory);
+    };
+    let Ok(value) = defined_by(alloc, &constant, &image.value) else {
+        drop(constant);
+        drop(class);
+        return Err(Memory);
+    };
     Ok(FlatDecl {
         name: constant,
         class,

@@ -1,5 +1,5 @@
 //! A structure, flattened.
-ghost use Rattle.std.specs.Prelude.{◌≡◌, false, IsSome, OnErr, OnOk};
+ghost use Rattle.std.specs.Prelude.{◌≡◌, false, IfOk, IsSome, OnErr, OnOk};
 ghost use Rattle.lf_meaning.specs.HeadMaps.{HeadMap as MeantMap};
 ghost use Rattle.text_meaning.specs.Trees.{first_name};
 ghost use Rattle.library_meaning.specs.Faces.{theory_of};
@@ -44,11 +44,7 @@ pub fn flatten(
     ensures typed { OnOk result (KeepsTyped (environment_of faces.now) (read_theory here.old) decl.now (read_theory here.new)) }
 {
     let map = map_of(alloc, faces, &*here, decl)?;
-    let face = StructFace {
-        name: first_name(&decl.name).copy(alloc)?,
-        domain: first_name(&decl.domain).copy(alloc)?,
-        map,
-    };
+    let face = face_with(alloc, decl, map)?;
     Ok(add_structure(alloc, faces, here, face)?)
 }
 
@@ -76,6 +72,22 @@ fn map_of(
         at: &decl.name,
     };
     link_map(alloc, &setting, &decl.assigns)
+}
+
+/// The face of a structure with this map.
+fn face_with(alloc: Global, decl: &StructDecl, map: HeadMap) -> Result<StructFace, Memory>
+    ensures { IfOk result (λ face. read_structure face ≡ record { name = first_name decl.now.name.path; domain = first_name decl.now.domain.path; map = read_map map }) }
+{
+    let Ok(name) = first_name(&decl.name).copy(alloc) else {
+        drop(map);
+        return Err(Memory);
+    };
+    let Ok(domain) = first_name(&decl.domain).copy(alloc) else {
+        drop(map);
+        drop(name);
+        return Err(Memory);
+    };
+    Ok(StructFace { name, domain, map })
 }
 
 /// Adds what a structure with this face induces, and then the face. For want of memory the theory stays as it is.

@@ -1,4 +1,4 @@
-use Rattle.std.proofs.Common.{ap₂, ◌∙◌}
+use Rattle.std.proofs.Common.{ap, ◌∙◌}
 use Rattle.std.specs.Prelude.{⊤}
 use Rattle.std.proofs.lemmas.Result.{err_from_is_err_and}
 use Rattle.link_meaning.specs.LinkMaps.{IsSettled}
@@ -31,7 +31,7 @@ returns-clause-map c =
     let settled : IsSettled setting = record { coherent = c.requires.coherent.known; theory = c.requires.domain } in (
       along,
       (link_map_meets_equations setting assigns along settled).0 c.in_ok-map.ensures,
-      c.in_ok-add_structure.ensures.ok ∙ ap₂ (λ n d. with_face environment here (record { name = n; domain = d; map = along })) (c.in_ok-copy.ensures ∙ c.first_name.ensures) (c.in_ok-copy-2.ensures ∙ c.first_name-2.ensures),
+      c.in_ok-add_structure.ensures.ok ∙ ap (with_face environment here) c.in_ok-face.ensures,
     )
 
 pub returns-clause-typed : goal.returns-clause-typed
@@ -40,7 +40,7 @@ returns-clause-typed c =
     let here = read_theory c.args.here.now in
     let along = read_map c.in_ok-map.map in
     structure_keeps_typed c.args.faces.now c.args.here.now c.args.decl.now along _ c.requires.coherent c.requires.here c.requires.domain c.requires.unused c.in_ok-map.ensures
-    (c.in_ok-add_structure.ensures.ok ∙ ap₂ (λ n d. with_face environment here (record { name = n; domain = d; map = along })) (c.in_ok-copy.ensures ∙ c.first_name.ensures) (c.in_ok-copy-2.ensures ∙ c.first_name-2.ensures))
+    (c.in_ok-add_structure.ensures.ok ∙ ap (with_face environment here) c.in_ok-face.ensures)
 
 pub returns-clause-answer : goal.returns-clause-answer
 returns-clause-answer c =
@@ -49,5 +49,5 @@ returns-clause-answer c =
     let along = read_map c.in_ok-map.map in (
       along,
       c.in_ok-map.ensures,
-      c.in_ok-add_structure.ensures.ok ∙ ap₂ (λ n d. with_face environment here (record { name = n; domain = d; map = along })) (c.in_ok-copy.ensures ∙ c.first_name.ensures) (c.in_ok-copy-2.ensures ∙ c.first_name-2.ensures),
+      c.in_ok-add_structure.ensures.ok ∙ ap (with_face environment here) c.in_ok-face.ensures,
     )
