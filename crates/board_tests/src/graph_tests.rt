@@ -43,18 +43,21 @@ fn first(alloc: Global, graph: &Graph, dependencies: &str) -> Result<Option<usiz
 }
 
 /// A ring of three, a name that depends on itself, names that reach these, absent names, and names that do not.
+const RINGS: &[(&str, &str)] = &[
+    ("B", "C Absent"),
+    ("A", "B"),
+    ("C", "A Leaf"),
+    ("Into", "Leaf A"),
+    ("Own", "Own"),
+    ("Leaf", ""),
+    ("Top", "Leaf Gone Leaf Next"),
+    ("Next", "Leaf Absent"),
+];
+
+/// The graph of these.
 fn rings(alloc: Global) -> Result<Graph, Fail> {
     let mut graph = Graph::new(alloc);
-    for (name, dependencies) in [
-        ("B", "C Absent"),
-        ("A", "B"),
-        ("C", "A Leaf"),
-        ("Into", "Leaf A"),
-        ("Own", "Own"),
-        ("Leaf", ""),
-        ("Top", "Leaf Gone Leaf Next"),
-        ("Next", "Leaf Absent"),
-    ] {
+    for &(name, dependencies) in RINGS {
         set(alloc, &mut graph, name, dependencies)?;
     }
     Ok(graph)

@@ -81,15 +81,18 @@ fn view(alloc: Global, images: &str) -> Result<Box<Interface>, Fail> {
     Ok(Box::new(alloc, Interface::View(face))?)
 }
 
+/// Theories, what they include, and their own constants.
+const THEORIES: &[(&str, Option<&str>, &str)] = &[
+    ("FOL", None, LOGIC),
+    ("Monoid", Some("FOL"), MONOID),
+    ("Nat", None, NAT),
+    ("S", None, DOMAIN),
+    ("U", None, CODOMAIN),
+];
+
 fn library(alloc: Global) -> Result<Box<Faces>, Fail> {
     let mut faces = Box::new(alloc, Faces::new(alloc))?;
-    for (name, included, own) in [
-        ("FOL", None, LOGIC),
-        ("Monoid", Some("FOL"), MONOID),
-        ("Nat", None, NAT),
-        ("S", None, DOMAIN),
-        ("U", None, CODOMAIN),
-    ] {
+    for &(name, included, own) in THEORIES {
         let interface = theory(alloc, name, included, own)?;
         accept(alloc, &mut faces, name, interface)?;
     }
@@ -110,24 +113,27 @@ fn prints(alloc: Global, faces: &Faces, name: &str, wanted: &str) -> Result<bool
     }
 }
 
+/// Modules, and their flat texts.
+const FLAT_TEXTS: &[(&str, &str)] = &[
+    (
+        "Monoid",
+        "Monoid @3 flat 9\nFOL.i : type.\nFOL.o : type.\nFOL.pf : FOL.o -> type.\nFOL.eq : FOL.i -> FOL.i -> FOL.o.\nFOL.all : (FOL.i -> FOL.o) -> FOL.o.\nmag.op : FOL.i -> FOL.i -> FOL.i.\ne : FOL.i.\nleft : {x1:FOL.i} FOL.pf (FOL.eq (mag.op e x1) x1).\nright : {x1:FOL.i} FOL.pf (FOL.eq (mag.op x1 e) x1).\n",
+    ),
+    (
+        "Nat",
+        "Nat @3 flat 6\nnat : type.\nz : nat.\ns : nat -> nat.\nplus : nat -> nat -> nat.\nm.a : type = nat.\nm.op : nat -> nat -> nat = plus.\n",
+    ),
+    (
+        "F",
+        "F @3 map 4\nt := u.\nz := z.\nf := [x1] g x1 x1.\napp := [x1] x1 (x1 z).\n",
+    ),
+];
+
 #[test]
 fn flat_texts(rt: HostRuntime) -> Result<(), Fail> {
     let alloc = rt.alloc();
     let faces = library(alloc)?;
-    for (name, wanted) in [
-        (
-            "Monoid",
-            "Monoid @3 flat 9\nFOL.i : type.\nFOL.o : type.\nFOL.pf : FOL.o -> type.\nFOL.eq : FOL.i -> FOL.i -> FOL.o.\nFOL.all : (FOL.i -> FOL.o) -> FOL.o.\nmag.op : FOL.i -> FOL.i -> FOL.i.\ne : FOL.i.\nleft : {x1:FOL.i} FOL.pf (FOL.eq (mag.op e x1) x1).\nright : {x1:FOL.i} FOL.pf (FOL.eq (mag.op x1 e) x1).\n",
-        ),
-        (
-            "Nat",
-            "Nat @3 flat 6\nnat : type.\nz : nat.\ns : nat -> nat.\nplus : nat -> nat -> nat.\nm.a : type = nat.\nm.op : nat -> nat -> nat = plus.\n",
-        ),
-        (
-            "F",
-            "F @3 map 4\nt := u.\nz := z.\nf := [x1] g x1 x1.\napp := [x1] x1 (x1 z).\n",
-        ),
-    ] {
+    for &(name, wanted) in FLAT_TEXTS {
         assert!(rt; prints(alloc, &faces, name, wanted)?, "{name}");
     }
     Ok(())

@@ -28,46 +28,52 @@ fn prints_value(alloc: Global, own: &str, text: &str, wanted: &str) -> Result<bo
     Ok(out.as_slice() == wanted.as_bytes())
 }
 
+/// Own constants, classes, and how these are printed.
+const CLASSES: &[(&str, &str, &str)] = &[
+    ("a : type", "type", "type"),
+    ("a : type", "FOL.o -> type", "FOL.o -> type"),
+    (
+        "a : type",
+        "(FOL.i -> FOL.o) -> FOL.o",
+        "(FOL.i -> FOL.o) -> FOL.o",
+    ),
+    ("a : type", "a -> t.m.a -> a", "a -> m.a -> a"),
+    (
+        "a : type",
+        "{x:FOL.i} FOL.pf (FOL.eq (t.mag.op e x) x)",
+        "{x1:FOL.i} FOL.pf (FOL.eq (mag.op e x1) x1)",
+    ),
+    ("a : type", "{x:a} {y:a} p x", "{x1:a} a -> p x1"),
+    ("a : type", "a -> {y:a} p y", "a -> {x2:a} p x2"),
+    ("x1y : type", "{x:a} p x", "{x'1:a} p x'1"),
+    ("x1 : type\nx'2 : type", "{x:a} p x", "{x''1:a} p x''1"),
+    ("xs : type\nT.m.x1 : type", "{x:a} p x", "{x1:a} p x1"),
+];
+
 #[test]
 fn classes(rt: HostRuntime) -> Result<(), Fail> {
     let alloc = rt.alloc();
-    for (own, text, wanted) in [
-        ("a : type", "type", "type"),
-        ("a : type", "FOL.o -> type", "FOL.o -> type"),
-        (
-            "a : type",
-            "(FOL.i -> FOL.o) -> FOL.o",
-            "(FOL.i -> FOL.o) -> FOL.o",
-        ),
-        ("a : type", "a -> t.m.a -> a", "a -> m.a -> a"),
-        (
-            "a : type",
-            "{x:FOL.i} FOL.pf (FOL.eq (t.mag.op e x) x)",
-            "{x1:FOL.i} FOL.pf (FOL.eq (mag.op e x1) x1)",
-        ),
-        ("a : type", "{x:a} {y:a} p x", "{x1:a} a -> p x1"),
-        ("a : type", "a -> {y:a} p y", "a -> {x2:a} p x2"),
-        ("x1y : type", "{x:a} p x", "{x'1:a} p x'1"),
-        ("x1 : type\nx'2 : type", "{x:a} p x", "{x''1:a} p x''1"),
-        ("xs : type\nT.m.x1 : type", "{x:a} p x", "{x1:a} p x1"),
-    ] {
+    for &(own, text, wanted) in CLASSES {
         assert!(rt; prints_class(alloc, own, text, wanted)?, "{text}");
     }
     Ok(())
 }
 
+/// Own constants, values, and how these are printed.
+const VALUES: &[(&str, &str, &str)] = &[
+    ("u : type", "same z", "z"),
+    ("u : type", "same U.z", "U.z"),
+    ("u : type", "[x] g x x", "[x1] g x1 x1"),
+    ("u : type", "[h] h (h z)", "[x1] x1 (x1 z)"),
+    ("x1 : u", "[x] g x x", "[x'1] g x'1 x'1"),
+    ("u : type", "c ([x] [y] f y)", "c ([x1] [x2] f x2)"),
+    ("u : type", "family x y. r y x", "[x1] [x2] r x2 x1"),
+];
+
 #[test]
 fn values(rt: HostRuntime) -> Result<(), Fail> {
     let alloc = rt.alloc();
-    for (own, text, wanted) in [
-        ("u : type", "same z", "z"),
-        ("u : type", "same U.z", "U.z"),
-        ("u : type", "[x] g x x", "[x1] g x1 x1"),
-        ("u : type", "[h] h (h z)", "[x1] x1 (x1 z)"),
-        ("x1 : u", "[x] g x x", "[x'1] g x'1 x'1"),
-        ("u : type", "c ([x] [y] f y)", "c ([x1] [x2] f x2)"),
-        ("u : type", "family x y. r y x", "[x1] [x2] r x2 x1"),
-    ] {
+    for &(own, text, wanted) in VALUES {
         assert!(rt; prints_value(alloc, own, text, wanted)?, "{text}");
     }
     Ok(())
