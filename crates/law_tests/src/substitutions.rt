@@ -128,35 +128,37 @@ fn gives(alloc: Global, after: &str, value: &str, into: &str, wanted: &str) -> R
 }
 
 /// `#i` is the variable with i binders between it and its own.
+const TYPED: &[(&str, &str, &str, &str)] = &[
+    (
+        "",
+        "[x] g x x : u -> u",
+        "#0 (#0 z) : u",
+        "g (g z z) (g z z) : u",
+    ),
+    (
+        "",
+        "z : u",
+        "g (g #0 #0) (g #0 z) : u",
+        "g (g z z) (g z z) : u",
+    ),
+    (
+        "y : u",
+        "[x] g x x : u -> u",
+        "#1 (#1 #0) : u",
+        "g (g #0 #0) (g #0 #0) : u",
+    ),
+    (
+        "",
+        "[h] h (h z) : (u -> u) -> u",
+        "#0 ([x] g x x) : u",
+        "g (g z z) (g z z) : u",
+    ),
+];
+
 #[test]
 fn substitution_keeps_typing(rt: HostRuntime) -> Result<(), Fail> {
     let alloc = rt.alloc();
-    for (after, value, into, wanted) in [
-        (
-            "",
-            "[x] g x x : u -> u",
-            "#0 (#0 z) : u",
-            "g (g z z) (g z z) : u",
-        ),
-        (
-            "",
-            "z : u",
-            "g (g #0 #0) (g #0 z) : u",
-            "g (g z z) (g z z) : u",
-        ),
-        (
-            "y : u",
-            "[x] g x x : u -> u",
-            "#1 (#1 #0) : u",
-            "g (g #0 #0) (g #0 #0) : u",
-        ),
-        (
-            "",
-            "[h] h (h z) : (u -> u) -> u",
-            "#0 ([x] g x x) : u",
-            "g (g z z) (g z z) : u",
-        ),
-    ] {
+    for &(after, value, into, wanted) in TYPED {
         assert!(rt; are_typed(alloc, after, value, into)?, "{into}");
         assert!(rt; gives(alloc, after, value, into, wanted)?, "{into}");
     }
@@ -184,23 +186,26 @@ fn both_give(
     Ok(same_obj(&found.0, &wanted) && same_obj(&found.1, &wanted))
 }
 
+/// Outer and inner values with their types, objects, and what these become.
+const COMMUTING: &[((&str, &str), (&str, &str), &str, &str)] = &[
+    (("z", "u"), ("g #0 #0", "u"), "g #0 #0", "g (g z z) (g z z)"),
+    (
+        ("z", "u"),
+        ("[x] g x #1", "u -> u"),
+        "g (#0 z) (#0 #1)",
+        "g (g z z) (g z z)",
+    ),
+    (
+        ("[x] g x x", "u -> u"),
+        ("#0 z", "u"),
+        "#1 #0",
+        "g (g z z) (g z z)",
+    ),
+];
+
 #[test]
 fn substitutions_commute(rt: HostRuntime) -> Result<(), Fail> {
-    for (outer, inner, into, wanted) in [
-        (("z", "u"), ("g #0 #0", "u"), "g #0 #0", "g (g z z) (g z z)"),
-        (
-            ("z", "u"),
-            ("[x] g x #1", "u -> u"),
-            "g (#0 z) (#0 #1)",
-            "g (g z z) (g z z)",
-        ),
-        (
-            ("[x] g x x", "u -> u"),
-            ("#0 z", "u"),
-            "#1 #0",
-            "g (g z z) (g z z)",
-        ),
-    ] {
+    for &(outer, inner, into, wanted) in COMMUTING {
         assert!(rt;
             both_give(rt.alloc(), outer, inner, into, wanted)?,
             "{into}"

@@ -60,19 +60,23 @@ fn carries(alloc: Global, text: &str, wanted: &str) -> Result<bool, Fail> {
     }
 }
 
+const TWICE: &str = "U.g (U.g U.z U.z) (U.g U.z U.z) : U.u";
+
+/// Judgements, and the judgements to which the view takes them.
+const TRANSLATED: &[(&str, &str)] = &[
+    ("f (f z) : t", TWICE),
+    ("app ([x] f x) : t", TWICE),
+    ("[x] f x : t -> t", "[x] U.g x x : U.u -> U.u"),
+    (
+        "[h] app ([x] h x) : (t -> t) -> t",
+        "[h] h (h U.z) : (U.u -> U.u) -> U.u",
+    ),
+];
+
 #[test]
 fn translation_keeps_typing(rt: HostRuntime) -> Result<(), Fail> {
     let alloc = rt.alloc();
-    let twice = "U.g (U.g U.z U.z) (U.g U.z U.z) : U.u";
-    for (text, wanted) in [
-        ("f (f z) : t", twice),
-        ("app ([x] f x) : t", twice),
-        ("[x] f x : t -> t", "[x] U.g x x : U.u -> U.u"),
-        (
-            "[h] app ([x] h x) : (t -> t) -> t",
-            "[h] h (h U.z) : (U.u -> U.u) -> U.u",
-        ),
-    ] {
+    for &(text, wanted) in TRANSLATED {
         assert!(rt; carries(alloc, text, wanted)?, "{text}");
     }
     Ok(())
