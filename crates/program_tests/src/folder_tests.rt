@@ -1,7 +1,7 @@
 //! Tables of folders, each with what `check` prints.
 
 use crate::folders::files_of;
-use crate::runs::{Ended, failing, run_over};
+use crate::runs::{ends_over, failing};
 use mmt_outside::{Inputs64, MemFolder, OpenGate};
 use mmt_top::Status;
 use std::alloc::Global;
@@ -49,17 +49,29 @@ S @2 accepted theory 1\nV @2 refused v.elf:4:6 unknown-name s\nfiles 1 modules 2
 /// The worked folder with its damaged file.
 const WORKED: &str = "=== nat.elf\n%sig Nat = {\nnat : type.\n}.\n=== bad.elf\nfoo";
 
-/// Checks the folder `lib` with these files. The call of the folder with this number fails; 0 is none.
-fn checked<R: Threads + Wait + Sync>(
+/// Whether the check of the folder `lib` with these files ends so and writes these bytes. The call of the folder with this number fails;
+/// 0 is none.
+fn prints<R: Threads + Wait + Sync>(
     rt: &R,
     alloc: Global,
     workers: &str,
     files: &str,
     failing_call: u64,
-) -> Result<Ended, Fail> {
+    status: Status,
+    output: &[u8],
+) -> Result<bool, Fail> {
     let mut folder = MemFolder::new(files_of(alloc, files)?, failing(alloc, failing_call)?);
     let words = ["check", "lib", "--workers", workers];
-    run_over(rt, alloc, &words, b"", &mut folder, &OpenGate)
+    ends_over(
+        rt,
+        alloc,
+        &words,
+        b"",
+        &mut folder,
+        &OpenGate,
+        status,
+        output,
+    )
 }
 
 /// Whether each folder of a table gives the output behind it and this status.
@@ -72,8 +84,7 @@ fn all_print<R: Threads + Wait + Sync>(
 ) -> Result<bool, Fail> {
     for case in table.split("@@@\n") {
         let (files, output) = case.split_once("~~~\n").ok_or("no output")?;
-        let ended = checked(rt, alloc, workers, files, 0)?;
-        if !ended.is(status, output.as_bytes()) {
+        if !prints(rt, alloc, workers, files, 0, status, output.as_bytes())? {
             return Ok(false);
         }
     }
@@ -93,12 +104,10 @@ fn folders_print_what_they_hold(rt: HostRuntime) -> Result<(), Fail> {
 #[test]
 fn a_call_that_fails_ends_the_run(rt: HostRuntime) -> Result<(), Fail> {
     for call in 1..4 {
-        let ended = checked(&rt, rt.alloc(), "0", WORKED, call)?;
-        assert!(rt; ended.is(Status::ReadFault, b""));
+        assert!(rt; prints(&rt, rt.alloc(), "0", WORKED, call, Status::ReadFault, b"")?);
     }
-    let ended = checked(&rt, rt.alloc(), "0", WORKED, 4)?;
     let wanted =
         b"bad.elf refused 1:1 syntax\nNat @1 accepted theory 1\nfiles 2 modules 1 accepted 1 refused 0\n";
-    assert!(rt; ended.is(Status::Refused, wanted));
+    assert!(rt; prints(&rt, rt.alloc(), "0", WORKED, 4, Status::Refused, wanted)?);
     Ok(())
 }

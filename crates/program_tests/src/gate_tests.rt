@@ -1,7 +1,7 @@
 //! One run of each command, in which a worker is held before it installs.
 
 use crate::held::Held;
-use crate::runs::run_over;
+use crate::runs::ends_over;
 use lf_terms::Bytes;
 use mmt_outside::{Inputs64, MemFiles, MemFolder, NoFolder};
 use mmt_top::Status;
@@ -43,8 +43,17 @@ fn a_script_is_played_side_by_side(rt: HostRuntime) -> Result<(), Fail> {
     let words = ["play", "--workers", "2"];
     let gate = Held::new("A", "D");
     let mut folder = NoFolder::new();
-    let ended = run_over(&rt, rt.alloc(), &words, SCRIPT, &mut folder, &gate)?;
-    assert!(rt; gate.has_seen_both() && ended.is(Status::Done, PLAYED));
+    let is_so = ends_over(
+        &rt,
+        rt.alloc(),
+        &words,
+        SCRIPT,
+        &mut folder,
+        &gate,
+        Status::Done,
+        PLAYED,
+    )?;
+    assert!(rt; gate.has_seen_both() && is_so);
     Ok(())
 }
 
@@ -53,8 +62,17 @@ fn a_folder_is_checked_side_by_side(rt: HostRuntime) -> Result<(), Fail> {
     let words = ["check", "lib", "--workers", "2"];
     let gate = Held::new("A", "D");
     let mut folder = library(rt.alloc())?;
-    let ended = run_over(&rt, rt.alloc(), &words, b"", &mut folder, &gate)?;
-    assert!(rt; gate.has_seen_both() && ended.is(Status::Done, CHECKED));
+    let is_so = ends_over(
+        &rt,
+        rt.alloc(),
+        &words,
+        b"",
+        &mut folder,
+        &gate,
+        Status::Done,
+        CHECKED,
+    )?;
+    assert!(rt; gate.has_seen_both() && is_so);
     Ok(())
 }
 
@@ -63,7 +81,16 @@ fn a_library_is_generated_side_by_side(rt: HostRuntime) -> Result<(), Fail> {
     let words = ["gen", "1", "5", "3", "--workers", "2"];
     let gate = Held::new("G1", "G4");
     let mut folder = NoFolder::new();
-    let ended = run_over(&rt, rt.alloc(), &words, b"", &mut folder, &gate)?;
-    assert!(rt; gate.has_seen_both() && ended.is(Status::Done, GENERATED));
+    let is_so = ends_over(
+        &rt,
+        rt.alloc(),
+        &words,
+        b"",
+        &mut folder,
+        &gate,
+        Status::Done,
+        GENERATED,
+    )?;
+    assert!(rt; gate.has_seen_both() && is_so);
     Ok(())
 }

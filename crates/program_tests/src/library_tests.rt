@@ -30,10 +30,13 @@ fn generated<R: Wait>(
         return Err("no memory for a lock")?;
     };
     let mut pass = pass;
-    let counts = lead_generator(
+    let led = lead_generator(
         rt, alloc, &OpenGate, &shared, &mut pass, start, modules, edits,
-    )?;
+    );
     let board = shared.end(pass);
+    let installs = board.installs();
+    drop(board);
+    let counts = led?;
     let mut lines = gen_line(
         alloc,
         modules,
@@ -43,7 +46,7 @@ fn generated<R: Wait>(
         counts.refused,
         counts.declarations,
     )?;
-    lines.extend(installs_line(alloc, board.installs())?.as_slice())?;
+    lines.extend(installs_line(alloc, installs)?.as_slice())?;
     Ok(lines)
 }
 

@@ -26,12 +26,12 @@ fn a_source_gives_its_bytes_in_order(rt: HostRuntime) -> Result<(), Fail> {
     let bytes = bytes_of(alloc, b"abcde")?;
     let mut source = MemSource::new(bytes, failing(alloc, &[])?);
     let mut into = [0u8; 3];
-    assert_eq!(rt; source.read(&mut []), Ok(0));
-    assert_eq!(rt; source.read(&mut into), Ok(3));
-    assert_eq!(rt; into.as_slice(), b"abc".as_slice());
-    assert_eq!(rt; source.read(&mut into), Ok(2));
-    assert_eq!(rt; into[..2].to_vec(alloc)?.as_slice(), b"de".as_slice());
-    assert_eq!(rt; source.read(&mut into), Ok(0));
+    let nothing = source.read(&mut []) == Ok(0);
+    let first = source.read(&mut into) == Ok(3) && into == *b"abc";
+    let second = source.read(&mut into) == Ok(2) && into.starts_with(b"de");
+    let end = source.read(&mut into) == Ok(0);
+    drop(source);
+    assert!(rt; nothing && first && second && end);
     Ok(())
 }
 
@@ -41,12 +41,13 @@ fn a_listed_read_fails_and_takes_nothing(rt: HostRuntime) -> Result<(), Fail> {
     let bytes = bytes_of(alloc, b"ab")?;
     let mut source = MemSource::new(bytes, failing(alloc, &[2, 4])?);
     let mut into = [0u8; 1];
-    assert_eq!(rt; source.read(&mut into), Ok(1));
-    assert_eq!(rt; source.read(&mut into), Err(Failed));
-    assert_eq!(rt; source.read(&mut into), Ok(1));
-    assert_eq!(rt; into, *b"b");
-    assert_eq!(rt; source.read(&mut into), Err(Failed));
-    assert_eq!(rt; source.read(&mut into), Ok(0));
+    let first = source.read(&mut into) == Ok(1);
+    let first_failed = source.read(&mut into) == Err(Failed);
+    let second = source.read(&mut into) == Ok(1) && into == *b"b";
+    let second_failed = source.read(&mut into) == Err(Failed);
+    let end = source.read(&mut into) == Ok(0);
+    drop(source);
+    assert!(rt; first && first_failed && second && second_failed && end);
     Ok(())
 }
 
@@ -54,28 +55,38 @@ fn a_listed_read_fails_and_takes_nothing(rt: HostRuntime) -> Result<(), Fail> {
 fn a_sink_takes_what_has_room(rt: HostRuntime) -> Result<(), Fail> {
     let alloc = rt.alloc();
     let mut sink = MemSink::new(alloc, 4, failing(alloc, &[])?)?;
-    assert_eq!(rt; write_all(&mut sink, b"abc"), Ok(()));
-    assert_eq!(rt; sink.flush(), Ok(()));
-    assert_eq!(rt; sink.write(b"de"), Ok(1));
-    assert_eq!(rt; sink.write(b"e"), Err(Failed));
-    assert_eq!(rt; sink.write(b""), Ok(0));
-    assert_eq!(rt; sink.bytes(), b"abcd".as_slice());
+    let whole = write_all(&mut sink, b"abc") == Ok(()) && sink.flush() == Ok(());
+    let part = sink.write(b"de") == Ok(1);
+    let full = sink.write(b"e") == Err(Failed) && sink.write(b"") == Ok(0);
+    let is_taken = sink.bytes() == b"abcd".as_slice();
+    drop(sink);
+    assert!(rt; whole && part && full && is_taken);
     Ok(())
 }
 
-// A full sink, and writes and flushes that the list names.
 #[test]
-fn a_failed_write_leaves_a_prefix(rt: HostRuntime) -> Result<(), Fail> {
+fn a_full_sink_leaves_a_prefix(rt: HostRuntime) -> Result<(), Fail> {
     let alloc = rt.alloc();
     let mut sink = MemSink::new(alloc, 2, failing(alloc, &[])?)?;
-    assert_eq!(rt; write_all(&mut sink, b"abc"), Err(Failed));
-    assert_eq!(rt; sink.bytes(), b"ab".as_slice());
-    let mut failing_first = MemSink::new(alloc, 9, failing(alloc, &[1, 3])?)?;
-    assert_eq!(rt; write_all(&mut failing_first, b"abc"), Err(Failed));
-    assert_eq!(rt; write_all(&mut failing_first, b"abc"), Ok(()));
-    assert_eq!(rt; failing_first.flush(), Err(Failed));
-    assert_eq!(rt; failing_first.flush(), Ok(()));
-    assert_eq!(rt; failing_first.bytes(), b"abc".as_slice());
+    let is_full = write_all(&mut sink, b"abc") == Err(Failed);
+    let is_taken = sink.bytes() == b"ab".as_slice();
+    drop(sink);
+    assert!(rt; is_full && is_taken);
+    Ok(())
+}
+
+// Writes and flushes that the list names.
+#[test]
+fn a_listed_write_fails_and_leaves_what_was_there(rt: HostRuntime) -> Result<(), Fail> {
+    let alloc = rt.alloc();
+    let mut sink = MemSink::new(alloc, 9, failing(alloc, &[1, 3])?)?;
+    let first_failed = write_all(&mut sink, b"abc") == Err(Failed);
+    let is_written = write_all(&mut sink, b"abc") == Ok(());
+    let flush_failed = sink.flush() == Err(Failed);
+    let is_flushed = sink.flush() == Ok(());
+    let is_taken = sink.bytes() == b"abc".as_slice();
+    drop(sink);
+    assert!(rt; first_failed && is_written && flush_failed && is_flushed && is_taken);
     Ok(())
 }
 
@@ -83,10 +94,11 @@ fn a_failed_write_leaves_a_prefix(rt: HostRuntime) -> Result<(), Fail> {
 fn numbers_grow_at_their_end(rt: HostRuntime) -> Result<(), Fail> {
     let alloc = rt.alloc();
     let numbers = failing(alloc, &[5, 1 << 40])?;
-    assert_eq!(rt; numbers.len(), 2);
-    assert_eq!(rt; numbers.get(1), Some(&(1 << 40)));
-    assert_eq!(rt; numbers.get(2), None);
-    assert_eq!(rt; numbers.as_slice(), [5, 1 << 40].as_slice());
+    let ends = numbers.len() == 2 && numbers.get(2) == None;
+    let last = numbers.get(1) == Some(&(1 << 40));
+    let all = numbers.as_slice() == [5, 1 << 40].as_slice();
+    drop(numbers);
+    assert!(rt; ends && last && all);
     Ok(())
 }
 
@@ -124,8 +136,11 @@ fn objects_pass_through_the_traits(rt: HostRuntime) -> Result<(), Fail> {
     let bytes = bytes_of(alloc, b"abc")?;
     let mut source = MemSource::new(bytes, failing(alloc, &[])?);
     let mut sink = MemSink::new(alloc, 9, failing(alloc, &[])?)?;
-    assert_eq!(rt; copy_through(&mut source, &mut sink), Ok(3));
-    assert_eq!(rt; sink.bytes(), b"abc".as_slice());
+    let is_copied = copy_through(&mut source, &mut sink) == Ok(3);
+    let is_taken = sink.bytes() == b"abc".as_slice();
+    drop(source);
+    drop(sink);
+    assert!(rt; is_copied && is_taken);
     pass(&rt, &OpenGate);
     Ok(())
 }

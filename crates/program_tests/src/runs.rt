@@ -59,6 +59,21 @@ pub fn run_over<R: Threads + Wait + Sync, F: Folder + Send, G: Gate + Sync>(
     })
 }
 
+/// Whether such a run ends so and writes these bytes.
+pub fn ends_over<R: Threads + Wait + Sync, F: Folder + Send, G: Gate + Sync>(
+    rt: &R,
+    alloc: Global,
+    words: &[&str],
+    input: &[u8],
+    folder: &mut F,
+    gate: &G,
+    status: Status,
+    output: &[u8],
+) -> Result<bool, Fail> {
+    let ended = run_over(rt, alloc, words, input, folder, gate)?;
+    Ok(ended.is(status, output))
+}
+
 /// Runs the program on an input. The read and the call of the sink with these numbers fail; 0 is none.
 pub fn run_on<R: Threads + Wait + Sync>(
     rt: &R,
@@ -88,12 +103,15 @@ pub fn run_on<R: Threads + Wait + Sync>(
     })
 }
 
-/// Plays a script with so many workers.
-pub fn play<R: Threads + Wait + Sync>(
+/// Whether a script that is played with so many workers ends so and writes these bytes.
+pub fn plays<R: Threads + Wait + Sync>(
     rt: &R,
     alloc: Global,
     workers: &str,
     input: &[u8],
-) -> Result<Ended, Fail> {
-    run_on(rt, alloc, &["play", "--workers", workers], input, 0, 0)
+    status: Status,
+    output: &[u8],
+) -> Result<bool, Fail> {
+    let ended = run_on(rt, alloc, &["play", "--workers", workers], input, 0, 0)?;
+    Ok(ended.is(status, output))
 }

@@ -69,61 +69,85 @@ fn read_all(
     let mut script = Script::new();
     let mut answers = Vec::new(alloc);
     for _ in 0..calls {
-        answers.push(b'[')?;
-        match script.next_command(alloc, &mut source) {
-            Ok(command) => told_command(&mut answers, &command)?,
-            Err(fault) => told_fault(alloc, &mut answers, fault)?,
-        }
-        answers.push(b']')?;
+        told_next(alloc, &mut script, &mut source, &mut answers)?;
     }
     Ok(answers)
 }
 
+/// What the call for the next command answers, in brackets.
+fn told_next(
+    alloc: Global,
+    script: &mut Script,
+    source: &mut MemSource,
+    answers: &mut Vec<u8>,
+) -> Result<(), AllocError> {
+    answers.push(b'[')?;
+    match script.next_command(alloc, source) {
+        Ok(command) => told_command(answers, &command)?,
+        Err(fault) => told_fault(alloc, answers, fault)?,
+    }
+    answers.push(b']')?;
+    Ok(())
+}
+
+/// Whether so many calls for the next command answer so.
+fn answers_so(
+    alloc: Global,
+    input: &[u8],
+    fails: &[u64],
+    calls: usize,
+    wanted: &[u8],
+) -> Result<bool, AllocError> {
+    let answers = read_all(alloc, input, fails, calls)?;
+    Ok(answers.as_slice() == wanted)
+}
+
+/// Scripts, the numbers of the reads that fail, how many commands are asked for, and what is answered.
+const SCRIPTS: &[(&[u8], &[u64], usize, &[u8])] = &[
+    (b"", &[], 2, b"[end][end]"),
+    (
+        b"# a script\nput A\r\nfirst\r\nsecond\n%%end\r\n \nreport B",
+        &[],
+        5,
+        b"[blank][put A first\r\nsecond\n][blank][report B][end]",
+    ),
+    (
+        b"drop A\nreport A\ncheck\nflat A\ncarry F f z : t\nlog\n",
+        &[],
+        7,
+        b"[drop A][report A][check][flat A][carry F f z : t][log][end]",
+    ),
+    // All bytes behind the first space are the judgement.
+    (b"carry F  [x] x \n", &[], 2, b"[carry F  [x] x ][end]"),
+    (b"carry F \n", &[], 2, b"[bad 1][spent]"),
+    (b"carry  F z\n", &[], 2, b"[bad 1][spent]"),
+    (b"carry F\n", &[], 2, b"[bad 1][spent]"),
+    (b"\n\nreport\n", &[], 4, b"[blank][blank][bad 3][spent]"),
+    (b"report A\r", &[], 2, b"[bad 1][spent]"),
+    (b"report A B\n", &[], 2, b"[bad 1][spent]"),
+    (b"log \n", &[], 2, b"[bad 1][spent]"),
+    (b"put A\n\n", &[], 2, b"[unended 1][spent]"),
+    (
+        b"report A\nput A\nx",
+        &[],
+        3,
+        b"[report A][unended 2][spent]",
+    ),
+    // A name that is put is no reserved word, and the line of a text counts.
+    (b"put _\n%%end\n", &[], 2, b"[bad 1][spent]"),
+    (
+        b"put A\na\n%%end\ncheck \n",
+        &[],
+        3,
+        b"[put A a\n][bad 4][spent]",
+    ),
+    (b"report A\n", &[1], 2, b"[failed][spent]"),
+];
+
 #[test]
 fn commands_and_faults(rt: HostRuntime) -> Result<(), Fail> {
-    let cases: [(&[u8], &[u64], usize, &[u8]); 16] = [
-        (b"", &[], 2, b"[end][end]"),
-        (
-            b"# a script\nput A\r\nfirst\r\nsecond\n%%end\r\n \nreport B",
-            &[],
-            5,
-            b"[blank][put A first\r\nsecond\n][blank][report B][end]",
-        ),
-        (
-            b"drop A\nreport A\ncheck\nflat A\ncarry F f z : t\nlog\n",
-            &[],
-            7,
-            b"[drop A][report A][check][flat A][carry F f z : t][log][end]",
-        ),
-        // All bytes behind the first space are the judgement.
-        (b"carry F  [x] x \n", &[], 2, b"[carry F  [x] x ][end]"),
-        (b"carry F \n", &[], 2, b"[bad 1][spent]"),
-        (b"carry  F z\n", &[], 2, b"[bad 1][spent]"),
-        (b"carry F\n", &[], 2, b"[bad 1][spent]"),
-        (b"\n\nreport\n", &[], 4, b"[blank][blank][bad 3][spent]"),
-        (b"report A\r", &[], 2, b"[bad 1][spent]"),
-        (b"report A B\n", &[], 2, b"[bad 1][spent]"),
-        (b"log \n", &[], 2, b"[bad 1][spent]"),
-        (b"put A\n\n", &[], 2, b"[unended 1][spent]"),
-        (
-            b"report A\nput A\nx",
-            &[],
-            3,
-            b"[report A][unended 2][spent]",
-        ),
-        // A name that is put is no reserved word, and the line of a text counts.
-        (b"put _\n%%end\n", &[], 2, b"[bad 1][spent]"),
-        (
-            b"put A\na\n%%end\ncheck \n",
-            &[],
-            3,
-            b"[put A a\n][bad 4][spent]",
-        ),
-        (b"report A\n", &[1], 2, b"[failed][spent]"),
-    ];
-    for (input, fails, calls, answers) in cases {
-        let found = read_all(rt.alloc(), input, fails, calls)?;
-        assert_eq!(rt; found.as_slice(), answers);
+    for &(input, fails, calls, answers) in SCRIPTS {
+        assert!(rt; answers_so(rt.alloc(), input, fails, calls, answers)?);
     }
     Ok(())
 }

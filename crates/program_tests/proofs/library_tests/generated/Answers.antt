@@ -21,8 +21,8 @@ end-board-requires-send-S-Answer g c κs = param_send _ _ (arg_send _ yes _ verd
 pub end-board-requires-sync-S-Answer : goal.end-board-requires-sync-S-Answer
 end-board-requires-sync-S-Answer g c κs = param_sync _ _ (arg_sync _ yes _ verdict_row_sync)
 
-pub installs-requires-send-S-Answer : goal.installs-requires-send-S-Answer
-installs-requires-send-S-Answer g c κs = param_send _ _ (arg_send _ yes _ verdict_row_send)
+pub installs-installs-requires-send-S-Answer : goal.installs-installs-requires-send-S-Answer
+installs-installs-requires-send-S-Answer g c κs = param_send _ _ (arg_send _ yes _ verdict_row_send)
 
-pub installs-requires-sync-S-Answer : goal.installs-requires-sync-S-Answer
-installs-requires-sync-S-Answer g c κs = param_sync _ _ (arg_sync _ yes _ verdict_row_sync)
+pub installs-installs-requires-sync-S-Answer : goal.installs-installs-requires-sync-S-Answer
+installs-installs-requires-sync-S-Answer g c κs = param_sync _ _ (arg_sync _ yes _ verdict_row_sync)
