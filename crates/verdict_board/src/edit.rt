@@ -58,7 +58,14 @@ impl<S: Subject> Board<S> {
         }
         let next = self.next(alloc, pass, version, &edit)?;
         let anew = next.anew;
-        match change(alloc, &mut self.log, &mut self.stages, &next.graph, anew, edit) {
+        match change(
+            alloc,
+            &mut self.log,
+            &mut self.stages,
+            &next.graph,
+            anew,
+            edit,
+        ) {
             Ok(_) => {}
             Err(fault) => return Err(fault),
         }
