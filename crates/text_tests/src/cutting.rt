@@ -66,50 +66,47 @@ fn is_cut(alloc: Global, text: &[u8], want: &str) -> Result<bool, AllocError> {
     Ok(line.as_str() == want)
 }
 
-/// Texts, and the tokens into which they are cut.
-const TOKENS: &[(&str, &str)] = &[
-    ("", "end 0"),
-    ("a->b", "ident/a->b 0-4 end 4"),
-    ("type.z", "stray 0-6 end 6"),
-    ("z.type.b", "stray 0-8 end 8"),
-    ("a.b.c", "ident/a/b/c 0-5 end 5"),
-    ("a. b", "ident/a 0-1 dot 1-2 ident/b 3-4 end 4"),
-    ("a .b", "ident/a 0-1 dot 2-3 ident/b 3-4 end 4"),
-    ("a..b", "ident/a 0-1 dot 1-2 dot 2-3 ident/b 3-4 end 4"),
-    (".a", "dot 0-1 ident/a 1-2 end 2"),
-    ("a.", "ident/a 0-1 dot 1-2 end 2"),
-    ("x:=y", "ident/x 0-1 := 1-3 ident/y 3-4 end 4"),
-    ("x : = y", "ident/x 0-1 : 2-3 equal 4-5 ident/y 6-7 end 7"),
-    (":", ": 0-1 end 1"),
-    ("%sig", "percent 0-4 end 4"),
-    ("%a.b", "percent 0-2 dot 2-3 ident/b 3-4 end 4"),
-    ("%%", "end 2"),
-    ("%", "end 1"),
-    ("% note", "end 6"),
-    ("% a\rb\nc", "ident/c 6-7 end 7"),
-    ("%(", "stray 0-1 ( 1-2 end 2"),
-    ("%{ a %{ b }% c }% d", "ident/d 18-19 end 19"),
-    ("%{}%{", "{ 4-5 end 5"),
-    ("%{ open", "open comment at 0"),
-    ("a %{ %{ }%", "open comment at 2"),
-    ("a %. b", "ident/a 0-1 end 2"),
-    ("\"", "stray 0-1 end 1"),
-    ("()[]{}", "( 0-1 ) 1-2 [ 2-3 ] 3-4 { 4-5 } 5-6 end 6"),
-    (
-        "type -> <- = _",
-        "type 0-4 arrow 5-7 back 8-10 equal 11-12 blank 13-14 end 14",
-    ),
-    ("\u{e9}\u{3bb}.x", "ident/\u{e9}\u{3bb}/x 0-6 end 6"),
-    (
-        "\t\u{0}\u{1}\r\u{7f}",
-        "ident/\u{0}\u{1} 1-3 ident/\u{7f} 4-5 end 5",
-    ),
-];
-
 #[test]
 fn the_table_of_tokens(rt: HostRuntime) -> Result<(), Fail> {
     let alloc = rt.alloc();
-    for &(text, want) in TOKENS {
+    for (text, want) in [
+        ("", "end 0"),
+        ("a->b", "ident/a->b 0-4 end 4"),
+        ("type.z", "stray 0-6 end 6"),
+        ("z.type.b", "stray 0-8 end 8"),
+        ("a.b.c", "ident/a/b/c 0-5 end 5"),
+        ("a. b", "ident/a 0-1 dot 1-2 ident/b 3-4 end 4"),
+        ("a .b", "ident/a 0-1 dot 2-3 ident/b 3-4 end 4"),
+        ("a..b", "ident/a 0-1 dot 1-2 dot 2-3 ident/b 3-4 end 4"),
+        (".a", "dot 0-1 ident/a 1-2 end 2"),
+        ("a.", "ident/a 0-1 dot 1-2 end 2"),
+        ("x:=y", "ident/x 0-1 := 1-3 ident/y 3-4 end 4"),
+        ("x : = y", "ident/x 0-1 : 2-3 equal 4-5 ident/y 6-7 end 7"),
+        (":", ": 0-1 end 1"),
+        ("%sig", "percent 0-4 end 4"),
+        ("%a.b", "percent 0-2 dot 2-3 ident/b 3-4 end 4"),
+        ("%%", "end 2"),
+        ("%", "end 1"),
+        ("% note", "end 6"),
+        ("% a\rb\nc", "ident/c 6-7 end 7"),
+        ("%(", "stray 0-1 ( 1-2 end 2"),
+        ("%{ a %{ b }% c }% d", "ident/d 18-19 end 19"),
+        ("%{}%{", "{ 4-5 end 5"),
+        ("%{ open", "open comment at 0"),
+        ("a %{ %{ }%", "open comment at 2"),
+        ("a %. b", "ident/a 0-1 end 2"),
+        ("\"", "stray 0-1 end 1"),
+        ("()[]{}", "( 0-1 ) 1-2 [ 2-3 ] 3-4 { 4-5 } 5-6 end 6"),
+        (
+            "type -> <- = _",
+            "type 0-4 arrow 5-7 back 8-10 equal 11-12 blank 13-14 end 14",
+        ),
+        ("\u{e9}\u{3bb}.x", "ident/\u{e9}\u{3bb}/x 0-6 end 6"),
+        (
+            "\t\u{0}\u{1}\r\u{7f}",
+            "ident/\u{0}\u{1} 1-3 ident/\u{7f} 4-5 end 5",
+        ),
+    ] {
         assert!(rt; is_cut(alloc, text.as_bytes(), want)?, "{text}");
     }
     Ok(())
