@@ -1,5 +1,5 @@
 //! The calls of an object in memory, and which of them fail.
-ghost use Rattle.std.specs.Prelude.{◌≡◌, ◌↔◌, ◌≤◌, IsErr, IsTrue};
+ghost use Rattle.std.specs.Prelude.{◌≡◌, ◌↔◌, ◌≤◌, IsErr, IsTrue, OnOk};
 ghost use Rattle.mmt_outside.specs.Memory.{no_calls, next_fails, after_call, with_fault};
 
 use crate::{Failed, Inputs64};
@@ -38,6 +38,7 @@ impl CallCount {
         ensures fails { IsErr result ↔ IsTrue (next_fails self.old) }
         ensures after { self.new ≡ after_call self.old }
         ensures later { self.old.faults ≤ self.new.faults }
+        ensures kept { OnOk result (self.new.faults ≡ self.old.faults) }
     {
         self.made = self.made.saturating_add(1);
         if self.fails.as_slice().contains(&self.made) {

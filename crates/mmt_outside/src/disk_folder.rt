@@ -2,7 +2,7 @@
 ghost use Rattle.std.specs.Prelude.{◌≡◌, ◌≤◌, None, IfOk};
 ghost use Rattle.mmt_outside.specs.Faults.{Rose};
 ghost use Rattle.mmt_outside.specs.Files.{IsWithinLimit};
-ghost use Rattle.mmt_outside.specs.declared.fault.OutFault.TheVariants.{Failed};
+ghost use Rattle.mmt_outside.specs.declared.fault.OutFault.TheVariants.{Failed, Memory};
 
 use crate::folder::FILE_LIMIT;
 use crate::{FileBytes, Folder, OutFault};
@@ -41,6 +41,7 @@ impl DiskFolder {
     fn fault(&mut self, error: &io::Error) -> OutFault
         ensures later { self.old ≤ self.new }
         ensures rose { result ≡ Failed → Rose self.old self.new }
+        ensures wants { result ≡ Memory → self.new ≡ self.old }
     {
         if error.kind() == io::ErrorKind::OutOfMemory {
             return OutFault::Memory;

@@ -27,14 +27,15 @@ pub trait Folder {
     /// The files, where the folder tells them.
     ghost files: { Self → Option Files };
 
-    /// How many calls have failed. It never falls.
+    /// How many calls have failed. It never falls, and want of memory leaves it.
     ghost faults: { Self → ℕ };
 
     /// The names of the files in a folder, each once, in any order.
     fn list(&mut self, alloc: Global, folder: &str) -> Result<Texts, OutFault>
         ensures names { IfOk result (λ names. IfSome (files self.old) (λ told. IsListing told folder.now (map string_bytes names))) }
         ensures same { files self.new ≡ files self.old }
-        ensures cause { HasCauseOrNoMemory (faults self.old) (faults self.new) result };
+        ensures cause { HasCauseOrNoMemory (faults self.old) (faults self.new) result }
+        ensures wants { IsErrOf result OutFault.Memory → faults self.new ≡ faults self.old };
 
     /// The bytes of a file. Where the files are told, the folder has to have one of that name.
     fn read_file(&mut self, alloc: Global, folder: &str, name: &str) -> Result<FileBytes, OutFault>
@@ -44,7 +45,8 @@ pub trait Folder {
         // Told or not.
         ensures within { IfOk result IsWithinLimit }
         ensures same { files self.new ≡ files self.old }
-        ensures cause { HasCauseOrNoMemory (faults self.old) (faults self.new) result };
+        ensures cause { HasCauseOrNoMemory (faults self.old) (faults self.new) result }
+        ensures wants { IsErrOf result OutFault.Memory → faults self.new ≡ faults self.old };
 }
 
 /// No folder at all. It lists no names, and every file is a fault. It does not tell what files there are.
@@ -88,6 +90,7 @@ impl Folder for NoFolder {
         ensures count { self.new ≡ min (self.old + 1) (2 ^ 64 - 1) }
         ensures within { IfOk result IsWithinLimit }
         ensures cause { HasCauseOrNoMemory self.old self.new result }
+        ensures wants { IsErrOf result OutFault.Memory → self.new ≡ self.old }
     {
         self.faults = self.faults.saturating_add(1);
         Err(OutFault::Failed)

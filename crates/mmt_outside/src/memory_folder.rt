@@ -128,6 +128,7 @@ impl Folder for MemFolder {
         ensures names { IfOk result (λ names. IsListing (bytes_of self.old.files) folder.now (map string_bytes names)) }
         ensures same { Some (bytes_of self.new.files) ≡ Some (bytes_of self.old.files) }
         ensures cause { HasCauseOrNoMemory self.old.calls.faults self.new.calls.faults result }
+        ensures wants { IsErrOf result OutFault.Memory → self.new.calls.faults ≡ self.old.calls.faults }
     {
         self.calls.next()?;
         let names = names_of(alloc, &self.files, folder)?;
@@ -148,6 +149,7 @@ impl Folder for MemFolder {
         ensures within { IfOk result IsWithinLimit }
         ensures same { Some (bytes_of self.new.files) ≡ Some (bytes_of self.old.files) }
         ensures cause { HasCauseOrNoMemory self.old.calls.faults self.new.calls.faults result }
+        ensures wants { IsErrOf result OutFault.Memory → self.new.calls.faults ≡ self.old.calls.faults }
     {
         self.calls.next()?;
         match first_of(&self.files, folder, name) {

@@ -1,5 +1,5 @@
 //! Folders of which one is there and all others fail.
-ghost use Rattle.std.specs.Prelude.{◌≤◌, None, IfOk};
+ghost use Rattle.std.specs.Prelude.{◌≡◌, ◌≤◌, None, IfOk};
 ghost use Rattle.mmt_outside.specs.Faults.{HasCauseOrNoMemory, Rose};
 ghost use Rattle.mmt_outside.specs.Files.{IsWithinLimit};
 
@@ -32,6 +32,7 @@ impl OneFolder {
     fn fault(&mut self) -> OutFault
         ensures later { self.old ≤ self.new }
         ensures rose { Rose self.old self.new }
+        ensures failed { result ≡ OutFault.Failed }
     {
         self.faults = self.faults.saturating_add(1);
         OutFault::Failed
