@@ -164,6 +164,28 @@ fn substituted_rest<'a>(
 }
 
 impl<'a> Head<'a> {
+    /// The same head, with room for so many arguments more. Terms are kept with the room that they were made with.
+    pub(crate) fn with_room(self, arguments: usize) -> Result<Head<'a>, Memory>
+        ensures { IfOk result (λ after. (head : meant.Head) → Stands self.entry head → Stands after head) }
+    {
+        let Head {
+            start,
+            spine,
+            classifier,
+        } = self;
+        let mut items = spine.into_vec();
+        let Ok(()) = items.reserve_exact(arguments) else {
+            drop(items);
+            drop(classifier);
+            return Err(Memory);
+        };
+        Ok(Head {
+            start,
+            spine: Spine::from_vec(items),
+            classifier,
+        })
+    }
+
     /// The head after one argument more.
     pub(crate) fn takes(self, alloc: Global, argument: Obj) -> Result<Head<'a>, Memory>
         ensures { IfOk result (λ after. (head : meant.Head) → Stands self.entry head → Stands after (meant.head_takes head (read_object argument))) }

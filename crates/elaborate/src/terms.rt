@@ -123,7 +123,8 @@ fn with_arguments<'a>(
 ) -> Result<Head<'a>, ElabFault>
     ensures { (begun : meant.Head) → Stands first.entry begun → Begins result (expand_arguments (scope_of context.now) (locals_of context.now) (read_arguments args.now) begun) }
 {
-    let mut head = first;
+    let roomy = first.with_room(args.len())?;
+    let mut head = roomy;
     for argument in args {
         head = with_argument(alloc, &*context, head, argument)?;
     }

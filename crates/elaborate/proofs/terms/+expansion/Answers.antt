@@ -183,11 +183,11 @@ object-returns-in_ok-new-in-Pi-family t c =
 
 pub with_arguments-loop-argument-init : goal.with_arguments-loop-argument-init
 unfolding expand_object
-with_arguments-loop-argument-init t c begun stands = (begun, refl, stands)
+with_arguments-loop-argument-init t c begun stands = (begun, refl, c.in_ok-roomy.ensures begun stands)
 
 pub with_arguments-returns-in_err-head : goal.with_arguments-returns-in_err-head
 with_arguments-returns-in_err-head t c begun stands =
-    let p = err_from_is_err_and c.from_residual.result c.from_residual.ensures.1 in
+    let p = err_from_is_err_and c.from_residual-in_err-head.result c.from_residual-in_err-head.ensures.1 in
     let now = c.loop-argument.invariant begun stands in
     let fault = c.in_err-head.field-0.0 in
     rw (p.1, p.2) (argument_fault (scope_of c.args.context.now) (locals_of c.args.context.now) c.args.args.now c.loop-argument.argument-index c.argument-item.result c.loop-argument-test.true c.argument-item.is begun now.0 now.1 fault (c.in_err-head.ensures now.0 now.2))
