@@ -7,6 +7,8 @@ ghost use Rattle.board_meaning.specs.Machine.{answers_reply, report_reply};
 ghost use Rattle.log_meaning.specs.Append.{append_answer};
 ghost use Rattle.edit_log.specs.Readings.{read_edit, IsAnswer};
 ghost use Rattle.module_graph.specs.Subjects.{read_answers};
+ghost use Rattle.text_meaning.specs.Dependencies.{dependencies};
+ghost use Rattle.verdict_board.specs.ReadBefore.{AreReadBefore};
 ghost use Rattle.verdict_board.specs.Readings.{read_told};
 ghost use Rattle.verdict_meaning.specs.Rounds.{modules};
 ghost use Rattle.mmt_interface.specs.Readings.{read_verdict};
@@ -15,7 +17,7 @@ ghost use Rattle.board_front.specs.Staying.{EditGoes, IsAtFront, Stays};
 
 use board_seats::{BoardPass, SharedBoard};
 use edit_log::{Edit, EditFault, Edited};
-use lf_terms::{Memory, Name, Steps};
+use lf_terms::{Memory, Name, Names, Steps};
 use mmt_interface::Verdict;
 use mmt_outside::Gate;
 use module_check::Mmt;
@@ -27,23 +29,25 @@ use std::sync::ledger::{Blank, Ledger};
 use verdict_board::Told;
 use worker_loop::{TurnEnd, turn};
 
-/// Makes an edit, unless it is refused.
+/// Makes an edit, unless it is refused. The dependencies of the text that it puts may have been read before.
 pub(crate) fn edit<R: Wait>(
     rt: &R,
     alloc: Global,
     board: &SharedBoard<Mmt>,
     pass: &mut BoardPass<Mmt>,
     edit: Edit,
+    known: Option<Names>,
 ) -> Result<Edited, EditFault>
     requires front { IsAtFront board.now pass.old }
+    requires known { AreReadBefore dependencies (read_edit edit) known }
     ensures keeps { Keeps pass.old pass.new }
     ensures answer { IsAnswer result (append_answer (log_of pass.old.seen) (read_edit edit)) }
     ensures goes { EditGoes result (read_edit edit) pass.old.seen pass.new.seen }
 {
-    board.edit(rt, alloc, pass, edit)
+    board.edit_read_before(rt, alloc, pass, edit, known)
 }
 
-/// What is told of a name now.
+/// What is told of a name now. Whoever asks takes a turn where the verdict is to come.
 pub(crate) fn report<R: Wait>(
     rt: &R,
     board: &SharedBoard<Mmt>,
@@ -55,7 +59,7 @@ pub(crate) fn report<R: Wait>(
     ensures told { IfOk result (λ told. read_told read_verdict told ≡ report_reply modules pass.new.seen name.now) }
     ensures stays { Stays pass.old.seen pass.new.seen }
 {
-    board.report(rt, pass, name)
+    board.report_before_turn(rt, pass, name)
 }
 
 /// The answers of what a name reaches, itself left out. None exactly where the library lacks the name, or it is ungrounded, or has

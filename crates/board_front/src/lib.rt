@@ -4,6 +4,7 @@
 
 mod calls;
 mod flats;
+mod reading;
 mod reports;
 mod verdict;
 

@@ -13,6 +13,7 @@ ghost use Rattle.board_front.specs.Staying.{AllStand, Edits, IsAtFront, IsFront,
 ghost use Rattle.board_front.specs.Told.{IsToldOf};
 
 use crate::calls;
+use crate::reading::read_before;
 use crate::verdict::told;
 use board_seats::{BoardPass, SharedBoard};
 use edit_log::{Edit, EditFault, Edited, Log};
@@ -91,7 +92,8 @@ pub fn make_edit<R: Wait>(
 {
     let word = made_word(&edit);
     let copy = edit.copy(alloc)?;
-    match calls::edit(rt, alloc, board, pass, edit) {
+    let known = read_before(alloc, log, &edit);
+    match calls::edit(rt, alloc, board, pass, edit, known) {
         Ok(Edited::Made(_)) => match log.append(alloc, copy) {
             Ok(_) => Ok(word),
             Err(_) => Err(Memory),

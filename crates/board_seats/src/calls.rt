@@ -8,6 +8,7 @@ ghost use Rattle.board_meaning.specs.Points.{Makes, Reports, AsksAnswers, AsksCl
 ghost use Rattle.edit_log.specs.Readings.{read_edit};
 ghost use Rattle.module_graph.specs.Subjects.{IsGiven, read_answers};
 ghost use Rattle.verdict_board.specs.FirstPending.{IsFirstPending};
+ghost use Rattle.verdict_board.specs.ReadBefore.{AreReadBefore};
 ghost use Rattle.verdict_board.specs.Readings.{read_job};
 ghost use Rattle.board_seats.specs.Replies.{read_edit_reply, read_claim, read_report, read_question, read_install};
 ghost use Rattle.board_seats.specs.Seats.{IsCalled, LooksAt, MayEnd, IsGivenAtClaim};
@@ -15,7 +16,7 @@ ghost use Rattle.board_seats.specs.Seats.{IsCalled, LooksAt, MayEnd, IsGivenAtCl
 use crate::waits::puts_long;
 use crate::{BoardPass, SharedBoard};
 use edit_log::{Edit, EditFault, Edited};
-use lf_terms::{Memory, Name};
+use lf_terms::{Memory, Name, Names};
 use module_graph::{Answers, Subject};
 use std::alloc::Global;
 use std::sync::Wait;
@@ -36,9 +37,27 @@ impl<S: Subject> SharedBoard<S> {
         requires front { pass.old.number ≡ 0 }
         ensures { IsCalled S.subject pass.old (Makes (EditCall (read_edit edit))) (read_edit_reply result) pass.new }
     {
+        self.edit_read_before(rt, alloc, pass, edit, None)
+    }
+
+    /// The same, where the dependencies of the text that is put may have been read before: then no other pass waits while they are
+    /// read; see `Board::edit_read_before`.
+    pub fn edit_read_before<R: Wait>(
+        &self,
+        rt: &R,
+        alloc: Global,
+        pass: &mut BoardPass<S>,
+        edit: Edit,
+        known: Option<Names>,
+    ) -> Result<Edited, EditFault>
+        requires idle { IsIdleOf self.now pass.old }
+        requires front { pass.old.number ≡ 0 }
+        requires known { AreReadBefore S.subject.dependencies (read_edit edit) known }
+        ensures { IsCalled S.subject pass.old (Makes (EditCall (read_edit edit))) (read_edit_reply result) pass.new }
+    {
         let is_long = puts_long(&edit);
         let mut board = self.take(rt, pass);
-        let answer = board.edit(alloc, Turns::number(pass), edit);
+        let answer = board.edit_read_before(alloc, Turns::number(pass), edit, known);
         self.give(pass, board);
         self.wake_after_edit(is_long, &answer);
         answer
@@ -59,8 +78,9 @@ impl<S: Subject> SharedBoard<S> {
     {
         let mut board = self.take(rt, pass);
         let job = board.claim(alloc, Turns::number(pass));
+        let may_have_more = board.may_have_job();
         self.give(pass, board);
-        self.wake_after_claim(&job);
+        self.wake_for_more(may_have_more);
         job
     }
 
@@ -113,11 +133,26 @@ impl<S: Subject> SharedBoard<S> {
         requires idle { IsIdleOf self.now pass.old }
         ensures { IsCalled S.subject pass.old (Reports name.now) (read_report S.meaning result) pass.new }
     {
-        let board = self.take(rt, pass);
-        let told = board.report(name);
-        self.give(pass, board);
+        let told = self.report_before_turn(rt, pass, name);
         self.wake_after_report(&told);
         told
+    }
+
+    /// The same for whoever takes a turn where a verdict is to come: it wakes nobody, since the claim of that turn does where
+    /// there may be more to do.
+    pub fn report_before_turn<R: Wait>(
+        &self,
+        rt: &R,
+        pass: &mut BoardPass<S>,
+        name: &Name,
+    ) -> Result<Told<S::Answer>, Memory>
+        requires idle { IsIdleOf self.now pass.old }
+        ensures { IsCalled S.subject pass.old (Reports name.now) (read_report S.meaning result) pass.new }
+    {
+        let board = self.take(rt, pass);
+        let known = board.report(name);
+        self.give(pass, board);
+        known
     }
 
     /// The answers of what a name reaches, itself left out, in byte order; see `Board::answers`.

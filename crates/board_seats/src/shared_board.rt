@@ -22,9 +22,9 @@ use verdict_board::Board;
 #[derive(Drop)]
 pub struct SharedBoard<S: Subject> {
     turns: Turns<Seated<S>>,
-    /// Wakes those that wait until there may be a job. A report that says that a verdict is to come wakes one, so does a claim that
-    /// gave a job or found no memory, and a release: whoever is woken claims, and so wakes the next, for as long as there are
-    /// jobs. An edit that puts a long text wakes one. A short one is judged in less time than it takes to wake somebody, and while
+    /// Wakes those that wait until there may be a job. A report that says that a verdict is to come wakes one, so does a claim
+    /// behind which a further module may be ready, and a release: whoever is woken claims, and so wakes the next, for as long as
+    /// there may be jobs. An edit that puts a long text wakes one. A short one is judged in less time than it takes to wake somebody, and while
     /// texts are put one after another the turns of those that were woken would only hold up the next edit: it waits until
     /// somebody asks for its verdict. An install wakes nobody: who installed goes on, and its next claim wakes. A close wakes all.
     /// The board is given back before a wake, so a turn behind it finds what changed.

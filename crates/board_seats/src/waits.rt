@@ -7,7 +7,7 @@ use lf_terms::Memory;
 use module_graph::Subject;
 use std::sync::Wait;
 use std::sync::atomic::Ordering::SeqCst;
-use verdict_board::{Job, Told};
+use verdict_board::Told;
 
 /// A text of so many bytes takes longer to judge than it takes to wake somebody.
 const LONG: usize = 4_096;
@@ -28,8 +28,8 @@ impl Announced<'_> {
 
 impl<S: Subject> SharedBoard<S> {
     /// Announces a wait for a job. A claim that comes behind it and finds no job may be followed by the wait: a later report that
-    /// says that a verdict is to come ends it, a claim that gives a job, a release, an edit that puts a long text, and a close. An
-    /// edit that puts a short one does not, nor does a question for answers.
+    /// says that a verdict is to come ends it, a claim behind which a further module may be ready, a release, an edit that puts a
+    /// long text, and a close. An edit that puts a short one does not, nor does a question for answers.
     pub fn announce(&self) -> Announced<'_> {
         Announced {
             key: self.changes.prepare_wait(),
@@ -79,9 +79,9 @@ impl<S: Subject> SharedBoard<S> {
         }
     }
 
-    /// Wakes one that waits, unless a claim found that no name is ready.
-    pub(crate) fn wake_after_claim(&self, job: &Result<Option<Job<S>>, Memory>) {
-        if !matches!(job, Ok(None)) {
+    /// Wakes one that waits, where behind a claim a further module may be ready.
+    pub(crate) fn wake_for_more(&self, may_have_more: bool) {
+        if may_have_more {
             self.wake_one();
         }
     }

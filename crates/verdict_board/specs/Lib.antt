@@ -6,3 +6,4 @@ pub mod Searching
 pub mod Keeping
 pub mod Changes
 pub mod FirstPending
+pub mod ReadBefore

@@ -66,6 +66,31 @@ impl Candidates {
             None => Ok(true),
         }
     }
+
+    /// Whether the module at a place is a candidate that waits for a claim. One that is not is not ready.
+    fn may_be_ready<A: Drop>(&self, stages: &NameTable<Stage<A>>, place: usize) -> bool
+        requires kept { (graph : Graph) × AreKept stages.now graph self.now }
+        requires within { place < length stages.now }
+        ensures { result ≡ false → (graph : Graph) → AreKept stages.now graph self.now → IsUnreadyAt stages.now graph place }
+    {
+        if !self.candidate[place] {
+            return false;
+        }
+        stages.row_at(place).1.is_waiting()
+    }
+}
+
+/// Whether some module may be ready. It takes no memory.
+pub fn may_be_ready<A: Drop>(stages: &NameTable<Stage<A>>, candidates: &Candidates) -> bool
+    requires kept { (graph : Graph) × AreKept stages.now graph candidates.now }
+    ensures { result ≡ false → (graph : Graph) → AreKept stages.now graph candidates.now → NoneIsReady stages.now graph }
+{
+    for place in 0..stages.len() {
+        if candidates.may_be_ready(stages, place) {
+            return true;
+        }
+    }
+    false
 }
 
 /// The place of the first module in byte order that is ready, if one is.

@@ -13,6 +13,7 @@ ghost use Rattle.board_meaning.specs.Events.{library_after};
 ghost use Rattle.board_meaning.specs.Machine.{edit_reply, EditCall, after_call};
 ghost use Rattle.edit_log.specs.Readings.{read_edit, IsAnswer};
 ghost use Rattle.verdict_board.specs.Entries.{entry, read_event};
+ghost use Rattle.verdict_board.specs.ReadBefore.{AreReadBefore};
 ghost use Rattle.verdict_board.specs.Searching.{AreNew};
 ghost use Rattle.verdict_board.specs.Stages.{IsStage, AreStages, IsAnew, after_edit_of};
 ghost use Rattle.board_meaning.specs.Events as board;
@@ -49,6 +50,24 @@ impl<S: Subject> Board<S> {
         ensures history { OnOk result (self.new ≡ after_call S.subject.dependencies self.old pass (EditCall (read_edit edit))) }
         ensures unchanged { OnErr result (self.new ≡ self.old) }
     {
+        self.edit_read_before(alloc, pass, edit, None)
+    }
+
+    /// The same, where the dependencies of the text that is put may have been read before: to read them takes as long as the text is,
+    /// and whoever shares the board with others keeps it meanwhile. None: they are read here, if the edit is made.
+    pub fn edit_read_before(
+        &mut self,
+        alloc: Global,
+        pass: u32,
+        edit: Edit,
+        known: Option<Names>,
+    ) -> Result<Edited, EditFault>
+        requires front { pass ≡ 0 }
+        requires known { AreReadBefore S.subject.dependencies (read_edit edit) known }
+        ensures answer { IsAnswer result (edit_reply self.old (read_edit edit)) }
+        ensures history { OnOk result (self.new ≡ after_call S.subject.dependencies self.old pass (EditCall (read_edit edit))) }
+        ensures unchanged { OnErr result (self.new ≡ self.old) }
+    {
         let answer = self.log.answer(&edit)?;
         let Edited::Made(version) = answer else {
             return Ok(answer);
@@ -56,7 +75,7 @@ impl<S: Subject> Board<S> {
         if self.entries >= MOST || self.opened >= MOST {
             return Err(EditFault::Memory);
         }
-        let next = self.next(alloc, pass, version, &edit)?;
+        let next = self.next(alloc, pass, version, &edit, known)?;
         let anew = next.anew;
         match change(
             alloc,
@@ -83,15 +102,17 @@ impl<S: Subject> Board<S> {
         pass: u32,
         version: u32,
         edit: &Edit,
+        known: Option<Names>,
     ) -> Result<Next<S::Answer>, Memory>
-        requires { is_short (read_edit edit.now) ≡ true }
+        requires short { is_short (read_edit edit.now) ≡ true }
+        requires known { AreReadBefore S.subject.dependencies (read_edit edit.now) known }
         ensures holds { IfOk result (λ next. HoldsDependencies next.graph S.subject.dependencies (edited (library_after self.now) (read_edit edit.now))) }
         ensures candidates { IfOk result (λ next. AreNew (length next.graph) next.candidates) }
         ensures anew { IfOk result (λ next. IsAnew S.subject S.meaning self.now (read_edit edit.now) next.anew) }
         ensures history { IfOk result (λ next. next.history.entries ≡ self.now ++ entry pass version (board.EditMade (read_edit edit.now)) ∷ []) }
     {
+        let graph = self.graph_after(alloc, edit, known)?;
         let history = noted_edit(&self.history, alloc, pass, version, edit)?;
-        let graph = self.graph_after(alloc, edit)?;
         let candidates = Candidates::new(alloc, graph.len())?;
         let anew = self.stages_anew(alloc, edit, &graph)?;
         Ok(Next {
@@ -103,14 +124,15 @@ impl<S: Subject> Board<S> {
     }
 
     /// The dependencies of the modules after an edit.
-    fn graph_after(&self, alloc: Global, edit: &Edit) -> Result<Graph, Memory>
-        requires { is_short (read_edit edit.now) ≡ true }
+    fn graph_after(&self, alloc: Global, edit: &Edit, known: Option<Names>) -> Result<Graph, Memory>
+        requires short { is_short (read_edit edit.now) ≡ true }
+        requires known { AreReadBefore S.subject.dependencies (read_edit edit.now) known }
         ensures { IfOk result (λ graph. HoldsDependencies graph S.subject.dependencies (edited (library_after self.now) (read_edit edit.now))) }
     {
         let mut graph = self.graph.copy(alloc)?;
         match edit {
             Edit::Put { name, text } => {
-                let dependencies = self.subject.deps(alloc, name, text.get().as_slice())?;
+                let dependencies = self.dependencies(alloc, name, text.get().as_slice(), known)?;
                 graph.set(alloc, name.copy(alloc)?, dependencies)?;
             }
             Edit::Drop { name } => {
@@ -118,6 +140,24 @@ impl<S: Subject> Board<S> {
             }
         }
         Ok(graph)
+    }
+
+    /// The dependencies of a text, which may be known.
+    fn dependencies(
+        &self,
+        alloc: Global,
+        name: &Name,
+        text: &[u8],
+        known: Option<Names>,
+    ) -> Result<Names, Memory>
+        requires short { length text.now ≤ text_limit }
+        requires known { IfSome known (λ names. names ≡ S.subject.dependencies name.now text.now) }
+        ensures { IfOk result (λ names. names ≡ S.subject.dependencies name.now text.now) }
+    {
+        match known {
+            Some(names) => Ok(names),
+            None => self.subject.deps(alloc, name, text),
+        }
     }
 
     /// How each module stands after an edit that leaves this graph. None only where no module is ungrounded then, so that the stages

@@ -1,7 +1,10 @@
-//! Which modules are still to be judged.
+//! Which modules are still to be judged, and whether one may be ready.
+ghost use Rattle.std.specs.Prelude.{◌≡◌, false, None};
+ghost use Rattle.board_meaning.specs.Ready.{least_ready};
 ghost use Rattle.verdict_board.specs.FirstPending.{IsFirstPending};
 
 use crate::Board;
+use crate::candidates::may_be_ready;
 use module_graph::Subject;
 
 impl<S: Subject> Board<S> {
@@ -16,5 +19,15 @@ impl<S: Subject> Board<S> {
             }
         }
         None
+    }
+
+    /// Whether a module may be ready, so that a claim may give a job. Where it may not, none is ready. It takes no memory.
+    pub fn may_have_job(&self) -> bool
+        ensures { result ≡ false → least_ready S.subject.dependencies self.now ≡ None }
+    {
+        if self.closed {
+            return false;
+        }
+        may_be_ready(&self.stages, &self.candidates)
     }
 }

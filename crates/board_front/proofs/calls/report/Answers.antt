@@ -8,18 +8,18 @@ use Rattle.module_check.proofs.Crossing.{verdict_row_send, verdict_row_sync}
 use Rattle.board_front.proofs.CallPoints.{called_keeps, called_stays, report_told}
 use Rattle.board_front.proofs.calls.report.Goals as goal
 
-pub report-requires-send-S-Answer : goal.report-requires-send-S-Answer
-report-requires-send-S-Answer g c κs within = param_send _ _ (arg_send _ yes _ verdict_row_send)
+pub report_before_turn-requires-send-S-Answer : goal.report_before_turn-requires-send-S-Answer
+report_before_turn-requires-send-S-Answer g c κs within = param_send _ _ (arg_send _ yes _ verdict_row_send)
 
-pub report-requires-sync-S-Answer : goal.report-requires-sync-S-Answer
-report-requires-sync-S-Answer g c κs within = param_sync _ _ (arg_sync _ yes _ verdict_row_sync)
+pub report_before_turn-requires-sync-S-Answer : goal.report_before_turn-requires-sync-S-Answer
+report_before_turn-requires-sync-S-Answer g c κs within = param_sync _ _ (arg_sync _ yes _ verdict_row_sync)
 
 pub returns-clause-keeps : goal.returns-clause-keeps
-returns-clause-keeps g c = called_keeps c.args.pass.now c.report.new.pass c.requires.front.first (Reports c.args.name.now) (read_report read_verdict c.report.result) c.report.ensures
+returns-clause-keeps g c = called_keeps c.args.pass.now c.report_before_turn.new.pass c.requires.front.first (Reports c.args.name.now) (read_report read_verdict c.report_before_turn.result) c.report_before_turn.ensures
 
 pub returns-clause-told : goal.returns-clause-told
-returns-clause-told g c = report_told c.args.pass.now c.report.new.pass c.requires.front.first c.args.name.now c.report.result c.report.ensures
+returns-clause-told g c = report_told c.args.pass.now c.report_before_turn.new.pass c.requires.front.first c.args.name.now c.report_before_turn.result c.report_before_turn.ensures
 
 pub returns-clause-stays : goal.returns-clause-stays
 returns-clause-stays g c =
-    called_stays c.args.pass.now c.report.new.pass c.requires.front.first (Reports c.args.name.now) (read_report read_verdict c.report.result) refl c.report.ensures
+    called_stays c.args.pass.now c.report_before_turn.new.pass c.requires.front.first (Reports c.args.name.now) (read_report read_verdict c.report_before_turn.result) refl c.report_before_turn.ensures

@@ -12,7 +12,7 @@ use Rattle.verdict_board.proofs.Falls.{changed_staged, inputs_sorted, names_edit
 use Rattle.verdict_board.proofs.Calls.{edit_after}
 use Rattle.verdict_board.proofs.Edits.{kept_edit}
 use Rattle.verdict_board.proofs.EditSteps.{unmade_after, appended_made, made_version}
-use Rattle.verdict_board.proofs.board.Board.edit.Goals as goal
+use Rattle.verdict_board.proofs.board.Board.edit_read_before.Goals as goal
 
 pub returns-in_default : goal.returns-in_default
 returns-in_default g c =
@@ -24,8 +24,8 @@ returns-in_default g c =
       unchanged = tt;
     }
 
-pub next-requires-after_bounds : goal.next-requires-after_bounds
-next-requires-after_bounds g c κs b =
+pub next-requires-clause-short : goal.next-requires-clause-short
+next-requires-clause-short g c κs b =
     made_short c.self.inside.log (read_edit c.args.edit) c.in-Made.version (c.in_ok-answer.ensures ∙ ap read_edited c.in-Made.is)
 
 pub change-requires-clause-sorted : goal.change-requires-clause-sorted
@@ -55,14 +55,14 @@ invariant_of-self-2 g c =
     let lawful = (g.met.S.Subject g.world.𝓛 g.world.𝓜 g.world.𝓡 ((λ s x. x), (λ x. x), (λ x. x), λ x. x)).lawful in
     let next = changed_staged g.S.Subject.subject g.S.Subject.meaning c.self.inside.history.entries c.self.invariant.legal lawful.reach c.self.inside.stages c.self.invariant.staged e c.in_ok-next.next.anew (rw c.self.view_is c.in_ok-next.ensures.anew) in
     let stages = subst (λ (z : History). AreStages g.S.Subject.subject g.S.Subject.meaning z c.change.new.stages)
-    (λ i. c.self.inside.history.entries ++ entry (sym c.requires i) (sym v i) (EditMade e) ∷ [])
+    (λ i. c.self.inside.history.entries ++ entry (sym c.requires.front i) (sym v i) (EditMade e) ∷ [])
     (subst (AreStages g.S.Subject.subject g.S.Subject.meaning (after_edit_of c.self.inside.history.entries e)) (sym c.in-Ok.ensures.stages) next) in
     let holds : HoldsDependencies c.in_ok-next.next.graph g.S.Subject.subject.dependencies (edited (library_after c.self.inside.history.entries) e) = rw c.self.view_is c.in_ok-next.ensures.holds in
     let few = c.if-self-ge-MOST.false in
     let less = c.if-self-ge-MOST-2.false in
     let noted : c.in_ok-next.next.history.entries ≡ c.self.inside.history.entries ++ entry c.args.pass c.in-Made.version (EditMade e) ∷ [] = rw c.self.view_is c.in_ok-next.ensures.history in
     rw noted
-    (kept_edit g.S.Subject.subject g.S.Subject.meaning c.self.inside.history.entries c.self.inside.log c.self.inside.graph c.self.inside.stages c.self.inside.closed c.self.inside.opened c.self.inside.entries c.self.inside.installed c.self.invariant e c.args.pass c.in-Made.version c.in-Made.version c.change.new.log c.in_ok-next.next.graph c.change.new.stages c.in_ok-next.next.candidates c.in_ok-next.ensures.candidates c.requires reply v
+    (kept_edit g.S.Subject.subject g.S.Subject.meaning c.self.inside.history.entries c.self.inside.log c.self.inside.graph c.self.inside.stages c.self.inside.closed c.self.inside.opened c.self.inside.entries c.self.inside.installed c.self.invariant e c.args.pass c.in-Made.version c.in-Made.version c.change.new.log c.in_ok-next.next.graph c.change.new.stages c.in_ok-next.next.candidates c.in_ok-next.ensures.candidates c.requires.front reply v
     (c.in-Ok.ensures.log ∙ appended_made c.self.inside.log e c.in-Made.version made) holds stages (omega (arith, few)) (omega (arith, less)))
 
 pub returns-clause-history : goal.returns-clause-history
