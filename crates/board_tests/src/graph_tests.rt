@@ -1,6 +1,6 @@
 //! Graphs: what a name reaches, and which names are grounded.
 use lf_terms::{Name, Names};
-use module_graph::{Graph, first_ungrounded, grounded, reach};
+use module_graph::{Graph, any_reaches, first_ungrounded, grounded, reach};
 use std::alloc::Global;
 use std::test::Fail;
 
@@ -33,6 +33,13 @@ fn reaches(alloc: Global, graph: &Graph, name: &str, expected: &str) -> Result<b
     let reached = reach(alloc, graph, &name)?;
     let expected = names_of(alloc, expected)?;
     Ok(reached.as_slice() == expected.as_slice())
+}
+
+/// Whether one of these names reaches a name.
+fn any(alloc: Global, graph: &Graph, names: &str, name: &str) -> Result<bool, Fail> {
+    let names = names_of(alloc, names)?;
+    let name = Name::new(alloc, name)?;
+    Ok(any_reaches(alloc, graph, &names, &name)?)
 }
 
 /// The place of the first ungrounded name of a list.
@@ -83,6 +90,16 @@ fn each_first(alloc: Global, graph: &Graph, cases: &[(&str, Option<usize>)]) -> 
     Ok(true)
 }
 
+/// Whether in each case one of these names reaches the name beside them, or none does, as is told.
+fn each_any(alloc: Global, graph: &Graph, cases: &[(&str, &str, bool)]) -> Result<bool, Fail> {
+    for case in cases {
+        if any(alloc, graph, case.0, case.1)? != case.2 {
+            return Ok(false);
+        }
+    }
+    Ok(true)
+}
+
 /// Whether a name has a row that can be removed, and then none.
 fn removed_once(alloc: Global, graph: &mut Graph, name: &str) -> Result<bool, Fail> {
     let name = Name::new(alloc, name)?;
@@ -103,6 +120,19 @@ fn reach_as_they_should(alloc: Global, graph: &Graph) -> Result<bool, Fail> {
         ("Absent", "Absent"),
     ];
     each_reaches(alloc, graph, &cases)
+}
+
+/// Whether one of several names reaches what it should, over the rings.
+fn any_as_they_should(alloc: Global, graph: &Graph) -> Result<bool, Fail> {
+    let cases = [
+        ("Leaf Into", "C", true),
+        ("Leaf Leaf Top Next", "A", false),
+        ("Next Own", "Own", true),
+        ("Absent", "Absent", true),
+        ("Absent Leaf", "Own", false),
+        ("", "Leaf", false),
+    ];
+    each_any(alloc, graph, &cases)
 }
 
 /// Whether the first ungrounded names stand where they should, over the rings.
@@ -129,10 +159,12 @@ fn cycles_and_absent_names(rt: HostRuntime) -> Result<(), Fail> {
     let alloc = rt.alloc();
     let mut graph = rings(alloc)?;
     let reached = reach_as_they_should(alloc, &graph)?;
+    let any = any_as_they_should(alloc, &graph)?;
     let placed = are_placed(alloc, &graph)?;
     let opened = are_opened(alloc, &mut graph)?;
     drop(graph);
     assert!(rt; reached, "what names reach");
+    assert!(rt; any, "what one of several names reaches");
     assert!(rt; placed, "the first ungrounded names");
     assert!(rt; opened, "the grounded names");
     Ok(())
@@ -186,10 +218,12 @@ fn chain(rt: HostRuntime) -> Result<(), Fail> {
     let mut graph = Graph::new(alloc);
     set_chain(alloc, &mut graph, 4_000)?;
     let open = counts(alloc, &graph, "M0000")?;
+    let ends = any(alloc, &graph, "M3999 M0000", "M4000")?;
+    let turns = any(alloc, &graph, "M0002 M0001", "M0000")?;
     set(alloc, &mut graph, "M4000", "M0000")?;
     let closed = counts(alloc, &graph, "M2000")?;
     drop(graph);
-    assert!(rt; open == (4_000, 4_001) && closed == (0, 4_001));
+    assert!(rt; open == (4_000, 4_001) && closed == (0, 4_001) && ends && !turns);
     Ok(())
 }
 

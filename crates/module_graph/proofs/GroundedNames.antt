@@ -1,5 +1,5 @@
 -- Grounded names of a graph, as a list and one by one.
-use Rattle.std.proofs.Common.{◌≡◌, ℕ, Bool, true, false, not, Result, Ok, Err, IfOk, IfErr, is_err, length, map, slice_get, Some, is_some, ◌⊎◌, inl, inr, refl, sym, ap, ◌∙◌, subst, true≢false}
+use Rattle.std.proofs.Common.{◌≡◌, ℕ, Bool, true, false, not, Result, Ok, Err, IfOk, IfErr, is_err, length, map, slice_get, Some, is_some, ◌⊎◌, inl, inr, sym, ap, ◌∙◌, subst, true≢false}
 use Rattle.std.specs.List.Sorted.{IsSearchInRange, IsBinarySearchResult}
 use Rattle.std.specs.Ordering.{nat_cmp}
 use Rattle.std.specs.Cmp.Lexicographic.{slice_cmp}

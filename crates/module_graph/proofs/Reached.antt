@@ -1,6 +1,7 @@
 -- Names that are reached one after another, each with its direct dependencies behind it.
-use Rattle.std.proofs.Common.{◌≡◌, ℕ, zero, suc, ◌+◌, ◌<◌, ◌≤◌, Bool, true, false, cond, List, [], ◌∷◌, ◌++◌, length, filter, slice_get, unwrap_or, Option, Some, None, is_some, ◌⊎◌, inl, inr, ⊎_elim, refl, sym, ap, ◌∙◌, subst, true≢false, arith}
+use Rattle.std.proofs.Common.{◌≡◌, ℕ, zero, suc, ◌+◌, ◌<◌, ◌≤◌, Bool, true, false, cond, List, [], ◌∷◌, ◌++◌, length, filter, flat_map, slice_get, unwrap_or, Option, Some, None, is_some, ◌⊎◌, inl, inr, ⊎_elim, refl, sym, ap, ◌∙◌, subst, true≢false, arith}
 use Rattle.std.specs.Option.{option_and_then}
+use Rattle.std.proofs.lemmas.Bool.{false_from_ne_true}
 use Rattle.std.proofs.lemmas.Option.{slice_get-get_or}
 use Rattle.std.specs.List.{list_any, IsDistinct, AllByRecursion}
 use Rattle.indexmap.specs.IndexSet.{insert_key, insert_all}
@@ -8,11 +9,12 @@ use Rattle.name_meaning.specs.Names.{Name, same_name, is_among, is_ascending}
 use Rattle.name_meaning.specs.Rows.{row_of}
 use Rattle.walk_meaning.specs.Reach.{reach}
 use Rattle.walk_meaning.specs.Graphs.{Graph, row_dependencies, row_library, graph_reach}
-use Rattle.list_laws.proofs.Members.{Member, place_member, in_append, append_left, append_right, filter_in}
+use Rattle.list_laws.proofs.Members.{Member, any_found, any_not, member_place, place_member, in_append, append_left, append_right, filter_in, flat_map_in}
 use Rattle.list_laws.proofs.Places.{get_front, place_within}
 use Rattle.name_laws.proofs.Order.{among_member, member_among, same_of}
 use Rattle.walk_laws.proofs.Graphs.{row_direct}
 use Rattle.walk_laws.proofs.Reaching.{one_list, reach_closed, reach_first, reach_ascending, reach_least}
+use Rattle.module_graph.specs.Reaching.{IsReachOf}
 
 -- ---- names that are added behind others where they are new
 
@@ -126,100 +128,136 @@ no_more (x ∷ xs) ys d h =
 
 -- ---- reaching
 
--- Each of these names is reached, they are distinct, and those before the place have their direct dependencies among them.
-pub record IsReaching (graph : Graph) (name : Name) (names : List Name) (next : ℕ) : Type 0 where
-  pub first : Member name names
-  pub sound : (x : Name) → Member x names → Member x (graph_reach graph name)
+-- These names are reached from the first ones, they are distinct, and those before the place have their direct dependencies among them.
+pub record IsReaching (graph : Graph) (starts names : List Name) (next : ℕ) : Type 0 where
+  pub first : (x : Name) → Member x starts → Member x names
+  pub sound : (x : Name) → Member x names → (start : Name) × Member start starts × Member x (graph_reach graph start)
   pub closed : (i : ℕ) (x d : Name) → i < next → slice_get names i ≡ Some x → Member d (unwrap_or (row_of graph x) []) → Member d names
   pub within : next ≤ length names
   pub distinct : IsDistinct same_name names
 
-module _ (graph : Graph) (name : Name) where
-  pub reaching_first : IsReaching graph name (name ∷ []) 0
-  unfolding IsDistinct graph_reach
-  reaching_first = record {
-    first = inl refl;
-    sound = λ x m. ⊎_elim (λ e. subst (λ z. Member z (reach (row_dependencies graph) (row_library graph) name)) (sym e) (reach_first (row_dependencies graph) (row_library graph) name)) (λ q. absurd q) m;
-    closed = λ i x d h e m. absurd (omega (arith, h));
-    within = omega arith;
-    distinct = (tt, tt);
-  }
-
-  reached_dependency : (x d : Name) → Member x (graph_reach graph name) → Member d (unwrap_or (row_of graph x) []) → Member d (graph_reach graph name)
+module _ (graph : Graph) where
+  reached_itself : (x : Name) → Member x (graph_reach graph x)
   unfolding graph_reach
-  reached_dependency x d m n = reach_closed (row_dependencies graph) (row_library graph) name x d m (subst (Member d) (sym (row_direct graph x)) n)
+  reached_itself x = reach_first (row_dependencies graph) (row_library graph) x
 
-  module _ (names : List Name) (next : ℕ) (x : Name) (so_far : IsReaching graph name names next) (here : slice_get names next ≡ Some x) where
-    at_or_before : (i : ℕ) → i < next + 1 → (i < next) ⊎ (i ≡ next)
-    at_or_before i h = by (cases i next)
-      where
-        cases : (i k : ℕ) → (i < k) ⊎ (k ≤ i)
-        cases i zero = inr (omega arith)
-        cases zero (suc k) = inl (omega arith)
-        cases (suc i) (suc k) = ⊎_elim (λ q. inl (omega (arith, q))) (λ q. inr (omega (arith, q))) (cases i k)
+  reached_dependency : (start x d : Name) → Member x (graph_reach graph start) → Member d (unwrap_or (row_of graph x) []) → Member d (graph_reach graph start)
+  unfolding graph_reach
+  reached_dependency start x d m n = reach_closed (row_dependencies graph) (row_library graph) start x d m (subst (Member d) (sym (row_direct graph x)) n)
 
-        by : (i < next) ⊎ (next ≤ i) → (i < next) ⊎ (i ≡ next)
-        by (inl q) = inl q
-        by (inr q) = inr (omega (arith, q, h))
-
-    -- the names after the direct dependencies of the next name are added
-    pub reaching_added : (more : List Name) → unwrap_or (row_of graph x) [] ≡ more → IsDistinct same_name (insert_all same_name names more) → IsReaching graph name (insert_all same_name names more) (next + 1)
-    reaching_added more row distinct = record {
-      first = added_old names more name so_far.first;
-      sound = λ y m. ⊎_elim (λ q. so_far.sound y q) (λ q. reached_dependency x y (so_far.sound x (place_member names next x here)) (subst (Member y) (sym row) q)) (added_only names more y m);
-      closed = λ i y d h e m. ⊎_elim
-          (λ lt. added_old names more d (so_far.closed i y d lt (sym (added_front names more i (inside i lt)) ∙ e) m))
-          (λ same. added_new names more d (subst (Member d) (at_next i y same e) m))
-          (at_or_before i h);
-      within = let l = added_long names more in let p = place_within names next x here in omega (arith, l, p);
+  module _ (starts : List Name) where
+    pub reaching_first : IsDistinct same_name starts → IsReaching graph starts starts 0
+    reaching_first distinct = record {
+      first = λ x m. m;
+      sound = λ x m. (x, m, reached_itself x);
+      closed = λ i x d h e m. absurd (omega (arith, h));
+      within = omega arith;
       distinct = distinct;
     }
+
+    module _ (names : List Name) (next : ℕ) (x : Name) (so_far : IsReaching graph starts names next) (here : slice_get names next ≡ Some x) where
+      at_or_before : (i : ℕ) → i < next + 1 → (i < next) ⊎ (i ≡ next)
+      at_or_before i h = by (cases i next)
+        where
+          cases : (i k : ℕ) → (i < k) ⊎ (k ≤ i)
+          cases i zero = inr (omega arith)
+          cases zero (suc k) = inl (omega arith)
+          cases (suc i) (suc k) = ⊎_elim (λ q. inl (omega (arith, q))) (λ q. inr (omega (arith, q))) (cases i k)
+
+          by : (i < next) ⊎ (next ≤ i) → (i < next) ⊎ (i ≡ next)
+          by (inl q) = inl q
+          by (inr q) = inr (omega (arith, q, h))
+
+      -- the names after the direct dependencies of the next name are added
+      pub reaching_added : (more : List Name) → unwrap_or (row_of graph x) [] ≡ more → IsDistinct same_name (insert_all same_name names more) → IsReaching graph starts (insert_all same_name names more) (next + 1)
+      reaching_added more row distinct = record {
+        first = λ y m. added_old names more y (so_far.first y m);
+        sound = λ y m. ⊎_elim (λ q. so_far.sound y q) (λ q. from_here y (subst (Member y) (sym row) q)) (added_only names more y m);
+        closed = λ i y d h e m. ⊎_elim
+            (λ lt. added_old names more d (so_far.closed i y d lt (sym (added_front names more i (inside i lt)) ∙ e) m))
+            (λ same. added_new names more d (subst (Member d) (at_next i y same e) m))
+            (at_or_before i h);
+        within = let l = added_long names more in let p = place_within names next x here in omega (arith, l, p);
+        distinct = distinct;
+      }
+        where
+          from_here : (y : Name) → Member y (unwrap_or (row_of graph x) []) → (start : Name) × Member start starts × Member y (graph_reach graph start)
+          from_here y m = let q = so_far.sound x (place_member names next x here) in (q.0, q.1, reached_dependency q.0 x y q.2 m)
+
+          inside : (i : ℕ) → i < next → i < length names
+          inside i lt = let w = so_far.within in omega (arith, lt, w)
+
+          found : (i : ℕ) (y : Name) → i ≡ next → slice_get (insert_all same_name names more) i ≡ Some y → y ≡ x
+          found i y same e =
+              let f : Some y ≡ Some x = sym e ∙ ap (slice_get (insert_all same_name names more)) same ∙ added_front names more next (place_within names next x here) ∙ here in cc
+
+          at_next : (i : ℕ) (y : Name) → i ≡ next → slice_get (insert_all same_name names more) i ≡ Some y → unwrap_or (row_of graph y) [] ≡ more
+          at_next i y same e = ap (λ z. unwrap_or (row_of graph z) []) (found i y same e) ∙ row
+
+    -- the next name has not gone past the reaches
+    pub reaching_within : (names : List Name) (next : ℕ) → IsReaching graph starts names next → next < length names → next < length (flat_map (graph_reach graph) starts)
+    reaching_within names next so_far h =
+        let n = no_more names (flat_map (graph_reach graph) starts) so_far.distinct (λ x m. let q = so_far.sound x m in flat_map_in (graph_reach graph) starts q.0 x q.1 q.2) in
+        omega (arith, n, h)
+
+    -- where no name is left, all that is reached is there
+    pub reaching_done : (names : List Name) (next : ℕ) → IsReaching graph starts names next → length names ≤ next → IsReachOf graph starts names
+    reaching_done names next so_far past = record {
+      first = so_far.first;
+      sound = so_far.sound;
+      closed = λ y d n e.
+          let q = member_place names y n in
+          let w = place_within names q.0 y q.1 in
+          so_far.closed q.0 y d (omega (arith, w, past)) q.1 e;
+    }
+
+    -- the next name has a row, whose names are added; or it has none
+    pub reaching_row : (names : List Name) (next : ℕ) (more added : List Name) → IsReaching graph starts names next → Some more ≡ option_and_then (row_of graph) (slice_get names next)
+        → added ≡ insert_all same_name names more → IsDistinct same_name added → IsReaching graph starts added (next + 1)
+    reaching_row names next more added so_far row is distinct =
+        subst (λ keys. IsReaching graph starts keys (next + 1)) (sym is) (by (slice_get names next) refl row)
       where
-        inside : (i : ℕ) → i < next → i < length names
-        inside i lt = let w = so_far.within in omega (arith, lt, w)
+        by : (found : Option Name) → slice_get names next ≡ found → Some more ≡ option_and_then (row_of graph) found → IsReaching graph starts (insert_all same_name names more) (next + 1)
+        by None here row = absurd (cc)
+        by (Some x) here row = reaching_added names next x so_far here more (ap (λ r. unwrap_or r []) (sym row)) (subst (IsDistinct same_name) is distinct)
 
-        found : (i : ℕ) (y : Name) → i ≡ next → slice_get (insert_all same_name names more) i ≡ Some y → y ≡ x
-        found i y same e =
-            let f : Some y ≡ Some x = sym e ∙ ap (slice_get (insert_all same_name names more)) same ∙ added_front names more next (place_within names next x here) ∙ here in cc
+    pub reaching_no_row : (names : List Name) (next : ℕ) → IsReaching graph starts names next → next < length names → None ≡ option_and_then (row_of graph) (slice_get names next)
+        → IsReaching graph starts names (next + 1)
+    reaching_no_row names next so_far h row = by (slice_get names next) refl row
+      where
+        by : (found : Option Name) → slice_get names next ≡ found → None ≡ option_and_then (row_of graph) found → IsReaching graph starts names (next + 1)
+        by None here row = absurd (true≢false (sym (ap is_some (slice_get-get_or names next [] h)) ∙ ap is_some here))
+        by (Some x) here row = reaching_added names next x so_far here [] (ap (λ r. unwrap_or r []) (sym row)) so_far.distinct
 
-        at_next : (i : ℕ) (y : Name) → i ≡ next → slice_get (insert_all same_name names more) i ≡ Some y → unwrap_or (row_of graph y) [] ≡ more
-        at_next i y same e = ap (λ z. unwrap_or (row_of graph z) []) (found i y same e) ∙ row
-
-  -- the next name has not gone past the reach
-  pub reaching_within : (names : List Name) (next : ℕ) → IsReaching graph name names next → next < length names → next < length (graph_reach graph name)
-  reaching_within names next so_far h = let n = no_more names (graph_reach graph name) so_far.distinct so_far.sound in omega (arith, n, h)
-
-  -- where no name is left, the sorted names are the reach
-  pub reaching_done : (names : List Name) (next : ℕ) (sorted : List Name) → IsReaching graph name names next → length names ≤ next
-      → ((x : Name) → is_among sorted x ≡ is_among names x) → is_ascending sorted ≡ true → sorted ≡ graph_reach graph name
+  -- what one name reaches, sorted, is its reach
+  pub reach_of_one : (name : Name) (names sorted : List Name) → IsReachOf graph (name ∷ []) names → ((x : Name) → is_among sorted x ≡ is_among names x) → is_ascending sorted ≡ true → sorted ≡ graph_reach graph name
   unfolding graph_reach
-  reaching_done names next sorted so_far past same ascending =
+  reach_of_one name names sorted all same ascending =
       one_list sorted (reach (row_dependencies graph) (row_library graph) name) ascending (reach_ascending (row_dependencies graph) (row_library graph) name)
-      (λ x m. so_far.sound x (among_member names x (sym (same x) ∙ member_among sorted x m)))
-      (λ x m. among_member sorted x (same x ∙ member_among names x (reach_least (row_dependencies graph) (row_library graph) name names (λ y d n e.
-      let q = placed names y n in
-      let w = place_within names q.0 y q.1 in
-      so_far.closed q.0 y d (omega (arith, w, past)) q.1 (subst (Member d) (row_direct graph y) e)) so_far.first x m)))
-    where
-      placed : (names : List Name) (y : Name) → Member y names → (i : ℕ) × (slice_get names i ≡ Some y)
-      placed [] y m = absurd m
-      placed (z ∷ names) y (inl e) = (0, ap Some (sym e))
-      placed (z ∷ names) y (inr m) = let q = placed names y m in (suc q.0, q.1)
+      (λ x m. let q = all.sound x (among_member names x (sym (same x) ∙ member_among sorted x m)) in
+      ⊎_elim (λ e. subst (λ z. Member x (reach (row_dependencies graph) (row_library graph) z)) e q.2) (λ none. absurd none) q.1)
+      (λ x m. among_member sorted x (same x ∙ member_among names x (reach_least (row_dependencies graph) (row_library graph) name names
+      (λ y d n e. all.closed y d n (subst (Member d) (row_direct graph y) e)) (all.first name (inl refl)) x m)))
 
-  -- the next name has a row, whose names are added; or it has none
-  pub reaching_row : (names : List Name) (next : ℕ) (more added : List Name) → IsReaching graph name names next → Some more ≡ option_and_then (row_of graph) (slice_get names next)
-      → added ≡ insert_all same_name names more → IsDistinct same_name added → IsReaching graph name added (next + 1)
-  reaching_row names next more added so_far row is distinct =
-      subst (λ keys. IsReaching graph name keys (next + 1)) (sym is) (by (slice_get names next) refl row)
+  -- a name is among what others reach just where one of these reaches it
+  pub reached_by_any : (froms names : List Name) (name : Name) → IsReachOf graph (insert_all same_name [] froms) names
+      → is_among names name ≡ list_any (λ from. is_among (graph_reach graph from) name) froms
+  unfolding graph_reach
+  reached_by_any froms names name all = by (list_any p froms) refl
     where
-      by : (found : Option Name) → slice_get names next ≡ found → Some more ≡ option_and_then (row_of graph) found → IsReaching graph name (insert_all same_name names more) (next + 1)
-      by None here row = absurd (cc)
-      by (Some x) here row = reaching_added names next x so_far here more (ap (λ r. unwrap_or r []) (sym row)) (subst (IsDistinct same_name) is distinct)
+      p : Name → Bool
+      p from = is_among (graph_reach graph from) name
 
-  pub reaching_no_row : (names : List Name) (next : ℕ) → IsReaching graph name names next → next < length names → None ≡ option_and_then (row_of graph) (slice_get names next)
-      → IsReaching graph name names (next + 1)
-  reaching_no_row names next so_far h row = by (slice_get names next) refl row
-    where
-      by : (found : Option Name) → slice_get names next ≡ found → None ≡ option_and_then (row_of graph) found → IsReaching graph name names (next + 1)
-      by None here row = absurd (true≢false (sym (ap is_some (slice_get-get_or names next [] h)) ∙ ap is_some here))
-      by (Some x) here row = reaching_added names next x so_far here [] (ap (λ r. unwrap_or r []) (sym row)) so_far.distinct
+      closed_by : (start x : Name) → Member start names → Member x (graph_reach graph start) → Member x names
+      closed_by start x m r =
+          reach_least (row_dependencies graph) (row_library graph) start names (λ y d n e. all.closed y d n (subst (Member d) (row_direct graph y) e)) m x r
+
+      by : (b : Bool) → list_any p froms ≡ b → is_among names name ≡ b
+      by true h =
+          let q = any_found p froms h in
+          member_among names name (closed_by q.0 name (all.first q.0 (added_new [] froms q.0 q.1)) (among_member (graph_reach graph q.0) name q.2))
+      by false h =
+          false_from_ne_true (is_among names name) (λ t.
+          let q = all.sound name (among_member names name t) in
+          let m = ⊎_elim (λ z. absurd z) (λ z. z) (added_only [] froms q.0 q.1) in
+          true≢false (sym (member_among (graph_reach graph q.0) name q.2) ∙ any_not p froms q.0 h m))

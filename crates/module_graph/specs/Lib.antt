@@ -1,4 +1,4 @@
 pub mod Subjects
 pub mod Peeling
 pub mod PeelingState
-pub mod Rings
+pub mod Reaching

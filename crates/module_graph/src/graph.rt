@@ -1,5 +1,5 @@
 //! Graphs: names with their direct dependencies.
-ghost use Rattle.std.specs.Prelude.{◌≡◌, [], length, slice_get, OnErr, OnOk, is_some, ◌<◌, List, ℕ, IfErr, IfOk, Some};
+ghost use Rattle.std.specs.Prelude.{◌≡◌, [], length, slice_get, OnErr, OnOk, is_some, true, ◌<◌, List, ℕ, IfErr, IfOk, Some};
 ghost use Rattle.std.specs.Option.{option_copied, option_map};
 ghost use Rattle.name_meaning.specs.Rows.{row_names, row_of, with_row, without_row, IsTable, IsGap};
 
@@ -42,6 +42,14 @@ impl Graph {
             Ok(()) => Ok(()),
             Err(_) => Err(Memory),
         }
+    }
+
+    /// Puts other direct dependencies in place of those of a name that is there. It takes no memory.
+    pub fn replace(&mut self, name: &Name, deps: Arc<Names>)
+        requires { is_some (row_of self.old name.now) ≡ true }
+        ensures { self.new ≡ with_row name.now deps self.old }
+    {
+        self.rows.replace(name, deps);
     }
 
     /// Takes a name out. True exactly where it was there.

@@ -5,14 +5,12 @@ mod answers;
 mod graph;
 mod grounding;
 mod reaching;
-mod rings;
 mod subject;
 mod ungrounded;
 
 pub use answers::Answers;
 pub use graph::Graph;
 pub use grounding::grounded;
-pub use reaching::reach;
-pub use rings::reaches_itself;
+pub use reaching::{any_reaches, reach};
 pub use subject::Subject;
 pub use ungrounded::first_ungrounded;

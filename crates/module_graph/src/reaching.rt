@@ -1,10 +1,12 @@
-//! What a name reaches in a graph.
+//! What names reach in a graph.
 ghost use Rattle.std.specs.Prelude.{◌≡◌, IfOk, OnOk, slice_get};
+ghost use Rattle.std.specs.List.{list_any};
 ghost use Rattle.std.specs.Option.{option_copied, option_and_then};
 ghost use Rattle.indexmap.specs.IndexSet.{IsUnique, insert_all};
-ghost use Rattle.name_meaning.specs.Names.{same_name};
+ghost use Rattle.name_meaning.specs.Names.{is_among, same_name};
 ghost use Rattle.name_meaning.specs.Rows.{row_of};
 ghost use Rattle.walk_meaning.specs.Graphs.{graph_reach};
+ghost use Rattle.module_graph.specs.Reaching.{IsReachOf};
 
 use crate::Graph;
 use indexmap::IndexSet;
@@ -17,17 +19,37 @@ pub fn reach(alloc: Global, graph: &Graph, name: &Name) -> Result<Names, Memory>
 {
     let mut reached = IndexSet::new(alloc);
     reached.insert(name.copy(alloc)?)?;
-    let mut next = 0;
-    while next < reached.len() {
-        let row = dependencies_at(graph, &reached, next);
-        next += 1;
-        if let Some(dependencies) = row {
-            reach_all(alloc, &mut reached, dependencies.as_slice())?;
-        }
-    }
+    widen(alloc, graph, &mut reached)?;
     reached.sort_unstable()?;
     let names = reached.into_iter().collect(alloc)?;
     Ok(Names::from_vec(names))
+}
+
+/// Whether one of these names reaches a name. Time grows with what is reached.
+pub fn any_reaches(alloc: Global, graph: &Graph, names: &Names, name: &Name) -> Result<bool, Memory>
+    ensures { IfOk result (λ found. found ≡ list_any (λ from. is_among (graph_reach graph.now from) name.now) names.now) }
+{
+    let mut reached = IndexSet::new(alloc);
+    reach_all(alloc, &mut reached, names.as_slice())?;
+    widen(alloc, graph, &mut reached)?;
+    Ok(reached.contains(name))
+}
+
+/// Adds all that these names reach.
+fn widen(alloc: Global, graph: &Graph, reached: &mut IndexSet<Name>) -> Result<(), Memory>
+    requires { IsUnique same_name reached.old }
+    ensures reached { OnOk result (IsReachOf graph.now reached.old.keys reached.new.keys) }
+    ensures unique { OnOk result (IsUnique same_name reached.new) }
+{
+    let mut next = 0;
+    while next < reached.len() {
+        let row = dependencies_at(graph, reached, next);
+        next += 1;
+        if let Some(dependencies) = row {
+            reach_all(alloc, reached, dependencies.as_slice())?;
+        }
+    }
+    Ok(())
 }
 
 /// The direct dependencies of the name at a place. None where there is no such place, and where the graph lacks the name.

@@ -1,23 +1,27 @@
 -- Stages that are changed in place by an edit after which no module is ungrounded.
-use Rattle.std.proofs.Common.{◌≡◌, ℕ, zero, suc, ◌≤◌, Bool, true, false, not, [], ◌∷◌, ◌++◌, length, map, filter, take, drop, slice_get, Option, Some, None, option_map, is_some, cond, ◌&&◌, inl, inr, refl, sym, ap, ◌∙◌, subst, true≢false, arith}
+use Rattle.std.proofs.Common.{◌≡◌, ℕ, zero, suc, ◌≤◌, Bool, true, false, not, [], ◌∷◌, ◌++◌, length, map, take, drop, slice_get, Option, Some, None, option_map, is_some, cond, ◌&&◌, refl, sym, ap, ◌∙◌, subst, true≢false, arith}
 use Rattle.std.proofs.lemmas.Option.{same_Some}
-use Rattle.name_meaning.specs.Names.{Name, same_name, comes_before, is_among, is_ascending, with_name}
-use Rattle.name_meaning.specs.Rows.{Rows, row_names, row_of, with_row, without_row, IsTable}
-use Rattle.name_laws.proofs.Order.{among_member, member_among, same_itself, same_sound, with_present}
-use Rattle.name_laws.proofs.Rows.{row_with, row_without, names_with_row, row_among, replaced_at, with_row_at, without_absent}
-use Rattle.list_laws.proofs.Members.{Member, place_member}
-use Rattle.log_meaning.specs.Log.{Edit, Put, Drop, Library, edited, edited_name, names_of, without_module, is_present}
-use Rattle.log_laws.proofs.Libraries.{library_ascending, names_with, present_among}
+use Rattle.name_meaning.specs.Names.{Name, same_name, is_among, is_ascending}
+use Rattle.name_meaning.specs.Rows.{Rows, row_names, row_of, with_row, IsTable}
+use Rattle.name_laws.proofs.Order.{member_among, same_sound}
+use Rattle.name_laws.proofs.Rows.{row_with, row_without, row_among, replaced_at, with_row_at}
+use Rattle.list_laws.proofs.Members.{place_member}
+use Rattle.log_meaning.specs.Log.{Edit, Put, Drop, Library, edited, edited_name, names_of, is_present}
+use Rattle.log_laws.proofs.Libraries.{library_ascending, present_among}
 use Rattle.walk_meaning.specs.Walks.{Dependencies, is_grounded, is_ungrounded}
 use Rattle.walk_meaning.specs.Subject.{Subject, KeepsToReach}
 use Rattle.board_meaning.specs.Events.{History, log_of, library_after, version_after}
 use Rattle.board_meaning.specs.Legal.{IsLegal}
+use Rattle.verdict_board.specs.declared.change.Change.{Change}
+use Rattle.verdict_board.specs.declared.change.Change.TheVariants.{InPlace, Anew}
 use Rattle.verdict_board.specs.declared.stage.Stage.{Stage}
 use Rattle.verdict_board.specs.declared.stage.Stage.TheVariants.{Waiting, Claimed, Standing, Cyclic}
-use Rattle.verdict_board.specs.Stages.{changed, falls, fallen, is_new, stages_added, stages_with, stage_after, HasSortedInputs, HaveSortedInputs, IsStage, AreStages, IsAnew, after_edit_of}
+use Rattle.verdict_board.specs.Stages.{falls, fallen, stage_after, HaveSortedInputs, IsStage, AreStages, after_edit_of}
+use Rattle.verdict_board.specs.Tables.{stages_with, stages_in_place, stages_changed, IsChange}
 use Rattle.verdict_board.proofs.Edits.{library_edited, grounded_after, new_after, sorted_inputs}
 use Rattle.verdict_board.proofs.Parking.{named_at}
 use Rattle.verdict_board.proofs.Reports.{absent_row}
+use Rattle.verdict_board.proofs.Tables.{names_edited}
 
 pub stage_falls : {A : Type 0} (m : Name) (stage : Stage A) → stage_after m stage ≡ cond (falls m stage) Waiting stage
 stage_falls m Waiting = refl
@@ -102,90 +106,6 @@ module _ {A : Type 0} (m : Name) where
       by None e = absurd (cc)
       by (Some before) e = (before, refl, same_Some _ _ e)
 
--- ---- the names of the stages
-
-names_without_row : {A : Type 0} (n : Name) (rows : Rows A) → row_names (without_row n rows) ≡ filter (λ (x : Name). not (same_name n x)) (row_names rows)
-unfolding without_row
-names_without_row n [] = refl
-names_without_row {A} n (row ∷ rows) = by (same_name n row.0) (names_without_row n rows)
-  where
-    by : (b : Bool) → row_names (without_row n rows) ≡ filter (λ (x : Name). not (same_name n x)) (row_names rows)
-        → row_names (cond (not b) (row ∷ without_row n rows) (without_row n rows)) ≡ cond (not b) (row.0 ∷ filter (λ (x : Name). not (same_name n x)) (row_names rows)) (filter (λ (x : Name). not (same_name n x)) (row_names rows))
-    by true h = h
-    by false h = ap (λ names. row.0 ∷ names) h
-
-names_without_module : (n : Name) (library : Library) → names_of (without_module n library) ≡ filter (λ (x : Name). not (same_name n x)) (names_of library)
-unfolding without_module
-names_without_module n [] = refl
-names_without_module n (own ∷ library) = by (same_name n own.name) (names_without_module n library)
-  where
-    by : (b : Bool) → names_of (without_module n library) ≡ filter (λ (x : Name). not (same_name n x)) (names_of library)
-        → names_of (cond (not b) (own ∷ without_module n library) (without_module n library)) ≡ cond (not b) (own.name ∷ filter (λ (x : Name). not (same_name n x)) (names_of library)) (filter (λ (x : Name). not (same_name n x)) (names_of library))
-    by true h = h
-    by false h = ap (λ names. own.name ∷ names) h
-
-pub names_edited : {A : Type 0} (L : Library) (rows : Rows (Stage A)) (edit : Edit) → is_ascending (names_of L) ≡ true → row_names rows ≡ names_of L → row_names (stages_with edit rows) ≡ names_of (edited L edit)
-names_edited L rows (Drop n) t h = names_without_row n rows ∙ ap (filter (λ (x : Name). not (same_name n x))) h ∙ sym (names_without_module n L)
-names_edited {A} L rows (Put n text) t h = by (is_some (row_of rows n)) refl ∙ ap (with_name n) h ∙ sym (names_with n text L)
-  where
-    by : (b : Bool) → is_some (row_of rows n) ≡ b → row_names (cond b rows (with_row n Waiting rows)) ≡ with_name n (row_names rows)
-    by true e = sym (with_present n (row_names rows) (ap is_ascending h ∙ t) (among_member (row_names rows) n (sym (row_among rows n) ∙ e)))
-    by false e = names_with_row n Waiting rows
-
--- ---- a stage that is added, and taken back
-
-module _ {A : Type 0} (n : Name) (v : A) where
-  abbrev kept : Rows A → Rows A
-  kept rows = filter (λ (row : Name × A). not (same_name n row.0)) rows
-
-  without_with : (rows : Rows A) → (Member n (row_names rows) → ⊥) → without_row n (with_row n v rows) ≡ rows
-  unfolding without_row with_row
-  without_with [] a = ap (λ b. cond (not b) ((n, v) ∷ []) []) (same_itself n)
-  without_with (row ∷ rows) a = by (same_name n row.0) (comes_before n row.0) refl (without_absent n (row ∷ rows) a) (without_with rows (λ m. a (inr m)))
-    where
-      by : (s b : Bool) → same_name n row.0 ≡ s → kept (row ∷ rows) ≡ row ∷ rows → kept (with_row n v rows) ≡ rows
-          → kept (cond s ((n, v) ∷ rows) (cond b ((n, v) ∷ row ∷ rows) (row ∷ with_row n v rows))) ≡ row ∷ rows
-      by true b e f g = absurd (a (inl (same_sound n row.0 e)))
-      by false true e f g = ap (λ c. cond (not c) ((n, v) ∷ kept (row ∷ rows)) (kept (row ∷ rows))) (same_itself n) ∙ f
-      by false false e f g = ap (λ c. cond (not c) (row ∷ kept (with_row n v rows)) (kept (with_row n v rows))) e ∙ ap (λ rest. row ∷ rest) g
-
-module _ {A : Type 0} (rows : Rows (Stage A)) where
-  none_added : (edit : Edit) → is_new edit rows ≡ false → stages_added edit rows ≡ rows
-  none_added (Drop n) h = refl
-  none_added (Put n text) h = by (is_some (row_of rows n)) h
-    where
-      by : (b : Bool) → not b ≡ false → cond b rows (with_row n Waiting rows) ≡ rows
-      by true q = refl
-      by false q = absurd (true≢false q)
-
-  taken_back : (edit : Edit) → is_new edit rows ≡ true → without_row (edited_name edit) (stages_added edit rows) ≡ rows
-  taken_back (Drop n) h = absurd (true≢false (sym h))
-  taken_back (Put n text) h = by (is_some (row_of rows n)) refl h
-    where
-      by : (b : Bool) → is_some (row_of rows n) ≡ b → not b ≡ true → without_row n (cond b rows (with_row n Waiting rows)) ≡ rows
-      by true e q = absurd (true≢false (sym q))
-      by false e q = without_with n Waiting rows (λ i. true≢false (sym (row_among rows n ∙ member_among (row_names rows) n i) ∙ e))
-
-  pub added_back : (edit : Edit) (added : Bool) (now : Rows (Stage A)) → now ≡ stages_added edit rows → added ≡ is_new edit rows → cond added (without_row (edited_name edit) now) now ≡ rows
-  added_back edit true now e h = ap (without_row (edited_name edit)) e ∙ taken_back edit (sym h)
-  added_back edit false now e h = e ∙ none_added edit (sym h)
-
-  pub sorted_with : (edit : Edit) → HaveSortedInputs rows → HaveSortedInputs (stages_with edit rows)
-  sorted_with (Drop n) sorted x stage h = by (same_name x n) (sym (row_without n rows x) ∙ h)
-    where
-      by : (b : Bool) → cond b None (row_of rows x) ≡ Some stage → HasSortedInputs stage
-      by true q = absurd (cc)
-      by false q = sorted x stage q
-  sorted_with (Put n text) sorted x stage h = by (is_some (row_of rows n)) h
-    where
-      own : (b : Bool) → cond b (Some Waiting) (row_of rows x) ≡ Some stage → HasSortedInputs stage
-      own true q = subst HasSortedInputs (same_Some _ _ q) tt
-      own false q = sorted x stage q
-
-      by : (b : Bool) → row_of (cond b rows (with_row n Waiting rows)) x ≡ Some stage → HasSortedInputs stage
-      by true q = sorted x stage q
-      by false q = own (same_name x n) (sym (row_with n Waiting rows x) ∙ q)
-
 -- ---- the stages
 
 module _ {Answer Meaning : Type 0} (subject : Subject Meaning) (meaning : Answer → Meaning) (H : History) (l : IsLegal subject.dependencies H) (keeps : KeepsToReach subject) (stages : Rows (Stage Answer)) (k : AreStages subject meaning H stages) where
@@ -247,12 +167,12 @@ module _ {Answer Meaning : Type 0} (subject : Subject Meaning) (meaning : Answer
       by false a q = own (same_name x n) refl a (sym (row_with n Waiting stages x) ∙ q)
 
   -- how the modules stand after the edit
-  pub fallen_staged : (edit : Edit) → ((x : Name) → is_ungrounded D (edited L edit) x ≡ false) → AreStages subject meaning (after_edit_of H edit) (fallen (edited_name edit) (stages_with edit stages))
+  pub fallen_staged : (edit : Edit) → ((x : Name) → is_ungrounded D (edited L edit) x ≡ false) → AreStages subject meaning (after_edit_of H edit) (stages_in_place edit stages)
   fallen_staged edit sound = record {
     names = names_are edit sound;
     staged = λ x stage h. let q = fallen_from (edited_name edit) (stages_with edit stages) x stage h in staged_after edit sound x q.0 stage q.1 q.2 (grounded_at edit sound x stage h);
   }
 
-  pub changed_staged : (edit : Edit) (anew : Option (Rows (Stage Answer))) → IsAnew subject meaning H edit anew → AreStages subject meaning (after_edit_of H edit) (changed anew edit stages)
-  changed_staged edit None sound = fallen_staged edit sound
-  changed_staged edit (Some next) staged = staged
+  pub changed_staged : (edit : Edit) (change : Change Answer) → IsChange subject meaning H edit change → AreStages subject meaning (after_edit_of H edit) (stages_changed change edit stages)
+  changed_staged edit (InPlace names) c = fallen_staged edit c.0
+  changed_staged edit (Anew graph next) c = c.1

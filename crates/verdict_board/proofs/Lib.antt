@@ -13,5 +13,7 @@ pub mod Handing
 pub mod Edits
 pub mod EditSteps
 pub mod Rings
+pub mod Tables
 pub mod Falls
 pub mod Pendings
+pub mod Marks

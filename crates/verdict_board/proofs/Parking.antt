@@ -1,6 +1,6 @@
 -- The candidates of a board over each change of its tables.
-use Rattle.std.proofs.Common.{◌≡◌, ℕ, zero, suc, ◌<◌, Bool, true, false, cond, not, List, [], ◌∷◌, ◌++◌, length, replicate, set, slice_get, take, option_map, Some, None, is_some, ◌⊎◌, inl, inr, ⊎_elim, refl, sym, ap, ◌∙◌, subst, true≢false, arith}
-use Rattle.std.proofs.lemmas.List.{length-map, length-replicate}
+use Rattle.std.proofs.Common.{◌≡◌, ℕ, zero, suc, ◌<◌, ◌≤◌, Bool, true, false, cond, not, List, [], ◌∷◌, ◌++◌, length, replicate, set, slice_get, take, option_map, Some, None, is_some, ◌⊎◌, inl, inr, ⊎_elim, refl, sym, ap, ◌∙◌, subst, true≢false, arith}
+use Rattle.std.proofs.lemmas.List.{length-map, length-replicate, length-take}
 use Rattle.std.proofs.lemmas.Option.{slice_get-map, same_Some}
 use Rattle.name_meaning.specs.Names.{Name, same_name, is_ascending}
 use Rattle.name_meaning.specs.Rows.{Rows, row_names, row_of, with_row, IsTable, IsGap}
@@ -8,7 +8,7 @@ use Rattle.name_laws.proofs.Order.{same_sound, with_present, among_member}
 use Rattle.name_laws.proofs.Rows.{row_with, names_with_row, row_among, row_absent, gap_absent, table_with, row_at}
 use Rattle.walk_meaning.specs.Graphs.{Graph}
 use Rattle.list_laws.proofs.Members.{Member, in_append, append_left, append_right}
-use Rattle.list_laws.proofs.Places.{place_within, take_more}
+use Rattle.list_laws.proofs.Places.{place_within, take_more, get_take, length_take}
 use Rattle.std.proofs.Math.ListN.{length-set}
 use Rattle.verdict_board.specs.declared.stage.Stage.{Stage}
 use Rattle.verdict_board.specs.Stages.{is_waiting, standing_in}
@@ -81,6 +81,22 @@ module _ {Answer : Type 0} (stages : Rows (Stage Answer)) (t : IsTable stages) w
       ⊎_elim (λ q. none other q)
       (λ q. ⊎_elim (λ (same : other ≡ name). subst (λ (z : Name). lacks_verdict (row_of stages z) ≡ false) (sym same) e) (λ none. absurd none) q)
       (in_append (take i names) (name ∷ []) other (subst (Member other) (take_more names i name h) among))
+
+-- ---- the first candidates
+
+get_first : {A : Type 0} (xs : List A) (count i : ℕ) (x : A) → slice_get (take count xs) i ≡ Some x → slice_get xs i ≡ Some x
+get_first xs count i x h =
+    let w = place_within (take count xs) i x h in
+    let l = length-take count xs in
+    sym (get_take xs i count (omega (arith, w, l))) ∙ h
+
+pub first_all : {W : Type 0} (items : W → List ℕ) (count more : ℕ) (candidate : List Bool) (parked : List W) → count ≤ more → AreAll items more candidate parked → AreAll items count (take count candidate) (take count parked)
+first_all items count more candidate parked less a = record {
+  each_candidate = length_take candidate count (let e = a.each_candidate in omega (arith, e, less));
+  each_parked = length_take parked count (let e = a.each_parked in omega (arith, e, less));
+  all = λ place h. a.all place (get_first candidate count place false h);
+  none_parked = λ at place list h m. a.none_parked at place list (get_first parked count at list h) m;
+}
 
 module _ {Answer W : Type 0} (stages : Rows (Stage Answer)) (graph : Graph) (items : W → List ℕ) where
   -- modules that are all candidates

@@ -1,5 +1,6 @@
 -- Edits after which no module is ungrounded.
-use Rattle.std.proofs.Common.{◌≡◌, ℕ, suc, ◌<◌, ◌≤◌, true, false, not, List, [], ◌∷◌, length, slice_get, None, Some, cond, is_some, unwrap_or, ◌&&◌, ◌⊎◌, inl, ⊎_elim, refl, sym, ap, ◌∙◌, subst, true≢false, arith}
+use Rattle.std.proofs.Common.{◌≡◌, ℕ, suc, ◌<◌, ◌≤◌, true, false, not, List, [], ◌∷◌, length, slice_get, None, Some, cond, is_some, ◌&&◌, ◌⊎◌, inl, ⊎_elim, refl, sym, ap, ◌∙◌, subst, true≢false, arith}
+use Rattle.std.specs.List.{list_any}
 use Rattle.std.proofs.lemmas.List.{length-map}
 use Rattle.std.proofs.lemmas.Option.{same_Some}
 use Rattle.std.proofs.lemmas.Bool.{false_from_ne_true}
@@ -12,14 +13,13 @@ use Rattle.list_laws.proofs.Places.{place_within}
 use Rattle.log_meaning.specs.Log.{Edit, Put, Drop, Library, edited, edited_name, text_of, is_present}
 use Rattle.log_laws.specs.LogLaws.{left_by}
 use Rattle.log_laws.proofs.Libraries.{text_edited}
-use Rattle.walk_meaning.specs.Walks.{Dependencies, direct, is_grounded, is_ungrounded, ungrounded_names}
+use Rattle.walk_meaning.specs.Walks.{Dependencies, of_text, direct, is_grounded, is_ungrounded, ungrounded_names}
 use Rattle.walk_meaning.specs.Reach.{reach}
 use Rattle.walk_meaning.specs.Graphs.{Graph, HoldsDependencies, graph_reach}
 use Rattle.walk_laws.proofs.Agreement.{direct_same}
 use Rattle.walk_laws.proofs.Graphs.{left_ungrounded, graph_reaches}
 use Rattle.walk_laws.proofs.Reaching.{reach_closed, reach_first}
-use Rattle.walk_laws.proofs.Walking.{depends_present, present_in, ungrounded_dependency}
-use Rattle.module_graph.specs.Rings.{is_needed_by, reaches_itself}
+use Rattle.walk_laws.proofs.Walking.{present_in, ungrounded_dependency}
 use Rattle.walk_meaning.specs.Subject.{Subject}
 use Rattle.board_meaning.specs.Events.{History, library_after}
 use Rattle.board_meaning.specs.Legal.{IsLegal}
@@ -66,26 +66,24 @@ module _ (D : Dependencies) (L : Library) (edit : Edit) (sound : (x : Name) → 
       false_from_ne_true (is_ungrounded D after x) (none_walk (λ z. is_ungrounded D after z ≡ true)
       (λ z u. (false_from_ne_true (same_name z n) (λ s. true≢false (sym u ∙ ap (is_ungrounded D after) (same_sound z n s) ∙ h)), ungrounded_present D after z u, next_on z u)) x)
 
-  -- the edited module is not a direct dependency of one that it reaches
-  abbrev IsApart : Type 0
-  IsApart = (x : Name) → Member x (reach D after n) → is_among (direct D after x) n ≡ false
-
-  apart_next : IsApart → (x d : Name) → Member x (reach D after n) → Member d (direct D after x) → same_name d n ≡ false
-  apart_next apart x d m e =
-      false_from_ne_true (same_name d n) (λ s. true≢false (sym (member_among (direct D after x) n (subst (λ z. Member z (direct D after x)) (same_sound d n s) e)) ∙ apart x m))
-
-  pub none_apart : IsApart → (x : Name) → is_ungrounded D after x ≡ false
+  -- none is where no direct dependency of the edited module reaches it before the edit
+  pub none_apart : ((d : Name) → Member d (direct D after n) → is_among (reach D L d) n ≡ false) → (x : Name) → is_ungrounded D after x ≡ false
   none_apart apart = none_but_edited (false_from_ne_true (is_ungrounded D after n) (λ u.
       let q = next_on n u in
-      let first = reach_first D after n in
-      none_walk (λ z. (is_ungrounded D after z ≡ true) × Member z (reach D after n) × (same_name z n ≡ false)) step q.0
-      (q.2, reach_closed D after n n q.0 first q.1, apart_next apart n q.0 first q.1)))
+      none_walk IsReached step q.0 (q.2, (q.0, q.1, reach_first D L q.0))))
     where
-      step : (z : Name) → (is_ungrounded D after z ≡ true) × Member z (reach D after n) × (same_name z n ≡ false)
-          → (same_name z n ≡ false) × (is_present after z ≡ true) × ((d : Name) × Member d (direct D after z) × ((is_ungrounded D after d ≡ true) × Member d (reach D after n) × (same_name d n ≡ false)))
+      IsReached : Name → Type 0
+      IsReached z = (is_ungrounded D after z ≡ true) × ((d : Name) × Member d (direct D after n) × Member z (reach D L d))
+
+      other : (z : Name) → IsReached z → same_name z n ≡ false
+      other z p =
+          false_from_ne_true (same_name z n) (λ s. true≢false (sym (member_among (reach D L p.1.0) n (subst (λ y. Member y (reach D L p.1.0)) (same_sound z n s) p.1.2)) ∙ apart p.1.0 p.1.1))
+
+      step : (z : Name) → IsReached z → (same_name z n ≡ false) × (is_present after z ≡ true) × ((d : Name) × Member d (direct D after z) × IsReached d)
       step z p =
           let q = next_on z p.0 in
-          (p.2, ungrounded_present D after z p.0, (q.0, q.1, (q.2, reach_closed D after n z q.0 p.1 q.1, apart_next apart z q.0 p.1 q.1)))
+          let before = subst (Member q.0) (direct_same D after L z (text_left z (other z p))) q.1 in
+          (other z p, ungrounded_present D after z p.0, (q.0, q.1, (q.2, (p.1.0, p.1.1, reach_closed D L p.1.0 z q.0 p.1.2 before))))
 
 -- a dropped module is absent
 pub none_dropped : (D : Dependencies) (L : Library) (n : Name) → ((x : Name) → is_ungrounded D L x ≡ false) → (x : Name) → is_ungrounded D (edited L (Drop n)) x ≡ false
@@ -93,17 +91,20 @@ none_dropped D L n sound =
     none_but_edited D L (Drop n) sound (false_from_ne_true (is_ungrounded D (edited L (Drop n)) n) (λ u.
     true≢false (sym (ungrounded_present D (edited L (Drop n)) n u) ∙ ap is_some (text_edited L (Drop n) n ∙ ap (λ b. cond b None (text_of L n)) (same_itself n)))))
 
--- no module is ungrounded after a text is put under a name that does not reach itself then
-pub none_put : (D : Dependencies) (L : Library) (n : Name) (t : Text) (graph : Graph) → HoldsDependencies graph D (edited L (Put n t)) → ((x : Name) → is_ungrounded D L x ≡ false)
-    → reaches_itself graph n ≡ false → (x : Name) → is_ungrounded D (edited L (Put n t)) x ≡ false
+direct_of : (D : Dependencies) (L : Library) (n : Name) (t : Text) → text_of L n ≡ Some t → direct D L n ≡ D n t
+unfolding direct
+direct_of D L n t h = ap (of_text (D n)) h
+
+-- no module is ungrounded after a text is put under a name that none of its direct dependencies reaches
+pub none_put : (D : Dependencies) (L : Library) (n : Name) (t : Text) (graph : Graph) → HoldsDependencies graph D L → ((x : Name) → is_ungrounded D L x ≡ false)
+    → list_any (λ from. is_among (graph_reach graph from) n) (D n t) ≡ false → (x : Name) → is_ungrounded D (edited L (Put n t)) x ≡ false
 none_put D L n t graph holds sound h = none_apart D L (Put n t) sound apart
   where
-    apart : (x : Name) → Member x (reach D (edited L (Put n t)) n) → is_among (direct D (edited L (Put n t)) x) n ≡ false
-    apart x m =
-        let reached = subst (Member x) (sym (graph_reaches graph D (edited L (Put n t)) holds n)) m in
-        false_from_ne_true (is_among (direct D (edited L (Put n t)) x) n) (λ a.
-        let row = holds.rows x (depends_present D (edited L (Put n t)) x n (among_member (direct D (edited L (Put n t)) x) n a)) in
-        true≢false (sym a ∙ sym (ap (λ names. is_among (unwrap_or names []) n) row) ∙ any_not (is_needed_by graph n) (graph_reach graph n) x h reached))
+    put : direct D (edited L (Put n t)) n ≡ D n t
+    put = direct_of D (edited L (Put n t)) n t (text_edited L (Put n t) n ∙ ap (λ b. cond b (Some t) (text_of L n)) (same_itself n))
+
+    apart : (d : Name) → Member d (direct D (edited L (Put n t)) n) → is_among (reach D L d) n ≡ false
+    apart d m = ap (λ names. is_among names n) (sym (graph_reaches graph D L holds d)) ∙ any_not (λ from. is_among (graph_reach graph from) n) (D n t) d h (subst (Member d) put m)
 
 -- where none is ungrounded, none is listed
 pub none_listed : (D : Dependencies) (L : Library) → ((x : Name) → is_ungrounded D L x ≡ false) → [] ≡ ungrounded_names D L

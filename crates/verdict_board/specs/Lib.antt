@@ -7,3 +7,5 @@ pub mod Keeping
 pub mod Changes
 pub mod FirstPending
 pub mod ReadBefore
+pub mod Marks
+pub mod Tables

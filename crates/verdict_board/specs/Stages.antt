@@ -1,8 +1,8 @@
 -- How a module stands after a history (this profile).
-use Rattle.std.specs.Prelude.{◌≡◌, ℕ, suc, [], ◌∷◌, ◌++◌, Bool, true, false, not, List, map, Option, Some, None, is_some, if◌then◌else◌}
+use Rattle.std.specs.Prelude.{◌≡◌, ℕ, suc, [], ◌∷◌, ◌++◌, Bool, true, false, List, map, Option, Some, None, if◌then◌else◌}
 use Rattle.name_meaning.specs.Names.{Name, is_among, is_ascending}
-use Rattle.name_meaning.specs.Rows.{Rows, row_names, row_of, with_row, without_row}
-use Rattle.log_meaning.specs.Log.{Edit, Put, Drop, edited, edited_name, names_of}
+use Rattle.name_meaning.specs.Rows.{Rows, row_names, row_of}
+use Rattle.log_meaning.specs.Log.{Edit, names_of}
 use Rattle.walk_meaning.specs.Walks.{Dependencies, is_grounded, is_ungrounded}
 use Rattle.walk_meaning.specs.Reach.{reach}
 use Rattle.walk_meaning.specs.Subject.{Subject}
@@ -77,30 +77,6 @@ falls name (Cyclic answer) = true
 abbrev pub fallen : {Answer : Type 0} → Name → Rows (Stage Answer) → Rows (Stage Answer)
 fallen {Answer} name rows = map (λ (row : Name × Stage Answer). (row.0, stage_after name row.1)) rows
 
--- The edit puts a text under a name that has no stage.
-abbrev pub is_new : {Answer : Type 0} → Edit → Rows (Stage Answer) → Bool
-is_new (Put name text) rows = not (is_some (row_of rows name))
-is_new (Drop name) rows = false
-
--- The stages with that of a module that the edit makes new, which waits.
-abbrev pub stages_added : {Answer : Type 0} → Edit → Rows (Stage Answer) → Rows (Stage Answer)
-stages_added (Put name text) rows = if is_some (row_of rows name) then rows else with_row name Waiting rows
-stages_added (Drop name) rows = rows
-
--- The stages without that of a module that the edit drops.
-abbrev pub stages_dropped : {Answer : Type 0} → Edit → Rows (Stage Answer) → Rows (Stage Answer)
-stages_dropped (Put name text) rows = rows
-stages_dropped (Drop name) rows = without_row name rows
-
--- The stages of the modules that the edit leaves, before any falls.
-abbrev pub stages_with : {Answer : Type 0} → Edit → Rows (Stage Answer) → Rows (Stage Answer)
-stages_with edit rows = stages_dropped edit (stages_added edit rows)
-
--- The stages after an edit: those that were made anew, else the old ones where all modules are grounded after it.
-abbrev pub changed : {Answer : Type 0} → Option (Rows (Stage Answer)) → Edit → Rows (Stage Answer) → Rows (Stage Answer)
-changed None edit rows = fallen (edited_name edit) (stages_with edit rows)
-changed (Some anew) edit rows = anew
-
 -- The history with this edit made after it.
 abbrev pub after_edit_of : History → Edit → History
 after_edit_of history edit = history ++ entry 0 (suc (version_after history)) (EditMade edit) ∷ []
@@ -141,8 +117,3 @@ module _ {Answer Meaning : Type 0} (subject : Subject Meaning) (meaning : Answer
   pub record AreStages (stages : Rows (Stage Answer)) : Type 0 where
     pub names : row_names stages ≡ names_of (library_after history)
     pub staged : (name : Name) (stage : Stage Answer) → row_of stages name ≡ Some stage → IsStage name stage
-
--- These are the stages after an edit; or there are none, and no module is ungrounded after it.
-abbrev pub IsAnew : {Answer Meaning : Type 0} → Subject Meaning → (Answer → Meaning) → History → Edit → Option (Rows (Stage Answer)) → Type 0
-IsAnew subject meaning history edit None = (name : Name) → is_ungrounded subject.dependencies (edited (library_after history) edit) name ≡ false
-IsAnew subject meaning history edit (Some stages) = AreStages subject meaning (after_edit_of history edit) stages

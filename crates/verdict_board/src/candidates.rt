@@ -1,5 +1,5 @@
 //! Which modules may be ready: a claim looks at no others.
-ghost use Rattle.std.specs.Prelude.{◌≡◌, ◌<◌, ℕ, true, false, length, slice_get, is_some, IfOk, MatchBool, MatchOption, Some};
+ghost use Rattle.std.specs.Prelude.{◌≡◌, ◌<◌, ◌≤◌, ℕ, true, false, length, slice_get, is_some, IfOk, MatchBool, MatchOption, Some};
 ghost use Rattle.name_meaning.specs.Rows.{row_names, row_of, with_row, IsTable};
 ghost use Rattle.list_laws.proofs.Members.{Member};
 ghost use Rattle.verdict_board.specs.declared.stage.Stage.TheVariants.{Waiting};
@@ -36,6 +36,16 @@ impl Candidates {
             candidate: vec![in alloc; true; count]?,
             parked,
         })
+    }
+
+    /// As many of these as so many, of which each is a candidate. It takes no memory.
+    pub fn first(mut self, count: usize) -> Candidates
+        requires { (more : ℕ) × (count ≤ more) × AreNew more self }
+        ensures { AreNew count result }
+    {
+        self.candidate.truncate(count);
+        self.parked.truncate(count);
+        self
     }
 
     /// Whether the module at a place is ready. One that is not is a candidate no longer.

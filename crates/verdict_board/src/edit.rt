@@ -1,5 +1,5 @@
 //! Edits of the library.
-ghost use Rattle.std.specs.Prelude.{◌≡◌, ◌≤◌, ◌∷◌, ◌++◌, [], not, true, false, length, filter, IfOk, IfSome, OnErr, OnOk};
+ghost use Rattle.std.specs.Prelude.{◌≡◌, ◌≤◌, ◌∷◌, suc, ◌++◌, [], not, true, false, length, filter, IfOk, IfSome, OnErr, OnOk};
 ghost use Rattle.std.specs.Option.{option_copied};
 ghost use Rattle.name_meaning.specs.Names.{Name, is_among, is_ascending};
 ghost use Rattle.name_meaning.specs.Limits.{text_limit};
@@ -15,28 +15,29 @@ ghost use Rattle.edit_log.specs.Readings.{read_edit, IsAnswer};
 ghost use Rattle.verdict_board.specs.Entries.{entry, read_event};
 ghost use Rattle.verdict_board.specs.ReadBefore.{AreReadBefore};
 ghost use Rattle.verdict_board.specs.Searching.{AreNew};
-ghost use Rattle.verdict_board.specs.Stages.{IsStage, AreStages, IsAnew, after_edit_of};
+ghost use Rattle.verdict_board.specs.Stages.{IsStage, AreStages, after_edit_of};
+ghost use Rattle.verdict_board.specs.Tables.{AreDependencies, IsChange};
 ghost use Rattle.board_meaning.specs.Events as board;
 
 use crate::candidates::Candidates;
+use crate::change::{Change, make_edit};
 use crate::claim::MOST;
-use crate::in_place::change;
 use crate::search::contains;
 use crate::stage::{Stage, after_edit};
 use crate::trail::{Trail, noted};
 use crate::{Board, Event};
 use edit_log::{Edit, EditFault, Edited};
 use lf_terms::{Memory, Name, Names};
-use module_graph::{Graph, Subject, grounded, reaches_itself};
+use module_graph::{Graph, Subject, any_reaches, grounded};
 use name_table::NameTable;
 use std::alloc::Global;
 
-/// What stands after an edit: the stages where they are not changed in place.
+/// What is made beside what there is, before an edit changes it.
 #[derive(Drop)]
 struct Next<A> {
-    graph: Graph,
+    change: Change<A>,
+    /// At least as many as there are modules after the edit.
     candidates: Candidates,
-    anew: Option<NameTable<Stage<A>>>,
     history: Trail,
 }
 
@@ -76,26 +77,25 @@ impl<S: Subject> Board<S> {
             return Err(EditFault::Memory);
         }
         let next = self.next(alloc, pass, version, &edit, known)?;
-        let anew = next.anew;
-        match change(
+        let how = next.change;
+        match make_edit(
             alloc,
             &mut self.log,
+            &mut self.graph,
             &mut self.stages,
-            &next.graph,
-            anew,
+            how,
             edit,
         ) {
             Ok(_) => {}
             Err(fault) => return Err(fault),
         }
-        self.graph = next.graph;
-        self.candidates = next.candidates;
+        self.candidates = next.candidates.first(self.graph.len());
         self.history = next.history;
         self.entries += 1;
         Ok(answer)
     }
 
-    /// What stands after an edit that becomes this version, made beside what there is.
+    /// What is made beside what there is for an edit that becomes this version.
     fn next(
         &self,
         alloc: Global,
@@ -106,35 +106,68 @@ impl<S: Subject> Board<S> {
     ) -> Result<Next<S::Answer>, Memory>
         requires short { is_short (read_edit edit.now) ≡ true }
         requires known { AreReadBefore S.subject.dependencies (read_edit edit.now) known }
-        ensures holds { IfOk result (λ next. HoldsDependencies next.graph S.subject.dependencies (edited (library_after self.now) (read_edit edit.now))) }
-        ensures candidates { IfOk result (λ next. AreNew (length next.graph) next.candidates) }
-        ensures anew { IfOk result (λ next. IsAnew S.subject S.meaning self.now (read_edit edit.now) next.anew) }
+        ensures change { IfOk result (λ next. IsChange S.subject S.meaning self.now (read_edit edit.now) next.change) }
+        ensures candidates { IfOk result (λ next. AreNew (suc (length (library_after self.now))) next.candidates) }
         ensures history { IfOk result (λ next. next.history.entries ≡ self.now ++ entry pass version (board.EditMade (read_edit edit.now)) ∷ []) }
     {
-        let graph = self.graph_after(alloc, edit, known)?;
+        let dependencies = self.dependencies_put(alloc, edit, known)?;
         let history = noted_edit(&self.history, alloc, pass, version, edit)?;
-        let candidates = Candidates::new(alloc, graph.len())?;
-        let anew = self.stages_anew(alloc, edit, &graph)?;
+        let candidates = Candidates::new(alloc, self.graph.len() + 1)?;
+        let change = self.change(alloc, edit, dependencies)?;
         Ok(Next {
-            graph,
+            change,
             candidates,
-            anew,
             history,
         })
     }
 
-    /// The dependencies of the modules after an edit.
-    fn graph_after(&self, alloc: Global, edit: &Edit, known: Option<Names>) -> Result<Graph, Memory>
+    /// The dependencies of the text that an edit puts, which may be known; none where it drops a module.
+    fn dependencies_put(
+        &self,
+        alloc: Global,
+        edit: &Edit,
+        known: Option<Names>,
+    ) -> Result<Names, Memory>
         requires short { is_short (read_edit edit.now) ≡ true }
         requires known { AreReadBefore S.subject.dependencies (read_edit edit.now) known }
+        ensures { IfOk result (λ names. AreDependencies S.subject.dependencies (read_edit edit.now) names) }
+    {
+        match edit {
+            Edit::Put { name, text } => {
+                self.dependencies(alloc, name, text.get().as_slice(), known)
+            }
+            Edit::Drop { .. } => Ok(Names::from_vec(Vec::new(alloc))),
+        }
+    }
+
+    /// What an edit does to the tables, where these are the dependencies of the text that it puts.
+    fn change(
+        &self,
+        alloc: Global,
+        edit: &Edit,
+        dependencies: Names,
+    ) -> Result<Change<S::Answer>, Memory>
+        requires short { is_short (read_edit edit.now) ≡ true }
+        requires dependencies { AreDependencies S.subject.dependencies (read_edit edit.now) dependencies }
+        ensures { IfOk result (λ change. IsChange S.subject S.meaning self.now (read_edit edit.now) change) }
+    {
+        let may_have = self.may_have_ring(alloc, edit, &dependencies)?;
+        if !may_have {
+            return Ok(Change::InPlace { dependencies });
+        }
+        let graph = self.graph_after(alloc, edit, dependencies)?;
+        let stages = self.stages_after(alloc, edit, &graph)?;
+        Ok(Change::Anew { graph, stages })
+    }
+
+    /// The dependencies of the modules after an edit, where these are the dependencies of the text that it puts.
+    fn graph_after(&self, alloc: Global, edit: &Edit, dependencies: Names) -> Result<Graph, Memory>
+        requires dependencies { AreDependencies S.subject.dependencies (read_edit edit.now) dependencies }
         ensures { IfOk result (λ graph. HoldsDependencies graph S.subject.dependencies (edited (library_after self.now) (read_edit edit.now))) }
     {
         let mut graph = self.graph.copy(alloc)?;
         match edit {
-            Edit::Put { name, text } => {
-                let dependencies = self.dependencies(alloc, name, text.get().as_slice(), known)?;
-                graph.set(alloc, name.copy(alloc)?, dependencies)?;
-            }
+            Edit::Put { name, .. } => graph.set(alloc, name.copy(alloc)?, dependencies)?,
             Edit::Drop { name } => {
                 graph.remove(name);
             }
@@ -158,25 +191,6 @@ impl<S: Subject> Board<S> {
             Some(names) => Ok(names),
             None => self.subject.deps(alloc, name, text),
         }
-    }
-
-    /// How each module stands after an edit that leaves this graph. None only where no module is ungrounded then, so that the stages
-    /// may be changed in place.
-    fn stages_anew(
-        &self,
-        alloc: Global,
-        edit: &Edit,
-        graph: &Graph,
-    ) -> Result<Option<NameTable<Stage<S::Answer>>>, Memory>
-        requires short { is_short (read_edit edit.now) ≡ true }
-        requires holds { HoldsDependencies graph.now S.subject.dependencies (edited (library_after self.now) (read_edit edit.now)) }
-        ensures { IfOk result (λ anew. IsAnew S.subject S.meaning self.now (read_edit edit.now) anew) }
-    {
-        let may_have = self.may_have_ring(alloc, edit, graph)?;
-        if !may_have {
-            return Ok(None);
-        }
-        Ok(Some(self.stages_after(alloc, edit, graph)?))
     }
 
     /// How each module stands after an edit that leaves this graph, made anew beside what there is.
@@ -208,16 +222,22 @@ impl<S: Subject> Board<S> {
         Ok(stages)
     }
 
-    /// Whether a module may be ungrounded after an edit that leaves this graph: one was before, or the edited one reaches itself.
-    fn may_have_ring(&self, alloc: Global, edit: &Edit, graph: &Graph) -> Result<bool, Memory>
-        requires { HoldsDependencies graph.now S.subject.dependencies (edited (library_after self.now) (read_edit edit.now)) }
+    /// Whether a module may be ungrounded after an edit, where these are the dependencies of the text that it puts: one was before, or
+    /// one of these reaches the edited module.
+    fn may_have_ring(
+        &self,
+        alloc: Global,
+        edit: &Edit,
+        dependencies: &Names,
+    ) -> Result<bool, Memory>
+        requires { AreDependencies S.subject.dependencies (read_edit edit.now) dependencies.now }
         ensures { IfOk result (λ may. may ≡ false → (name : Name) → is_ungrounded S.subject.dependencies (edited (library_after self.now) (read_edit edit.now)) name ≡ false) }
     {
         if self.has_ring() {
             return Ok(true);
         }
         match edit {
-            Edit::Put { name, .. } => reaches_itself(alloc, graph, name),
+            Edit::Put { name, .. } => any_reaches(alloc, &self.graph, dependencies, name),
             Edit::Drop { .. } => Ok(false),
         }
     }

@@ -4,7 +4,8 @@ ghost use Rattle.name_meaning.specs.Limits.{text_limit};
 ghost use Rattle.verdict_board.specs.Readings.{read_inputs};
 
 use crate::Inputs;
-use lf_terms::{Arc, Bytes, Name, Names};
+use crate::marked_names::MarkedNames;
+use lf_terms::{Arc, Bytes, Name};
 use module_graph::{Answers, Subject};
 use std::marker::Model;
 
@@ -15,7 +16,7 @@ pub struct Job<S: Subject> {
     pub(crate) text: Arc<Bytes>,
     pub(crate) inputs: Inputs,
     /// The names of the inputs once more, for the board to keep.
-    pub(crate) names: Arc<Names>,
+    pub(crate) names: MarkedNames,
     pub(crate) answers: Answers<S::Answer>,
 }
 

@@ -3,13 +3,14 @@
 
 mod board;
 mod candidates;
+mod change;
 mod claim;
 mod edit;
 mod event;
-mod in_place;
 mod inputs;
 mod install;
 mod job;
+mod marked_names;
 mod pending;
 mod replies;
 mod report;

@@ -2,10 +2,11 @@
 ghost use Rattle.std.specs.Prelude.{◌≡◌, IfOk};
 ghost use Rattle.std.specs.Option.{option_copied};
 ghost use Rattle.name_meaning.specs.Names.{is_ascending, is_among};
+ghost use Rattle.verdict_board.specs.Marks.{mark_of};
 ghost use Rattle.verdict_board.specs.Stages.{answer_in, claim_in, falls, is_cyclic, is_waiting, standing_in, stage_after, HasSortedInputs};
 
-use crate::search::contains;
-use lf_terms::{Arc, Memory, Name, Names};
+use crate::marked_names::{MarkedNames, mark_of};
+use lf_terms::{Memory, Name, Names};
 use module_graph::Subject;
 
 /// How a module of the library stands. An open claim is current where the stamps of its inputs are unchanged.
@@ -14,9 +15,9 @@ pub enum Stage<A> {
     /// It is grounded, has no standing verdict and no current claim.
     Waiting,
     /// It is grounded, has no standing verdict, and this claim of it is current; with the names of the claim's inputs.
-    Claimed { claim: u64, inputs: Arc<Names> },
+    Claimed { claim: u64, inputs: MarkedNames },
     /// It has a standing verdict; with the names of the inputs.
-    Standing { answer: A, inputs: Arc<Names> },
+    Standing { answer: A, inputs: MarkedNames },
     /// It is ungrounded.
     Cyclic { answer: A },
 }
@@ -46,15 +47,16 @@ impl<A> Stage<A> {
         matches!(self, Stage::Cyclic { .. })
     }
 
-    /// Whether it does not stay after an edit of a name, if the module is grounded then.
-    pub fn falls(&self, edited: &Name) -> bool
-        requires { HasSortedInputs self.now }
+    /// Whether it does not stay after an edit of a name, the place of whose bit is given, if the module is grounded then.
+    pub fn falls(&self, edited: &Name, mark: u32) -> bool
+        requires sorted { HasSortedInputs self.now }
+        requires mark { mark ≡ mark_of edited.now }
         ensures { result ≡ falls edited.now self.now }
     {
         match self {
             Stage::Waiting => false,
             Stage::Claimed { inputs, .. } | Stage::Standing { inputs, .. } => {
-                contains(inputs.get(), edited)
+                inputs.contains(edited, mark)
             }
             Stage::Cyclic { .. } => true,
         }
@@ -89,7 +91,7 @@ pub fn after_edit<S: Subject>(
     requires { HasSortedInputs stage.now }
     ensures { IfOk result (λ after. after ≡ stage_after edited.now stage.now) }
 {
-    if stage.falls(edited) {
+    if stage.falls(edited, mark_of(edited)) {
         return Ok(Stage::Waiting);
     }
     match stage {

@@ -1,14 +1,16 @@
-use Rattle.std.proofs.Common.{◌≡◌, ◌∷◌, ◌++◌, [], suc, Err, sym, ap, ◌∙◌, subst, arith}
+use Rattle.std.proofs.Common.{◌≡◌, ◌≤◌, ℕ, ◌∷◌, ◌++◌, [], suc, length, Err, sym, ap, ◌∙◌, subst, arith}
 use Rattle.log_meaning.specs.Log.{Log, edited}
 use Rattle.log_meaning.specs.Append.{Made, append_answer}
-use Rattle.log_laws.proofs.Libraries.{library_ascending}
 use Rattle.log_laws.proofs.Limits.{made_short}
-use Rattle.walk_meaning.specs.Graphs.{HoldsDependencies}
+use Rattle.walk_meaning.specs.Graphs.{Graph, HoldsDependencies}
 use Rattle.board_meaning.specs.Events.{EditMade, History, log_of, library_after, version_after}
 use Rattle.edit_log.specs.Readings.{read_edit, read_edited, IsAnswer}
 use Rattle.verdict_board.specs.Entries.{entry}
 use Rattle.verdict_board.specs.Stages.{AreStages, after_edit_of}
-use Rattle.verdict_board.proofs.Falls.{changed_staged, inputs_sorted, names_edited}
+use Rattle.verdict_board.specs.Searching.{AreNew}
+use Rattle.verdict_board.specs.Tables.{IsChange, graph_changed}
+use Rattle.verdict_board.proofs.Tables.{changed_holds, graph_few}
+use Rattle.verdict_board.proofs.Falls.{changed_staged, inputs_sorted}
 use Rattle.verdict_board.proofs.Calls.{edit_after}
 use Rattle.verdict_board.proofs.Edits.{kept_edit}
 use Rattle.verdict_board.proofs.EditSteps.{unmade_after, appended_made, made_version}
@@ -28,16 +30,25 @@ pub next-requires-clause-short : goal.next-requires-clause-short
 next-requires-clause-short g c κs b =
     made_short c.self.inside.log (read_edit c.args.edit) c.in-Made.version (c.in_ok-answer.ensures ∙ ap read_edited c.in-Made.is)
 
-pub change-requires-clause-sorted : goal.change-requires-clause-sorted
-change-requires-clause-sorted g c =
+pub make_edit-requires-clause-sorted : goal.make_edit-requires-clause-sorted
+make_edit-requires-clause-sorted g c =
     let lawful = (g.met.S.Subject g.world.𝓛 g.world.𝓜 g.world.𝓡 ((λ s x. x), (λ x. x), (λ x. x), λ x. x)).lawful in
     inputs_sorted g.S.Subject.subject g.S.Subject.meaning c.self.inside.history.entries c.self.invariant.legal lawful.reach c.self.inside.stages c.self.invariant.staged
 
-pub change-requires-clause-names : goal.change-requires-clause-names
-change-requires-clause-names g c =
+pub make_edit-requires-clause-names : goal.make_edit-requires-clause-names
+make_edit-requires-clause-names g c = c.self.invariant.staged.names ∙ sym c.self.invariant.holds.names
+
+pub first-requires : goal.first-requires
+first-requires g c =
     let e = read_edit c.args.edit in
-    let holds : HoldsDependencies c.in_ok-next.next.graph g.S.Subject.subject.dependencies (edited (library_after c.self.inside.history.entries) e) = rw c.self.view_is c.in_ok-next.ensures.holds in
-    names_edited (library_after c.self.inside.history.entries) c.self.inside.stages e (library_ascending (log_of c.self.inside.history.entries)) c.self.invariant.staged.names ∙ sym holds.names
+    let H = c.self.inside.history.entries in
+    let change : IsChange g.S.Subject.subject g.S.Subject.meaning H e c.in_ok-next.next.change = rw c.self.view_is c.in_ok-next.ensures.change in
+    let holds = changed_holds g.S.Subject.subject g.S.Subject.meaning H c.self.inside.graph c.self.invariant.holds e c.in_ok-next.next.change change in
+    let new : AreNew (suc (length (library_after H))) c.in_ok-next.next.candidates = rw c.self.view_is c.in_ok-next.ensures.candidates in (
+      suc (length (library_after H)),
+      subst (λ (count : ℕ). count ≤ suc (length (library_after H))) (sym (c.len.ensures.len ∙ ap length c.in-Ok.ensures.graph)) (graph_few (library_after H) e (graph_changed c.in_ok-next.next.change e c.self.inside.graph) holds.names),
+      new,
+    )
 
 pub returns-in-Err-clause-answer : goal.returns-in-Err-clause-answer
 returns-in-Err-clause-answer g c =
@@ -48,28 +59,35 @@ returns-in-Err-clause-unchanged g c = c.self.view_is
 
 pub invariant_of-self-2 : goal.invariant_of-self-2
 invariant_of-self-2 g c =
+    let S = g.S.Subject.subject in
+    let M = g.S.Subject.meaning in
     let e = read_edit c.args.edit in
+    let H = c.self.inside.history.entries in
     let made : append_answer c.self.inside.log e ≡ Made c.in-Made.version = c.in_ok-answer.ensures ∙ ap read_edited c.in-Made.is in
-    let reply : append_answer (log_of c.self.inside.history.entries) e ≡ Made c.in-Made.version = ap (λ log. append_answer log e) (sym c.self.invariant.logged) ∙ made in
-    let v : c.in-Made.version ≡ suc (version_after c.self.inside.history.entries) = made_version (log_of c.self.inside.history.entries) e c.in-Made.version reply in
+    let reply : append_answer (log_of H) e ≡ Made c.in-Made.version = ap (λ log. append_answer log e) (sym c.self.invariant.logged) ∙ made in
+    let v : c.in-Made.version ≡ suc (version_after H) = made_version (log_of H) e c.in-Made.version reply in
     let lawful = (g.met.S.Subject g.world.𝓛 g.world.𝓜 g.world.𝓡 ((λ s x. x), (λ x. x), (λ x. x), λ x. x)).lawful in
-    let next = changed_staged g.S.Subject.subject g.S.Subject.meaning c.self.inside.history.entries c.self.invariant.legal lawful.reach c.self.inside.stages c.self.invariant.staged e c.in_ok-next.next.anew (rw c.self.view_is c.in_ok-next.ensures.anew) in
-    let stages = subst (λ (z : History). AreStages g.S.Subject.subject g.S.Subject.meaning z c.change.new.stages)
-    (λ i. c.self.inside.history.entries ++ entry (sym c.requires.front i) (sym v i) (EditMade e) ∷ [])
-    (subst (AreStages g.S.Subject.subject g.S.Subject.meaning (after_edit_of c.self.inside.history.entries e)) (sym c.in-Ok.ensures.stages) next) in
-    let holds : HoldsDependencies c.in_ok-next.next.graph g.S.Subject.subject.dependencies (edited (library_after c.self.inside.history.entries) e) = rw c.self.view_is c.in_ok-next.ensures.holds in
+    let change : IsChange S M H e c.in_ok-next.next.change = rw c.self.view_is c.in_ok-next.ensures.change in
+    let next = changed_staged S M H c.self.invariant.legal lawful.reach c.self.inside.stages c.self.invariant.staged e c.in_ok-next.next.change change in
+    let stages = subst (λ (z : History). AreStages S M z c.make_edit.new.stages)
+    (λ i. H ++ entry (sym c.requires.front i) (sym v i) (EditMade e) ∷ [])
+    (subst (AreStages S M (after_edit_of H e)) (sym c.in-Ok.ensures.stages) next) in
+    let holds : HoldsDependencies c.make_edit.new.graph S.dependencies (edited (library_after H) e) =
+    subst (λ (graph : Graph). HoldsDependencies graph S.dependencies (edited (library_after H) e)) (sym c.in-Ok.ensures.graph) (changed_holds S M H c.self.inside.graph c.self.invariant.holds e c.in_ok-next.next.change change) in
+    let candidates : AreNew (length c.make_edit.new.graph) c.first.result = subst (λ (count : ℕ). AreNew count c.first.result) c.len.ensures.len c.first.ensures in
     let few = c.if-self-ge-MOST.false in
     let less = c.if-self-ge-MOST-2.false in
-    let noted : c.in_ok-next.next.history.entries ≡ c.self.inside.history.entries ++ entry c.args.pass c.in-Made.version (EditMade e) ∷ [] = rw c.self.view_is c.in_ok-next.ensures.history in
+    let noted : c.in_ok-next.next.history.entries ≡ H ++ entry c.args.pass c.in-Made.version (EditMade e) ∷ [] = rw c.self.view_is c.in_ok-next.ensures.history in
     rw noted
-    (kept_edit g.S.Subject.subject g.S.Subject.meaning c.self.inside.history.entries c.self.inside.log c.self.inside.graph c.self.inside.stages c.self.inside.closed c.self.inside.opened c.self.inside.entries c.self.inside.installed c.self.invariant e c.args.pass c.in-Made.version c.in-Made.version c.change.new.log c.in_ok-next.next.graph c.change.new.stages c.in_ok-next.next.candidates c.in_ok-next.ensures.candidates c.requires.front reply v
+    (kept_edit S M H c.self.inside.log c.self.inside.graph c.self.inside.stages c.self.inside.closed c.self.inside.opened c.self.inside.entries c.self.inside.installed c.self.invariant e c.args.pass c.in-Made.version c.in-Made.version c.make_edit.new.log c.make_edit.new.graph c.make_edit.new.stages c.first.result candidates c.requires.front reply v
     (c.in-Ok.ensures.log ∙ appended_made c.self.inside.log e c.in-Made.version made) holds stages (omega (arith, few)) (omega (arith, less)))
 
 pub returns-clause-history : goal.returns-clause-history
 returns-clause-history g c =
     let e = read_edit c.args.edit in
+    let H = c.self.inside.history.entries in
     let made : append_answer c.self.inside.log e ≡ Made c.in-Made.version = c.in_ok-answer.ensures ∙ ap read_edited c.in-Made.is in
-    let reply : append_answer (log_of c.self.inside.history.entries) e ≡ Made c.in-Made.version = ap (λ log. append_answer log e) (sym c.self.invariant.logged) ∙ made in
-    let v : c.in-Made.version ≡ suc (version_after c.self.inside.history.entries) = made_version (log_of c.self.inside.history.entries) e c.in-Made.version reply in
-    let noted : c.in_ok-next.next.history.entries ≡ c.self.inside.history.entries ++ entry c.args.pass c.in-Made.version (EditMade e) ∷ [] = rw c.self.view_is c.in_ok-next.ensures.history in
-    noted ∙ rw (← c.self.view_is) (sym (edit_after g.S.Subject.subject.dependencies c.self.inside.history.entries c.args.pass c.in-Made.version e c.in-Made.version reply v))
+    let reply : append_answer (log_of H) e ≡ Made c.in-Made.version = ap (λ log. append_answer log e) (sym c.self.invariant.logged) ∙ made in
+    let v : c.in-Made.version ≡ suc (version_after H) = made_version (log_of H) e c.in-Made.version reply in
+    let noted : c.in_ok-next.next.history.entries ≡ H ++ entry c.args.pass c.in-Made.version (EditMade e) ∷ [] = rw c.self.view_is c.in_ok-next.ensures.history in
+    noted ∙ rw (← c.self.view_is) (sym (edit_after g.S.Subject.subject.dependencies H c.args.pass c.in-Made.version e c.in-Made.version reply v))

@@ -1,6 +1,6 @@
 use Rattle.std.proofs.Common.{◌≡◌}
 use Rattle.verdict_board.proofs.Falls.{fallen_to}
-use Rattle.verdict_board.proofs.in_place.fall.Given as goal
+use Rattle.verdict_board.proofs.change.fall.Given as goal
 
 abbrev pub invariant-loop-place : goal.invariant-loop-place
 invariant-loop-place g l = l.stages ≡ fallen_to l.edited l.place l.fn.stages

@@ -6,8 +6,8 @@ use Rattle.name_laws.proofs.Rows.{row_at}
 use Rattle.verdict_board.specs.declared.stage.Stage.{Stage}
 use Rattle.verdict_board.specs.declared.stage.Stage.TheVariants.{Waiting}
 use Rattle.verdict_board.proofs.Falls.{fallen_here, fallen_long, fallen_all, fallen_same, fallen_next, fallen_has}
-use Rattle.verdict_board.proofs.in_place.fall.Goals as goal
-use Rattle.verdict_board.proofs.in_place.fall.Goals.{then-falls, else-falls}
+use Rattle.verdict_board.proofs.change.fall.Goals as goal
+use Rattle.verdict_board.proofs.change.fall.Goals.{then-falls, else-falls}
 
 pub row_at-requires : goal.row_at-requires
 row_at-requires g c =
@@ -23,8 +23,11 @@ row_at-requires g c =
 pub falls-requires : goal.falls-requires
 falls-requires g c =
     let here = sym (fallen_here c.args.edited.now c.loop-place.place c.args.stages.now) ∙ ap (λ stages. slice_get stages c.loop-place.place) (sym c.loop-place.invariant) ∙ c.row_at.ensures in
-    c.requires.sorted c.row_at.result.0.now c.row_at.result.1.now
-    (row_at c.row_at.result.0.now c.row_at.result.1.now c.args.stages.now c.loop-place.place (ap is_ascending c.requires.names ∙ c.len-place-end.ensures.ordered) here)
+    record {
+      sorted = c.requires.sorted c.row_at.result.0.now c.row_at.result.1.now
+          (row_at c.row_at.result.0.now c.row_at.result.1.now c.args.stages.now c.loop-place.place (ap is_ascending c.requires.names ∙ c.len-place-end.ensures.ordered) here);
+      mark = c.mark_of-mark.ensures.mark;
+    }
 
 pub replace-requires : goal.replace-requires
 replace-requires g c =

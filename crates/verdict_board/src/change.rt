@@ -1,0 +1,256 @@
+//! Tables that an edit changes.
+ghost use Rattle.std.specs.Prelude.{◌≡◌, ℕ, true, false, is_some, OnErr, OnOk};
+ghost use Rattle.name_meaning.specs.Rows.{row_names, row_of, with_row, without_row, IsTable};
+ghost use Rattle.log_meaning.specs.Log.{edited_name};
+ghost use Rattle.log_meaning.specs.Append.{Made, append_answer, appended};
+ghost use Rattle.edit_log.specs.Readings.{read_edit, IsAnswer};
+ghost use Rattle.verdict_board.specs.declared.stage.Stage.TheVariants.{Waiting};
+ghost use Rattle.verdict_board.specs.Stages.{fallen, HaveSortedInputs};
+ghost use Rattle.verdict_board.specs.Tables.{graph_changed, graph_in_place, stages_changed, stages_in_place};
+
+use crate::marked_names::mark_of;
+use crate::stage::Stage;
+use edit_log::{Edit, EditFault, Edited, Log};
+use lf_terms::{Arc, Memory, Name, Names};
+use module_graph::Graph;
+use name_table::NameTable;
+use std::alloc::Global;
+
+/// What an edit does to the tables of dependencies and of stages.
+#[derive(Drop)]
+pub enum Change<A> {
+    /// All modules are grounded after it, so they are changed in place; with the direct dependencies of the text that is put.
+    InPlace {
+        dependencies: Names,
+    },
+    /// These were made beside them.
+    Anew {
+        graph: Graph,
+        stages: NameTable<Stage<A>>,
+    },
+}
+
+/// Makes an edit in a log, and changes the tables. For want of memory nothing changes.
+pub fn make_edit<A: Drop>(
+    alloc: Global,
+    log: &mut Log,
+    graph: &mut Graph,
+    stages: &mut NameTable<Stage<A>>,
+    how: Change<A>,
+    edit: Edit,
+) -> Result<Edited, EditFault>
+    requires made { (version : ℕ) × (append_answer log.old (read_edit edit) ≡ Made version) }
+    requires sorted { HaveSortedInputs stages.old }
+    requires names { row_names stages.old ≡ row_names graph.old }
+    ensures answer { IsAnswer result (append_answer log.old (read_edit edit)) }
+    ensures log { OnOk result (log.new ≡ appended log.old (read_edit edit)) }
+    ensures graph { OnOk result (graph.new ≡ graph_changed how (read_edit edit) graph.old) }
+    ensures stages { OnOk result (stages.new ≡ stages_changed how (read_edit edit) stages.old) }
+    ensures log_unchanged { OnErr result (log.new ≡ log.old) }
+    ensures graph_unchanged { OnErr result (graph.new ≡ graph.old) }
+    ensures stages_unchanged { OnErr result (stages.new ≡ stages.old) }
+{
+    match how {
+        Change::Anew {
+            graph: next_graph,
+            stages: next_stages,
+        } => {
+            let answer = match log.append(alloc, edit) {
+                Ok(answer) => answer,
+                Err(fault) => return Err(fault),
+            };
+            *graph = next_graph;
+            *stages = next_stages;
+            Ok(answer)
+        }
+        Change::InPlace { dependencies } => {
+            change_in_place(alloc, log, graph, stages, dependencies, edit)
+        }
+    }
+}
+
+/// Makes an edit in a log, and changes the tables in place as for an edit after which all modules are grounded.
+fn change_in_place<A: Drop>(
+    alloc: Global,
+    log: &mut Log,
+    graph: &mut Graph,
+    stages: &mut NameTable<Stage<A>>,
+    dependencies: Names,
+    edit: Edit,
+) -> Result<Edited, EditFault>
+    requires made { (version : ℕ) × (append_answer log.old (read_edit edit) ≡ Made version) }
+    requires sorted { HaveSortedInputs stages.old }
+    requires names { row_names stages.old ≡ row_names graph.old }
+    ensures answer { IsAnswer result (append_answer log.old (read_edit edit)) }
+    ensures log { OnOk result (log.new ≡ appended log.old (read_edit edit)) }
+    ensures graph { OnOk result (graph.new ≡ graph_in_place dependencies (read_edit edit) graph.old) }
+    ensures stages { OnOk result (stages.new ≡ stages_in_place (read_edit edit) stages.old) }
+    ensures log_unchanged { OnErr result (log.new ≡ log.old) }
+    ensures graph_unchanged { OnErr result (graph.new ≡ graph.old) }
+    ensures stages_unchanged { OnErr result (stages.new ≡ stages.old) }
+{
+    let Edit::Put { name, .. } = &edit else {
+        return drop_module(alloc, log, graph, stages, edit);
+    };
+    if stages.get(name).is_some() {
+        put_again(alloc, log, graph, stages, dependencies, edit)
+    } else {
+        put_new(alloc, log, graph, stages, dependencies, edit)
+    }
+}
+
+/// Makes an edit in a log that takes a module out.
+fn drop_module<A: Drop>(
+    alloc: Global,
+    log: &mut Log,
+    graph: &mut Graph,
+    stages: &mut NameTable<Stage<A>>,
+    edit: Edit,
+) -> Result<Edited, EditFault>
+    requires made { (version : ℕ) × (append_answer log.old (read_edit edit) ≡ Made version) }
+    requires sorted { HaveSortedInputs stages.old }
+    requires names { row_names stages.old ≡ row_names graph.old }
+    ensures answer { IsAnswer result (append_answer log.old (read_edit edit)) }
+    ensures log { OnOk result (log.new ≡ appended log.old (read_edit edit)) }
+    ensures graph { OnOk result (graph.new ≡ without_row (edited_name (read_edit edit)) graph.old) }
+    ensures stages { OnOk result (stages.new ≡ fallen (edited_name (read_edit edit)) (without_row (edited_name (read_edit edit)) stages.old)) }
+    ensures log_unchanged { OnErr result (log.new ≡ log.old) }
+    ensures graph_unchanged { OnErr result (graph.new ≡ graph.old) }
+    ensures stages_unchanged { OnErr result (stages.new ≡ stages.old) }
+{
+    let name = edit.name().copy(alloc)?;
+    match log.append(alloc, edit) {
+        Ok(answer) => {
+            graph.remove(&name);
+            stages.remove(&name);
+            fall(stages, graph, &name);
+            Ok(answer)
+        }
+        Err(fault) => Err(fault),
+    }
+}
+
+/// Makes an edit in a log that puts a text in place of another one.
+fn put_again<A: Drop>(
+    alloc: Global,
+    log: &mut Log,
+    graph: &mut Graph,
+    stages: &mut NameTable<Stage<A>>,
+    dependencies: Names,
+    edit: Edit,
+) -> Result<Edited, EditFault>
+    requires made { (version : ℕ) × (append_answer log.old (read_edit edit) ≡ Made version) }
+    requires there { is_some (row_of stages.old (edited_name (read_edit edit))) ≡ true }
+    requires ordered { IsTable stages.old }
+    requires sorted { HaveSortedInputs stages.old }
+    requires names { row_names stages.old ≡ row_names graph.old }
+    ensures answer { IsAnswer result (append_answer log.old (read_edit edit)) }
+    ensures log { OnOk result (log.new ≡ appended log.old (read_edit edit)) }
+    ensures graph { OnOk result (graph.new ≡ with_row (edited_name (read_edit edit)) dependencies graph.old) }
+    ensures stages { OnOk result (stages.new ≡ fallen (edited_name (read_edit edit)) stages.old) }
+    ensures log_unchanged { OnErr result (log.new ≡ log.old) }
+    ensures graph_unchanged { OnErr result (graph.new ≡ graph.old) }
+    ensures stages_unchanged { OnErr result (stages.new ≡ stages.old) }
+{
+    let name = edit.name().copy(alloc)?;
+    let row = Arc::new(alloc, dependencies)?;
+    match log.append(alloc, edit) {
+        Ok(answer) => {
+            graph.replace(&name, row);
+            fall(stages, graph, &name);
+            Ok(answer)
+        }
+        Err(fault) => Err(fault),
+    }
+}
+
+/// Makes an edit in a log that puts a text under a name that has none. Its module waits then.
+fn put_new<A: Drop>(
+    alloc: Global,
+    log: &mut Log,
+    graph: &mut Graph,
+    stages: &mut NameTable<Stage<A>>,
+    dependencies: Names,
+    edit: Edit,
+) -> Result<Edited, EditFault>
+    requires made { (version : ℕ) × (append_answer log.old (read_edit edit) ≡ Made version) }
+    requires absent { is_some (row_of stages.old (edited_name (read_edit edit))) ≡ false }
+    requires sorted { HaveSortedInputs stages.old }
+    requires names { row_names stages.old ≡ row_names graph.old }
+    ensures answer { IsAnswer result (append_answer log.old (read_edit edit)) }
+    ensures log { OnOk result (log.new ≡ appended log.old (read_edit edit)) }
+    ensures graph { OnOk result (graph.new ≡ with_row (edited_name (read_edit edit)) dependencies graph.old) }
+    ensures stages { OnOk result (stages.new ≡ fallen (edited_name (read_edit edit)) (with_row (edited_name (read_edit edit)) Waiting stages.old)) }
+    ensures log_unchanged { OnErr result (log.new ≡ log.old) }
+    ensures graph_unchanged { OnErr result (graph.new ≡ graph.old) }
+    ensures stages_unchanged { OnErr result (stages.new ≡ stages.old) }
+{
+    let name = edit.name().copy(alloc)?;
+    add(alloc, graph, stages, &name, dependencies)?;
+    match log.append(alloc, edit) {
+        Ok(answer) => {
+            fall(stages, graph, &name);
+            Ok(answer)
+        }
+        Err(fault) => {
+            graph.remove(&name);
+            stages.remove(&name);
+            Err(fault)
+        }
+    }
+}
+
+/// Adds a module that waits to both tables, which lack its name. For want of memory nothing changes.
+fn add<A: Drop>(
+    alloc: Global,
+    graph: &mut Graph,
+    stages: &mut NameTable<Stage<A>>,
+    name: &Name,
+    dependencies: Names,
+) -> Result<(), Memory>
+    requires absent { is_some (row_of stages.old name.now) ≡ false }
+    requires names { row_names stages.old ≡ row_names graph.old }
+    ensures graph { OnOk result (graph.new ≡ with_row name.now dependencies graph.old) }
+    ensures stages { OnOk result (stages.new ≡ with_row name.now Waiting stages.old) }
+    ensures graph_unchanged { OnErr result (graph.new ≡ graph.old) }
+    ensures stages_unchanged { OnErr result (stages.new ≡ stages.old) }
+{
+    graph.set(alloc, name.copy(alloc)?, dependencies)?;
+    match add_stage(alloc, stages, name) {
+        Ok(()) => Ok(()),
+        Err(fault) => {
+            graph.remove(name);
+            Err(fault)
+        }
+    }
+}
+
+/// Has a module wait.
+fn add_stage<A: Drop>(
+    alloc: Global,
+    stages: &mut NameTable<Stage<A>>,
+    name: &Name,
+) -> Result<(), Memory>
+    ensures stages { OnOk result (stages.new ≡ with_row name.now Waiting stages.old) }
+    ensures unchanged { OnErr result (stages.new ≡ stages.old) }
+{
+    match stages.insert(name.copy(alloc)?, Stage::Waiting) {
+        Ok(()) => Ok(()),
+        Err(_) => Err(Memory),
+    }
+}
+
+/// Has each module wait whose stage does not stay after an edit of a name. The modules are those of the graph.
+fn fall<A: Drop>(stages: &mut NameTable<Stage<A>>, graph: &Graph, edited: &Name)
+    requires names { row_names stages.old ≡ row_names graph.now }
+    requires sorted { HaveSortedInputs stages.old }
+    ensures { stages.new ≡ fallen edited.now stages.old }
+{
+    let mark = mark_of(edited);
+    for place in 0..graph.len() {
+        let (_, stage) = stages.row_at(place);
+        if stage.falls(edited, mark) {
+            stages.replace(graph.name_at(place), Stage::Waiting);
+        }
+    }
+}

@@ -1,0 +1,98 @@
+//! Names among which most others are found to be missing without a look at them.
+ghost use Rattle.std.specs.Prelude.{◌≡◌, ◌<◌, true, IfOk};
+ghost use Rattle.name_meaning.specs.Names.{Name, is_among, is_ascending};
+ghost use Rattle.list_laws.proofs.Members.{Member};
+ghost use Rattle.verdict_board.specs.Marks.{mark_of, AreMarked};
+
+use crate::search::contains;
+use lf_terms::{Arc, Memory, Name, Names};
+use std::alloc::Global;
+use std::marker::Model;
+
+/// Names that are shared, and beside them 64 bits, of which each name sets one; seen as the names.
+#[derive(Drop)]
+pub struct MarkedNames {
+    names: Arc<Names>,
+    marks: u64,
+}
+
+impl Model for MarkedNames {
+    ghost use Rattle.std.specs.Prelude.{List, ℕ};
+    ghost use Rattle.verdict_board.specs.Marks.{AreMarked};
+
+    ghost Value = { List (List ℕ) };
+
+    ghost view = { λ m. m.names };
+
+    ghost invariant = { λ m. AreMarked m.names m.marks };
+}
+
+impl MarkedNames {
+    /// These names, with the bit of each.
+    pub fn new(alloc: Global, names: Names) -> Result<MarkedNames, Memory>
+        ensures { IfOk result (λ marked. marked ≡ names) }
+    {
+        let marks = marks_of(&names);
+        Ok(MarkedNames {
+            names: Arc::new(alloc, names)?,
+            marks,
+        })
+    }
+
+    /// The names.
+    pub fn get(&self) -> &Names
+        ensures { result.now ≡ self.now }
+    {
+        self.names.get()
+    }
+
+    /// The same names once more, which are not copied.
+    pub fn share(&self) -> Result<MarkedNames, Memory>
+        ensures { IfOk result (λ marked. marked ≡ self.now) }
+    {
+        Ok(MarkedNames {
+            names: self.names.share()?,
+            marks: self.marks,
+        })
+    }
+
+    /// Whether a name, the place of whose bit is given, is among them. They are read only where the bit is set.
+    pub fn contains(&self, name: &Name, mark: u32) -> bool
+        requires sorted { is_ascending self.now ≡ true }
+        requires mark { mark ≡ mark_of name.now }
+        ensures { result ≡ is_among self.now name.now }
+    {
+        self.may_contain(mark) && contains(self.names.get(), name)
+    }
+
+    /// Whether the bit at a place is set.
+    fn may_contain(&self, mark: u32) -> bool
+        requires { mark < 64 }
+        ensures { (name : Name) → mark ≡ mark_of name → Member name self.now → result ≡ true }
+    {
+        (self.marks >> mark) & 1 == 1
+    }
+}
+
+/// The bits of these names.
+fn marks_of(names: &Names) -> u64
+    ensures { AreMarked names.now result }
+{
+    let mut marks = 0;
+    for name in names.as_slice() {
+        marks |= 1 << mark_of(name);
+    }
+    marks
+}
+
+/// The place of the bit that a name sets, counted from 0.
+pub fn mark_of(name: &Name) -> u32
+    ensures mark { result ≡ mark_of name.now }
+    ensures within { result < 64 }
+{
+    let mut mark = 0;
+    for byte in name.as_str().as_bytes() {
+        mark = (mark * 31 + u32::from(*byte)) % 64;
+    }
+    mark
+}
