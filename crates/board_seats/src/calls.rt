@@ -80,7 +80,7 @@ impl<S: Subject> SharedBoard<S> {
         let job = board.claim(alloc, Turns::number(pass));
         let may_have_more = board.may_have_job();
         self.give(pass, board);
-        self.wake_for_more(may_have_more);
+        self.wake_after_claim(&job, may_have_more);
         job
     }
 
@@ -105,7 +105,7 @@ impl<S: Subject> SharedBoard<S> {
         let mut board = self.take(rt, pass);
         let reply = board.install(Turns::number(pass), job, verdict);
         self.give(pass, board);
-        self.ends.notify_all();
+        self.tell_end();
         reply
     }
 
@@ -120,7 +120,7 @@ impl<S: Subject> SharedBoard<S> {
         board.release(Turns::number(pass), job);
         self.give(pass, board);
         self.wake_one();
-        self.ends.notify_all();
+        self.tell_end();
     }
 
     /// What is to be told of a name, with the version; see `Board::report`. Want of memory may come in place of a verdict alone.

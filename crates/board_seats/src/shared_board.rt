@@ -13,7 +13,8 @@ use module_graph::Subject;
 use std::alloc::Global;
 use std::marker::Model;
 use std::sync::Wait;
-use std::sync::atomic::AtomicBool;
+use std::sync::atomic::Ordering::SeqCst;
+use std::sync::atomic::{AtomicBool, AtomicU64};
 use turn_lock::{NewFault, Turns};
 use verdict_board::Board;
 
@@ -32,6 +33,14 @@ pub struct SharedBoard<S: Subject> {
     /// Whether somebody was woken so far. Until then no worker claims: while texts are put and nobody asks for a verdict, the front
     /// has the board for itself.
     pub(crate) has_begun: AtomicBool,
+    /// How many passes were made beside pass 0, each for a worker.
+    pub(crate) workers: AtomicU64,
+    /// How many claims found a module.
+    pub(crate) claims: AtomicU64,
+    /// How many of these are still open.
+    pub(crate) open: AtomicU64,
+    /// 1 once the board is closed.
+    pub(crate) is_closed: AtomicU64,
     /// Wakes those that wait for the end of a claim: each install and each release wakes all.
     pub(crate) ends: EventCount,
 }
@@ -61,6 +70,10 @@ impl<S: Subject> SharedBoard<S> {
                     turns,
                     changes: EventCount::new(),
                     has_begun: AtomicBool::new(false),
+                    workers: AtomicU64::new(0),
+                    claims: AtomicU64::new(0),
+                    open: AtomicU64::new(0),
+                    is_closed: AtomicU64::new(0),
                     ends: EventCount::new(),
                 },
                 pass,
@@ -76,6 +89,7 @@ impl<S: Subject> SharedBoard<S> {
         ensures made { IsOk result }
         ensures next { IfOk result (λ made. Splits number_of first.old first.new made) }
     {
+        self.workers.fetch_add(1, SeqCst);
         self.turns.split(first)
     }
 
@@ -100,6 +114,10 @@ impl<S: Subject> SharedBoard<S> {
             turns,
             changes: _,
             has_begun: _,
+            workers: _,
+            claims: _,
+            open: _,
+            is_closed: _,
             ends: _,
         } = self;
         turns.end(pass).into_board()

@@ -7,10 +7,18 @@ use lf_terms::Memory;
 use module_graph::Subject;
 use std::sync::Wait;
 use std::sync::atomic::Ordering::SeqCst;
+use std::time::Duration;
 use verdict_board::Told;
 
 /// A text of so many bytes takes longer to judge than it takes to wake somebody.
 const LONG: usize = 4_096;
+
+/// How long is looked how fast modules are claimed, in microseconds.
+const LOOK: u64 = 1_000;
+
+/// Where each claimant claims more modules in that time, another one would hold up the turns of the others for longer than it takes to
+/// judge what it claims.
+const MOST_CLAIMS: u64 = 3;
 
 /// A wait that is announced. Letting it go cancels the wait.
 #[derive(Drop)]
@@ -44,6 +52,20 @@ impl<S: Subject> SharedBoard<S> {
         }
     }
 
+    /// Sleeps for a while, and again for as long as more modules are claimed in it, for each claim that is open, than can be shared. A
+    /// close ends it.
+    pub fn wait_while_short<R: Wait>(&self, rt: &R) {
+        for _ in rt.forever() {
+            let before = self.claims.load(SeqCst);
+            self.is_closed
+                .park_timeout(rt, 0, Duration::from_micros(LOOK));
+            let claimed = self.claims.load(SeqCst).wrapping_sub(before);
+            if claimed / MOST_CLAIMS <= self.open.load(SeqCst) {
+                return;
+            }
+        }
+    }
+
     /// Announces a wait for the end of a claim. Where a report that comes behind it says that a verdict is to come, and a claim
     /// behind that one finds no job, another claim is open, unless the board is closed, and the wait may follow: an install or a
     /// release ends it.
@@ -53,15 +75,30 @@ impl<S: Subject> SharedBoard<S> {
         }
     }
 
+    /// Whether as many claims are open as there are workers. Whoever waits for a verdict need not take a turn then: it would have no
+    /// processor for itself, and a wait for the end of a claim that was announced before comes to its end.
+    pub fn all_work(&self) -> bool {
+        let open = self.open.load(SeqCst);
+        open > 0 && open >= self.workers.load(SeqCst)
+    }
+
+    /// Wakes all that wait for the end of a claim.
+    pub(crate) fn tell_end(&self) {
+        self.open.fetch_sub(1, SeqCst);
+        self.ends.notify_all();
+    }
+
     /// Wakes one that waits for a job.
     pub(crate) fn wake_one(&self) {
         self.has_begun.store(true, SeqCst);
         self.changes.notify_one();
     }
 
-    /// Wakes all that wait for a job.
+    /// Wakes all that wait for a job or that look how fast modules are claimed, where the board is closed.
     pub(crate) fn wake_all(&self) {
         self.has_begun.store(true, SeqCst);
+        self.is_closed.store(1, SeqCst);
+        self.is_closed.wake_all();
         self.changes.notify_all();
     }
 
@@ -79,8 +116,16 @@ impl<S: Subject> SharedBoard<S> {
         }
     }
 
-    /// Wakes one that waits, where behind a claim a further module may be ready.
-    pub(crate) fn wake_for_more(&self, may_have_more: bool) {
+    /// Counts a claim that found a module, and wakes one that waits, where behind the claim a further module may be ready.
+    pub(crate) fn wake_after_claim<A>(
+        &self,
+        claimed: &Result<Option<A>, Memory>,
+        may_have_more: bool,
+    ) {
+        if matches!(claimed, Ok(Some(_))) {
+            self.claims.fetch_add(1, SeqCst);
+            self.open.fetch_add(1, SeqCst);
+        }
         if may_have_more {
             self.wake_one();
         }

@@ -14,7 +14,8 @@ use std::sync::Wait;
 use std::sync::ledger::Ledger;
 
 /// Turns until one finds the board closed, sleeping where one finds no module ready, until there may be one; before the first one
-/// it sleeps until somebody asks for a verdict. It stops for want of memory alone. The counter ticks once for each module that was judged.
+/// it sleeps until somebody asks for a verdict. Whoever was woken first looks whether what is judged is long enough to be shared. It
+/// stops for want of memory alone. The counter ticks once for each module that was judged.
 pub fn work<R: Wait, S: Subject, G: Gate, L: Ledger>(
     rt: &R,
     alloc: Global,
@@ -30,11 +31,15 @@ pub fn work<R: Wait, S: Subject, G: Gate, L: Ledger>(
     ensures stopped { OnErr result (IsStopped S.subject pass.old.seen pass.old.number steps.old pass.new.seen steps.new) }
 {
     board.wait_for_begin(rt);
+    board.wait_while_short(rt);
     for _ in rt.forever() {
         let announced = board.announce();
         match turn(rt, alloc, board, subject, pass, gate, steps)? {
             TurnEnd::Worked { .. } => {}
-            TurnEnd::Idle => announced.wait(rt),
+            TurnEnd::Idle => {
+                announced.wait(rt);
+                board.wait_while_short(rt);
+            }
             TurnEnd::Closed => return Ok(()),
         }
     }

@@ -18,6 +18,12 @@ announce_end-announced-requires-send-S-Answer g c κs = param_send _ _ (arg_send
 pub announce_end-announced-requires-sync-S-Answer : goal.announce_end-announced-requires-sync-S-Answer
 announce_end-announced-requires-sync-S-Answer g c κs = param_sync _ _ (arg_sync _ yes _ verdict_row_sync)
 
+pub all_work-requires-send-S-Answer : goal.all_work-requires-send-S-Answer
+all_work-requires-send-S-Answer g c κs = param_send _ _ (arg_send _ yes _ verdict_row_send)
+
+pub all_work-requires-sync-S-Answer : goal.all_work-requires-sync-S-Answer
+all_work-requires-sync-S-Answer g c κs = param_sync _ _ (arg_sync _ yes _ verdict_row_sync)
+
 pub returns-in-Verdict-clause-told : goal.returns-in-Verdict-clause-told
 returns-in-Verdict-clause-told g c =
     verdict_told c.report.new.pass.seen c.args.name.now c.in-Verdict.answer c.in-Verdict.version
