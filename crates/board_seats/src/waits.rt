@@ -14,11 +14,14 @@ use verdict_board::Told;
 const LONG: usize = 4_096;
 
 /// How long is looked how fast modules are claimed, in microseconds.
-const LOOK: u64 = 1_000;
+const LOOK: u64 = 4_000;
 
-/// Where each claimant claims more modules in that time, another one would hold up the turns of the others for longer than it takes to
+/// Where each claimant claims as many modules in that time, another one would hold up the turns of the others for longer than it takes to
 /// judge what it claims.
-const MOST_CLAIMS: u64 = 3;
+const MOST_CLAIMS: u64 = 12;
+
+/// Where fewer claims are open, a processor is free for one more on most machines.
+const FEW_CLAIMS: u64 = 4;
 
 /// A wait that is announced. Letting it go cancels the wait.
 #[derive(Drop)]
@@ -52,7 +55,7 @@ impl<S: Subject> SharedBoard<S> {
         }
     }
 
-    /// Sleeps for a while, and again for as long as more modules are claimed in it, for each claim that is open, than can be shared. A
+    /// Sleeps for a while, and again for as long as too many modules are claimed in it, for each claim that is open, to be shared. A
     /// close ends it.
     pub fn wait_while_short<R: Wait>(&self, rt: &R) {
         for _ in rt.forever() {
@@ -60,7 +63,7 @@ impl<S: Subject> SharedBoard<S> {
             self.is_closed
                 .park_timeout(rt, 0, Duration::from_micros(LOOK));
             let claimed = self.claims.load(SeqCst).wrapping_sub(before);
-            if claimed / MOST_CLAIMS <= self.open.load(SeqCst) {
+            if claimed / MOST_CLAIMS < self.open.load(SeqCst).max(1) {
                 return;
             }
         }
@@ -75,11 +78,11 @@ impl<S: Subject> SharedBoard<S> {
         }
     }
 
-    /// Whether as many claims are open as there are workers. Whoever waits for a verdict need not take a turn then: it would have no
-    /// processor for itself, and a wait for the end of a claim that was announced before comes to its end.
+    /// Whether as many claims are open as there are workers, and more than a few. Whoever waits for a verdict need not take a turn then:
+    /// it might have no processor for itself, and a wait for the end of a claim that was announced before comes to its end.
     pub fn all_work(&self) -> bool {
         let open = self.open.load(SeqCst);
-        open > 0 && open >= self.workers.load(SeqCst)
+        open >= FEW_CLAIMS && open >= self.workers.load(SeqCst)
     }
 
     /// Wakes all that wait for the end of a claim.
