@@ -18,8 +18,8 @@ use std::sync::Wait;
 use verdict_board::Told;
 use worker_loop::TurnEnd;
 
-/// What is told of a name once its verdict is not to come. While it is to come, turns are taken, unless all workers are at work; then,
-/// and where nothing is ready, another claim is open, and the front sleeps until one ends.
+/// What is told of a name once its verdict is not to come. While it is to come, turns are taken. Where all workers are at work the front
+/// sleeps for a while in place of a turn; where nothing is ready, another claim is open, and it sleeps until one ends.
 pub fn told<R: Wait, G: Gate>(
     rt: &R,
     alloc: Global,
@@ -43,7 +43,7 @@ pub fn told<R: Wait, G: Gate>(
             Told::Pending { .. } => {}
         }
         if board.all_work() {
-            announced.wait(rt);
+            board.wait_while_short(rt);
             continue;
         }
         match take_turn(rt, alloc, gate, board, pass)? {

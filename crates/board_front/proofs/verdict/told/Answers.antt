@@ -24,6 +24,12 @@ all_work-requires-send-S-Answer g c κs = param_send _ _ (arg_send _ yes _ verdi
 pub all_work-requires-sync-S-Answer : goal.all_work-requires-sync-S-Answer
 all_work-requires-sync-S-Answer g c κs = param_sync _ _ (arg_sync _ yes _ verdict_row_sync)
 
+pub wait_while_short-requires-send-S-Answer : goal.wait_while_short-requires-send-S-Answer
+wait_while_short-requires-send-S-Answer g c κs within = param_send _ _ (arg_send _ yes _ verdict_row_send)
+
+pub wait_while_short-requires-sync-S-Answer : goal.wait_while_short-requires-sync-S-Answer
+wait_while_short-requires-sync-S-Answer g c κs within = param_sync _ _ (arg_sync _ yes _ verdict_row_sync)
+
 pub returns-in-Verdict-clause-told : goal.returns-in-Verdict-clause-told
 returns-in-Verdict-clause-told g c =
     verdict_told c.report.new.pass.seen c.args.name.now c.in-Verdict.answer c.in-Verdict.version
