@@ -2,6 +2,7 @@
 //! counted steps, and want of memory.
 #![tactic(auto)]
 
+mod digest;
 mod lists;
 mod memory;
 mod name;
@@ -13,6 +14,7 @@ mod short;
 mod span;
 mod steps;
 
+pub use digest::digest_of;
 pub use lists::{Bytes, Names, TermPath, Texts};
 pub use memory::Memory;
 pub use name::{Name, NameFault};

@@ -1,12 +1,13 @@
 //! Paths: names that are joined by dots where they are written. Most have one or two, and take no memory of their own. Copies of a
-//! longer one share its names.
+//! longer one share its names, and the number by which it is hashed.
 ghost use Rattle.std.specs.Prelude.{◌≡◌, ◌<◌, ◌∷◌, ◌++◌, [], length, nat_eq, IfErr, IfOk, OnErr, OnOk};
 ghost use Rattle.std.specs.Hash as fed;
-ghost use Rattle.std.specs.Cmp.Rules.{hashing};
 ghost use Rattle.std.specs.Cmp.{partial_equiv_from_equiv};
 ghost use Rattle.std.specs.Cmp.Lexicographic.{pointwise, lists_equiv, nat_list_eq_equiv};
-ghost use Rattle.base_types.specs.HeldNames.{held_names};
+ghost use Rattle.base_types.specs.Digests.{digest_of};
+ghost use Rattle.base_types.specs.HeldNames.{held_names, HasDigest};
 
+use crate::digest::digest_of;
 use crate::{Memory, Name};
 use smallvec::SmallVec;
 use std::alloc::Global;
@@ -20,25 +21,26 @@ pub struct Path {
     names: Held,
 }
 
-/// How names are held: by the path alone, or shared by copies of it.
+/// How names are held: by the path alone, or shared by copies of it, with their digest.
 #[derive(Debug, Drop)]
 enum Held {
     Own(SmallVec<Name, 2>),
     Shared {
         names: ArcSlice<Name>,
+        digest: u64,
         alloc: Global,
     },
 }
 
 impl Model for Path {
     ghost use Rattle.std.specs.Prelude.{List, ℕ, ◌<◌, length};
-    ghost use Rattle.base_types.specs.HeldNames.{held_names};
+    ghost use Rattle.base_types.specs.HeldNames.{held_names, HasDigest};
 
     ghost Value = { List (List ℕ) };
 
     ghost view = { λ p. held_names p.names };
 
-    ghost invariant = { λ p. 0 < length (held_names p.names) };
+    ghost invariant = { λ p. (0 < length (held_names p.names)) × HasDigest p.names };
 }
 
 impl Path {
@@ -63,10 +65,7 @@ impl Path {
             names.push(name.copy(alloc)?)?;
         }
         Ok(Path {
-            names: Held::Shared {
-                names: ArcSlice::from_vec(names)?,
-                alloc,
-            },
+            names: shared(alloc, names)?,
         })
     }
 
@@ -81,7 +80,7 @@ impl Path {
                 Ok(()) => Ok(()),
                 Err(failed) => Err(failed.value),
             },
-            Held::Shared { names, alloc } => {
+            Held::Shared { names, alloc, .. } => {
                 let Ok(mut own) = copies(*alloc, names.as_slice()) else {
                     return Err(name);
                 };
@@ -122,25 +121,51 @@ impl Path {
     {
         let names = match &self.names {
             Held::Own(names) => held_copies(alloc, names.as_slice())?,
-            Held::Shared { names, alloc } => Held::Shared {
+            Held::Shared {
+                names,
+                digest,
+                alloc,
+            } => Held::Shared {
                 names: names.clone()?,
+                digest: *digest,
                 alloc: *alloc,
             },
         };
         Ok(Path { names })
     }
+
+    /// The digest of the names. It takes constant time where they are shared, as those of a longer path are.
+    fn digest(&self) -> u64
+        ensures { result ≡ digest_of self.now }
+    {
+        match &self.names {
+            Held::Own(names) => digest_of(names.as_slice()),
+            Held::Shared { digest, .. } => *digest,
+        }
+    }
 }
 
 /// Copies of names, for one owner if there are at most two.
 fn held_copies(alloc: Global, names: &[Name]) -> Result<Held, Memory>
-    ensures { IfOk result (λ held. held_names held ≡ names.now) }
+    ensures names { IfOk result (λ held. held_names held ≡ names.now) }
+    ensures digest { IfOk result HasDigest }
 {
     let own = copies(alloc, names)?;
     if own.len() <= 2 {
         return Ok(Held::Own(own));
     }
+    shared(alloc, own.into_vec()?)
+}
+
+/// Names that copies can share, with their digest.
+fn shared(alloc: Global, names: Vec<Name>) -> Result<Held, Memory>
+    ensures names { IfOk result (λ held. held_names held ≡ names.items) }
+    ensures digest { IfOk result HasDigest }
+{
+    let digest = digest_of(names.as_slice());
     Ok(Held::Shared {
-        names: ArcSlice::from_vec(own.into_vec()?)?,
+        names: ArcSlice::from_vec(names)?,
+        digest,
         alloc,
     })
 }
@@ -171,14 +196,15 @@ impl Eq for Path {
 }
 
 impl Hash for Path {
-    ghost use Rattle.std.proofs.Common.{rules};
-    ghost use Rattle.std.specs.Hash.{items_Alike};
+    ghost use Rattle.std.specs.Cmp.Lexicographic.{pointwise_decides};
+    ghost use Rattle.std.specs.Cmp.{unsigned_Decides};
+    ghost use Rattle.std.specs.Hash.{same_Alike};
 
-    ghost hash_input = { fed.slice (λ name. name ∷ []) };
+    ghost hash_input = { λ path. fed.u64 (digest_of path) };
 
-    ghost respects_eq = { (items_Alike {E = pointwise nat_eq} {F = λ name. name ∷ []} (record { fed = Prim.search (hashing, rules) })).fed };
+    ghost respects_eq = { (same_Alike (λ path. fed.u64 (digest_of path)) (pointwise_decides (pointwise_decides unsigned_Decides))).fed };
 
     fn hash<H: Hasher>(&self, state: &mut H) {
-        self.as_slice().hash(state);
+        state.write_u64(self.digest());
     }
 }

@@ -37,8 +37,8 @@ pub struct SharedBoard<S: Subject> {
     pub(crate) workers: AtomicU64,
     /// How many claims found a module.
     pub(crate) claims: AtomicU64,
-    /// How many of these are still open.
-    pub(crate) open: AtomicU64,
+    /// How many claims have ended, those among them that were made before the board was shared.
+    pub(crate) ended: AtomicU64,
     /// 1 once the board is closed.
     pub(crate) is_closed: AtomicU64,
     /// Wakes those that wait for the end of a claim: each install and each release wakes all.
@@ -72,7 +72,7 @@ impl<S: Subject> SharedBoard<S> {
                     has_begun: AtomicBool::new(false),
                     workers: AtomicU64::new(0),
                     claims: AtomicU64::new(0),
-                    open: AtomicU64::new(0),
+                    ended: AtomicU64::new(0),
                     is_closed: AtomicU64::new(0),
                     ends: EventCount::new(),
                 },
@@ -116,7 +116,7 @@ impl<S: Subject> SharedBoard<S> {
             has_begun: _,
             workers: _,
             claims: _,
-            open: _,
+            ended: _,
             is_closed: _,
             ends: _,
         } = self;

@@ -63,10 +63,16 @@ impl<S: Subject> SharedBoard<S> {
             self.is_closed
                 .park_timeout(rt, 0, Duration::from_micros(LOOK));
             let claimed = self.claims.load(SeqCst).wrapping_sub(before);
-            if claimed / MOST_CLAIMS < self.open.load(SeqCst).max(1) {
+            if claimed / MOST_CLAIMS < self.open_claims().max(1) {
                 return;
             }
         }
+    }
+
+    /// How many claims are open. Those that were made before the board was shared are not counted.
+    fn open_claims(&self) -> u64 {
+        let ended = self.ended.load(SeqCst);
+        self.claims.load(SeqCst).saturating_sub(ended)
     }
 
     /// Announces a wait for the end of a claim. Where a report that comes behind it says that a verdict is to come, and a claim
@@ -78,16 +84,16 @@ impl<S: Subject> SharedBoard<S> {
         }
     }
 
-    /// Whether as many claims are open as there are workers, and more than a few. Whoever waits for a verdict need not take a turn then:
-    /// it might have no processor for itself, and a wait for the end of a claim that was announced before comes to its end.
+    /// Whether as many claims are open as there are workers, and more than a few. Whoever waits for a verdict may sleep for a while
+    /// then, in place of a turn: it might have no processor for itself.
     pub fn all_work(&self) -> bool {
-        let open = self.open.load(SeqCst);
+        let open = self.open_claims();
         open >= FEW_CLAIMS && open >= self.workers.load(SeqCst)
     }
 
     /// Wakes all that wait for the end of a claim.
     pub(crate) fn tell_end(&self) {
-        self.open.fetch_sub(1, SeqCst);
+        self.ended.fetch_add(1, SeqCst);
         self.ends.notify_all();
     }
 
@@ -127,7 +133,6 @@ impl<S: Subject> SharedBoard<S> {
     ) {
         if matches!(claimed, Ok(Some(_))) {
             self.claims.fetch_add(1, SeqCst);
-            self.open.fetch_add(1, SeqCst);
         }
         if may_have_more {
             self.wake_one();

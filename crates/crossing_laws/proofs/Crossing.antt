@@ -33,6 +33,7 @@ use Rattle.term_trees.proofs.obj.Head.TheSendSync as heads
 use Rattle.term_trees.proofs.obj.Obj.TheLaws.TheKnot as objects
 use Rattle.term_trees.proofs.fam.Fam.TheLaws.TheKnot as families
 use Rattle.term_trees.proofs.kind.Kind.TheLaws.TheKnot as kinds
+use Rattle.lf_terms.specs.contracts.flat_sig.ByPath as by_path
 use Rattle.lf_terms.specs.contracts.flat_sig.FlatSig as signature
 use Rattle.lf_terms.specs.contracts.flat_sig.FlatSig.TheInside as signature_inside
 use Rattle.lf_terms.specs.contracts.head_map.HeadMap as head_map
@@ -155,10 +156,22 @@ option_part_send = enum_send (enum.shape (option.the_type (arc.the_row map_part.
 option_part_sync : IsSync (option.the_field (arc.the_row map_part.the_row)).row
 option_part_sync = enum_sync (enum.shape (option.the_type (arc.the_row map_part.the_row))) (tt, ((shared_part_sync, tt), tt))
 
+by_path_send : IsSend (by_path.the_field).row
+by_path_send = enum_send (enum.shape by_path.the_type) (
+  tt,
+  (
+    (
+      tables.the_send path.the_row usize (hashers.the_row hasher.the_row) heap.the_row hasher.the_row _ _ _ _ ghosts paths.the_send (search sendable) (search sendable depth 20) send frees,
+      tt,
+    ),
+    tt,
+  ),
+)
+
 signature_inside_send : IsSend signature_inside.the_row
 signature_inside_send = recorded_send (signature_inside.the_field).row _ _ (signature_inside.the_type).to_one (struct_send (shape signature_inside.the_type) (
   tables.the_send constant.the_row declaration.the_row (hashers.the_row hasher.the_row) heap.the_row hasher.the_row _ _ _ _ ghosts constants.the_send declaration_row_send (search sendable depth 20) send frees,
-  (tables.the_send path.the_row usize (hashers.the_row hasher.the_row) heap.the_row hasher.the_row _ _ _ _ ghosts paths.the_send (search sendable) (search sendable depth 20) send frees, (option_part_send, tt)),
+  (by_path_send, (option_part_send, tt)),
 ))
 
 pub signature_send : IsSend signature.the_row
@@ -197,10 +210,22 @@ interface_send = enum_send (enum.shape interface.the_type) ((theory_send, (searc
 interface_row_send : IsSend interface.the_row
 interface_row_send = recorded_send (interface.the_field).row _ _ (interface.the_type).to_one interface_send
 
+by_path_sync : IsSync (by_path.the_field).row
+by_path_sync = enum_sync (enum.shape by_path.the_type) (
+  tt,
+  (
+    (
+      tables.the_sync path.the_row usize (hashers.the_row hasher.the_row) heap.the_row hasher.the_row _ _ _ _ ghosts paths.the_sync (search sendable) (search sendable depth 20) sync,
+      tt,
+    ),
+    tt,
+  ),
+)
+
 signature_inside_sync : IsSync signature_inside.the_row
 signature_inside_sync = recorded_sync (signature_inside.the_field).row _ _ (signature_inside.the_type).to_one (struct_sync (shape signature_inside.the_type) (
   tables.the_sync constant.the_row declaration.the_row (hashers.the_row hasher.the_row) heap.the_row hasher.the_row _ _ _ _ ghosts constants.the_sync declaration_row_sync (search sendable depth 20) sync,
-  (tables.the_sync path.the_row usize (hashers.the_row hasher.the_row) heap.the_row hasher.the_row _ _ _ _ ghosts paths.the_sync (search sendable) (search sendable depth 20) sync, (option_part_sync, tt)),
+  (by_path_sync, (option_part_sync, tt)),
 ))
 
 pub signature_sync : IsSync signature.the_row

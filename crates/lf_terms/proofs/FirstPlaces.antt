@@ -10,7 +10,7 @@ use Rattle.name_meaning.specs.Names.{Path, same_name}
 use Rattle.term_trees.specs.declared.flat_decl.FlatDecl.{FlatDecl}
 use Rattle.term_trees.proofs.Below.Equality.{pointwise_sound, pointwise_itself}
 use Rattle.list_laws.proofs.Booleans.{both_ways}
-use Rattle.lf_terms.specs.Tables.{same_path, first_place, HasFirstPlaces}
+use Rattle.lf_terms.specs.Tables.{same_path, first_place, with_place, HasFirstPlaces}
 
 module _ {X : Type 0} (p : X → Bool) where
   next_place : (x : X) (xs : List X) → position p (x ∷ xs) ≡ cond (p x) (Some 0) (option_map suc (position p xs))
@@ -164,3 +164,10 @@ module _ (places : List (Path × ℕ)) (decls : List FlatDecl) (d : FlatDecl) wh
 
   pub table_left : HasFirstPlaces places (decls ++ d ∷ []) → (lookup (same_path d.name.path) places ≡ Some (length decls) → ⊥) → HasFirstPlaces places decls
   table_left h other path = h path ∙ places_stay decls d (last_is_later decls d (λ e. other (h d.name.path ∙ e))) path
+
+  pub table_notes : HasFirstPlaces places decls → HasFirstPlaces (with_place places d.name.path (length decls)) (decls ++ d ∷ [])
+  table_notes h = by (is_some (lookup (same_path d.name.path) places)) refl
+    where
+      by : (b : Bool) → is_some (lookup (same_path d.name.path) places) ≡ b → HasFirstPlaces (cond b places (places ++ (d.name.path, length decls) ∷ [])) (decls ++ d ∷ [])
+      by true e = table_stays h e
+      by false e = table_grows h

@@ -1,7 +1,7 @@
 -- The two tables of a flat signature, as declarations come and go at the end.
-use Rattle.std.proofs.Common.{◌≡◌, ℕ, Bool, true, false, List, [], ◌∷◌, ◌++◌, map, cond, Option, Some, None, is_some, Result, Ok, Err, length, refl, sym, ap, subst, ◌∙◌, true≢false}
+use Rattle.std.proofs.Common.{◌≡◌, ℕ, Bool, true, false, List, [], ◌∷◌, ◌++◌, cond, Option, Some, None, is_some, Result, Ok, Err, length, refl, sym, ap, subst, ◌∙◌, true≢false}
 use Rattle.std.specs.Prelude.{nat_eq}
-use Rattle.std.specs.Map.{keys_of, values_of, lookup}
+use Rattle.std.specs.Map.{values_of, lookup}
 use Rattle.std.specs.Option.{option_eq}
 use Rattle.std.specs.Result.{OnOk, OnErr}
 use Rattle.std.proofs.lemmas.Bool.{eqb-true, eq-eqb}
@@ -9,13 +9,9 @@ use Rattle.std.proofs.lemmas.List.{length-map, map-append}
 use Rattle.name_meaning.specs.Names.{Path}
 use Rattle.base_types.specs.declared.qname.QName.{QName}
 use Rattle.term_trees.specs.declared.flat_decl.FlatDecl.{FlatDecl}
-use Rattle.lf_terms.specs.Tables.{same_path, HasFirstPlaces}
+use Rattle.lf_terms.specs.Tables.{same_path, AreTables, HasFirstPlaces}
 use Rattle.lf_terms.proofs.KeyedEntries.{keyed_popped, keyed_pushed}
 use Rattle.lf_terms.proofs.FirstPlaces.{table_grows, table_left, table_shrinks, table_stays}
-
--- Declarations under their names, and the first place of each path.
-abbrev pub AreTables : List (Path × ℕ) → List (QName × FlatDecl) → Type 0
-AreTables places es = (keys_of es ≡ map (λ (d : FlatDecl). d.name) (values_of es)) × HasFirstPlaces places (values_of es)
 
 -- The test whether an optional number is this one.
 pub is_that : (o : Option ℕ) (n : ℕ) → option_eq nat_eq o (Some n) ≡ true → o ≡ Some n

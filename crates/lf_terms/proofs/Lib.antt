@@ -4,3 +4,4 @@ pub mod SharedPairs
 pub mod FirstPlaces
 pub mod FlatTables
 pub mod Lookup
+pub mod OneTheory

@@ -1,4 +1,5 @@
 pub mod Below
 pub mod Identities
+pub mod NamedConstants
 pub mod Parts
 pub mod Tables

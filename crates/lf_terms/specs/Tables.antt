@@ -1,15 +1,17 @@
 -- Look-up by name in flat signatures and in maps of constants (this profile).
-use Rattle.std.specs.Prelude.{◌≡◌, ℕ, Bool, List, Option, map, position}
+use Rattle.std.specs.Prelude.{◌≡◌, ℕ, Bool, List, [], ◌∷◌, ◌++◌, Option, is_some, if◌then◌else◌, map, position, ⊤}
 use Rattle.std.specs.List.{find, IsDistinct}
-use Rattle.std.specs.Map.{keys_of, lookup}
+use Rattle.std.specs.Map.{keys_of, values_of, lookup}
 use lib.Pointwise.{pointwise}
-use Rattle.name_meaning.specs.Names.{Path, same_name}
+use Rattle.name_meaning.specs.Names.{Name, Path, same_name}
 use Rattle.lf_meaning.specs.Terms.{Constant}
 use Rattle.lf_meaning.specs.Signatures.{same_constant}
 use Rattle.term_trees.specs.Readings.{read_constant}
 use Rattle.base_types.specs.declared.qname.QName.{QName}
 use Rattle.term_trees.specs.declared.flat_decl.FlatDecl.{FlatDecl}
 use Rattle.term_trees.specs.declared.flat_decl.Image.{Image}
+use Rattle.lf_terms.specs.declared.flat_sig.ByPath.{ByPath}
+use Rattle.lf_terms.specs.declared.flat_sig.ByPath.TheVariants.{OneTheory, Table}
 use Rattle.lf_terms.specs.declared.flat_sig.PushFault.{PushFault}
 use Rattle.lf_terms.specs.declared.flat_sig.PushFault.TheVariants as push
 use Rattle.lf_terms.specs.declared.head_map.MapFault.{MapFault}
@@ -46,6 +48,34 @@ first_place decls path = position (λ d. same_path d.name.path path) decls
 -- The table holds the index of the first declaration of each path.
 abbrev pub HasFirstPlaces : List (Path × ℕ) → List FlatDecl → Type 0
 HasFirstPlaces places decls = (path : Path) → lookup (same_path path) places ≡ first_place decls path
+
+-- The table with the index of a declaration, unless its path has one.
+abbrev pub with_place : List (Path × ℕ) → Path → ℕ → List (Path × ℕ)
+with_place places path index = if is_some (lookup (same_path path) places) then places else places ++ (path, index) ∷ []
+
+-- Declarations under their names, and the first place of each path.
+abbrev pub AreTables : List (Path × ℕ) → List (QName × FlatDecl) → Type 0
+AreTables places es = (keys_of es ≡ map (λ (d : FlatDecl). d.name) (values_of es)) × HasFirstPlaces places (values_of es)
+
+-- Declarations of this theory alone.
+abbrev pub AreDeclaredIn : Name → List FlatDecl → Type 0
+AreDeclaredIn theory [] = ⊤
+AreDeclaredIn theory (d ∷ decls) = (d.name.theory ≡ theory) × AreDeclaredIn theory decls
+
+-- Declarations of the theory of the first one.
+abbrev pub AreOfOneTheory : List FlatDecl → Type 0
+AreOfOneTheory [] = ⊤
+AreOfOneTheory (d ∷ decls) = AreDeclaredIn d.name.theory decls
+
+-- The first of these constants, if there is one, is of this theory.
+abbrev pub IsOfFirst : Name → List QName → Type 0
+IsOfFirst theory [] = ⊤
+IsOfFirst theory (c ∷ constants) = c.theory ≡ theory
+
+-- How the first declaration of a path is found.
+abbrev pub FindsPaths : ByPath → List FlatDecl → Type 0
+FindsPaths OneTheory decls = AreOfOneTheory decls
+FindsPaths (Table places) decls = HasFirstPlaces places.entries decls
 
 -- What a refused push hands back.
 abbrev pub handed_back : PushFault → FlatDecl

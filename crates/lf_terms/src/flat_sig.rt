@@ -1,18 +1,18 @@
-//! Flat signatures: declarations in order, with a table of their names and one of their paths.
+//! Flat signatures: declarations in order, with a table of their names, and one of their paths where they are of several theories.
 ghost use Rattle.std.specs.Prelude.{◌≡◌, ◌↔◌, ◌≤◌, ◌-◌, ◌∷◌, ◌++◌, [], length, slice_get, take, IfErr, IfOk, IfSome, IsErrOf, IsSome, None, Some, MatchOption, OnErr, OnOk, IsNone, if◌then◌else◌, true};
 ghost use Rattle.std.specs.List.{find};
-ghost use Rattle.std.specs.Map.{lookup};
+ghost use Rattle.std.specs.Map.{keys_of, lookup, values_of};
 ghost use Rattle.std.specs.Option.{option_copied, option_map};
 ghost use Rattle.name_meaning.specs.Names as names;
 ghost use Rattle.lf_meaning.specs.Signatures.{declaration_of, same_constant, Declaration};
 ghost use Rattle.library_meaning.specs.Words.{identity_map, identity_mapping, own_value};
 ghost use Rattle.term_trees.specs.Readings.{read_constant, read_declaration, read_image, read_map, read_signature, read_value};
 ghost use Rattle.lf_terms.specs.Identities.{AreIdentity};
-ghost use Rattle.lf_terms.specs.Tables.{declared, first_with_path, handed_back, place_of, same_path, HasDistinctNames};
+ghost use Rattle.lf_terms.specs.Tables.{declared, first_with_path, handed_back, place_of, same_path, with_place, AreOfOneTheory, AreTables, HasDistinctNames, HasFirstPlaces, IsOfFirst};
 ghost use Rattle.lf_terms.specs.declared.flat_sig.PushFault.TheVariants.{Twice};
 
 use crate::map_part::MapPart;
-use crate::path_names::PathNames;
+use crate::path_names::{NamesIn, PathNames};
 use base_types::{Arc, Memory, Name, Path, QName};
 use indexmap::IndexMap;
 use std::alloc::Global;
@@ -24,10 +24,18 @@ use term_trees::{FlatDecl, Image, Value};
 pub struct FlatSig {
     /// Each declaration under a copy of its name, over the same bytes.
     decls: IndexMap<QName, FlatDecl>,
-    /// The index of the first declaration of each path.
-    by_path: IndexMap<Path, usize>,
+    by_path: ByPath,
     /// The images that the identity gives to these declarations, if they were made since the last of them came or went.
     identity: Option<Arc<MapPart>>,
+}
+
+/// How the first declaration of a path is found.
+#[derive(Debug, Drop)]
+enum ByPath {
+    /// By its name, since all declarations are of the theory of the first one.
+    OneTheory,
+    /// By a table of the index of the first declaration of each path.
+    Table(IndexMap<Path, usize>),
 }
 
 impl Model for FlatSig {
@@ -36,7 +44,7 @@ impl Model for FlatSig {
     ghost use Rattle.std.specs.Coded.{codes};
     ghost use Rattle.term_trees.specs.declared.flat_decl.FlatDecl.{FlatDecl};
     ghost use Rattle.term_trees.specs.contracts.flat_decl.FlatDecl as e;
-    ghost use Rattle.lf_terms.specs.Tables.{HasFirstPlaces};
+    ghost use Rattle.lf_terms.specs.Tables.{FindsPaths};
     ghost use Rattle.lf_terms.specs.Identities.{AreIdentity};
 
     ghost Value = { List FlatDecl };
@@ -45,7 +53,7 @@ impl Model for FlatSig {
 
     ghost view = { λ s. values_of s.decls.entries };
 
-    ghost invariant = { λ s. ((keys_of s.decls.entries ≡ map (λ d. d.name) (values_of s.decls.entries)) × HasFirstPlaces s.by_path.entries (values_of s.decls.entries)) × AreIdentity s.identity (values_of s.decls.entries) };
+    ghost invariant = { λ s. ((keys_of s.decls.entries ≡ map (λ d. d.name) (values_of s.decls.entries)) × FindsPaths s.by_path (values_of s.decls.entries)) × AreIdentity s.identity (values_of s.decls.entries) };
 }
 
 /// Why a declaration was not added. It comes back with the reason.
@@ -64,9 +72,16 @@ impl FlatSig {
     {
         FlatSig {
             decls: IndexMap::new(alloc),
-            by_path: IndexMap::new(alloc),
+            by_path: ByPath::OneTheory,
             identity: None,
         }
+    }
+
+    /// Makes room for so many more declarations, so that their table grows at once.
+    pub fn reserve(&mut self, additional: usize) -> Result<(), Memory>
+        ensures { self.new ≡ self.old }
+    {
+        Ok(self.decls.reserve(additional)?)
     }
 
     /// Adds a declaration at the end, or hands it back: `Twice` exactly where its name is declared already, `Memory`
@@ -94,11 +109,31 @@ impl FlatSig {
         ensures back { IfErr result (λ back. back ≡ decl) }
     {
         self.identity = None;
-        if self.by_path.contains_key(&decl.name.path) {
-            insert(&mut self.decls, decl)
-        } else {
-            insert_first(&mut self.decls, &mut self.by_path, decl)
+        match &mut self.by_path {
+            ByPath::OneTheory => {
+                if is_of_theory(&self.decls, &decl.name.theory) {
+                    return insert(&mut self.decls, decl);
+                }
+                self.append_of_other_theory(decl)
+            }
+            ByPath::Table(places) => insert_in_both(&mut self.decls, places, decl),
         }
+    }
+
+    /// Adds the first declaration that is of another theory than those before it, whose paths come into a table.
+    fn append_of_other_theory(&mut self, decl: FlatDecl) -> Result<(), FlatDecl>
+        requires { declared self.old decl.name ≡ None }
+        ensures ok { OnOk result (self.new ≡ self.old ++ decl ∷ []) }
+        ensures err { OnErr result (self.new ≡ self.old) }
+        ensures back { IfErr result (λ back. back ≡ decl) }
+    {
+        self.identity = None;
+        let Ok(mut places) = first_places(&self.decls) else {
+            return Err(decl);
+        };
+        insert_in_both(&mut self.decls, &mut places, decl)?;
+        self.by_path = ByPath::Table(places);
+        Ok(())
     }
 
     /// The declaration of a name. None exactly where the name is not there.
@@ -136,10 +171,24 @@ impl FlatSig {
         ensures declaration { option_copied result ≡ first_with_path self.now path.now }
         ensures meaning { option_map (λ d. read_declaration d.now) result ≡ find (λ (d : Declaration). same_path d.name.path path.now) (read_signature self.now) }
     {
-        match self.by_path.get(PathNames(path)) {
-            Some(index) => self.at(*index),
-            None => None,
+        match &self.by_path {
+            ByPath::OneTheory => self.own_at(path),
+            ByPath::Table(places) => match places.get(PathNames(path)) {
+                Some(index) => self.at(*index),
+                None => None,
+            },
         }
+    }
+
+    /// The declaration of a path in the theory of the first declaration.
+    fn own_at(&self, path: &[Name]) -> Option<&FlatDecl>
+        ensures { AreOfOneTheory self.now → option_copied result ≡ first_with_path self.now path.now }
+    {
+        let (first, _) = self.decls.get_index(0)?;
+        self.decls.get(NamesIn {
+            theory: &first.theory,
+            names: path,
+        })
     }
 
     /// Keeps the first `len` declarations, and lets the others go. It takes no memory.
@@ -158,7 +207,9 @@ impl FlatSig {
         self.identity = None;
         if let Some((name, decl)) = self.decls.pop() {
             drop(name);
-            leave(&mut self.by_path, &decl.name.path, self.decls.len());
+            if let ByPath::Table(places) = &mut self.by_path {
+                leave(places, &decl.name.path, self.decls.len());
+            }
             drop(decl);
         }
     }
@@ -187,7 +238,7 @@ impl FlatSig {
         let Some(first) = self.at(0) else {
             return Ok(None);
         };
-        let mut part = MapPart::new(alloc, &first.name.theory)?;
+        let mut part = MapPart::with_capacity(alloc, &first.name.theory, self.len())?;
         for i in 0..self.len() {
             if let Some(decl) = self.at(i) {
                 let added = push_own(alloc, &mut part, decl)?;
@@ -205,6 +256,62 @@ impl FlatSig {
         ensures distinct { HasDistinctNames self.now }
     {
         self.decls.len()
+    }
+}
+
+/// Whether the first declaration, if there is one, is of this theory.
+fn is_of_theory(decls: &IndexMap<QName, FlatDecl>, theory: &Name) -> bool
+    ensures { result ≡ true → IsOfFirst theory.now (keys_of decls.now.entries) }
+{
+    match decls.get_index(0) {
+        Some((first, _)) => first.theory == *theory,
+        None => true,
+    }
+}
+
+/// The index of the first declaration of each path.
+fn first_places(decls: &IndexMap<QName, FlatDecl>) -> Result<IndexMap<Path, usize>, Memory>
+    ensures { IfOk result (λ places. HasFirstPlaces places.entries (values_of decls.now.entries)) }
+{
+    let mut places = IndexMap::new(*decls.allocator());
+    for index in 0..decls.len() {
+        if let Some((_, decl)) = decls.get_index(index) {
+            note_place(&mut places, &decl.name.path, index)?;
+        }
+    }
+    Ok(places)
+}
+
+/// Adds the index of a declaration under a copy of its path, unless the path has one.
+fn note_place(places: &mut IndexMap<Path, usize>, path: &Path, index: usize) -> Result<(), Memory>
+    ensures { OnOk result (places.new.entries ≡ with_place places.old.entries path.now index) }
+{
+    if places.contains_key(path) {
+        return Ok(());
+    }
+    let key = path.copy(*places.allocator())?;
+    places.insert(key, index)?;
+    Ok(())
+}
+
+/// Adds a declaration under a copy of its name, which is new, and its index under a copy of its path, unless that has one; or hands it
+/// back for want of memory.
+fn insert_in_both(
+    decls: &mut IndexMap<QName, FlatDecl>,
+    places: &mut IndexMap<Path, usize>,
+    decl: FlatDecl,
+) -> Result<(), FlatDecl>
+    requires name { lookup (λ q. same_constant (read_constant decl.name) (read_constant q)) decls.old.entries ≡ None }
+    requires tables { AreTables places.old.entries decls.old.entries }
+    ensures ok { OnOk result (decls.new.entries ≡ decls.old.entries ++ (decl.name, decl) ∷ []) }
+    ensures err { OnErr result (decls.new.entries ≡ decls.old.entries) }
+    ensures tables { AreTables places.new.entries decls.new.entries }
+    ensures back { IfErr result (λ back. back ≡ decl) }
+{
+    if places.contains_key(&decl.name.path) {
+        insert(decls, decl)
+    } else {
+        insert_first(decls, places, decl)
     }
 }
 

@@ -75,6 +75,14 @@ impl HeadMap {
         }
     }
 
+    /// Makes room for so many more constants, so that their table grows at once.
+    pub fn reserve(&mut self, additional: usize) -> Result<(), Memory>
+        ensures { self.new ≡ self.old }
+    {
+        self.own.reserve(additional)?;
+        Ok(())
+    }
+
     /// Adds a constant with its image at the end, or hands both back: `Twice` exactly where the constant has an image
     /// already, `Memory` for want of memory.
     pub fn push(&mut self, name: QName, image: Image) -> Result<(), MapFault>

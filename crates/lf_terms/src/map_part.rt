@@ -36,13 +36,17 @@ impl Model for MapPart {
 }
 
 impl MapPart {
-    /// No constants, of this theory.
-    pub(crate) fn new(alloc: Global, theory: &Name) -> Result<MapPart, Memory>
+    /// No constants, of this theory, and room for so many.
+    pub(crate) fn with_capacity(
+        alloc: Global,
+        theory: &Name,
+        constants: usize,
+    ) -> Result<MapPart, Memory>
         ensures { IfOk result (λ part. part ≡ []) }
     {
         Ok(MapPart {
             theory: theory.copy(alloc)?,
-            images: IndexMap::new(alloc),
+            images: IndexMap::with_capacity(alloc, constants)?,
         })
     }
 

@@ -1,26 +1,70 @@
-//! Names in the place of the path that they make.
-ghost use Rattle.std.specs.Prelude.{◌∷◌, [], nat_eq};
-ghost use Rattle.std.specs.Cmp.Rules.{hashing};
-ghost use Rattle.std.specs.Cmp.Lexicographic.{pointwise, lists_equiv, nat_list_eq_equiv};
+//! Names in the place of the path that they make, and of a constant.
+ghost use Rattle.std.specs.Prelude.{nat_eq};
+ghost use Rattle.std.specs.Cmp.{decided, unsigned_Decides};
+ghost use Rattle.std.specs.Cmp.Lexicographic.{pointwise, pointwise_decides, lists_equiv, nat_list_eq_equiv};
+ghost use Rattle.std.specs.Hash as fed;
+ghost use Rattle.base_types.specs.Digests.{digest_of};
+ghost use Rattle.lf_terms.specs.NamedConstants.{fed_of, named_by};
+ghost use Rattle.lf_meaning.specs.Signatures.{same_constant};
+ghost use Rattle.term_trees.specs.Readings.{read_constant};
+ghost use Rattle.term_trees.proofs.Below.Equality.{same_constant_decides};
 
-use base_types::{Name, Path};
+use base_types::{Name, Path, QName, digest_of};
 use indexmap::Equivalent;
+use std::hash::{Hash, Hasher};
 
 /// Names by which a path is looked up, so that no path need be made of them.
-#[derive(Clone, Copy, PartialEq, Eq, Hash)]
+#[derive(Clone, Copy, PartialEq, Eq)]
 pub(crate) struct PathNames<'a>(pub(crate) &'a [Name]);
 
-impl Equivalent<Path> for PathNames<'_> {
-    ghost use Rattle.std.proofs.Common.{rules};
-    ghost use Rattle.std.specs.Hash.{items_Alike};
+impl Hash for PathNames<'_> {
+    ghost hash_input = { λ q. fed.u64 (digest_of q.0.now) };
 
+    ghost respects_eq = { λ q r. (fed.same_Alike (λ names. fed.u64 (digest_of names)) (pointwise_decides (pointwise_decides unsigned_Decides))).fed q.0.now r.0.now };
+
+    fn hash<H: Hasher>(&self, state: &mut H) {
+        state.write_u64(digest_of(self.0));
+    }
+}
+
+impl Equivalent<Path> for PathNames<'_> {
     ghost equivalent = { λ q. pointwise (pointwise nat_eq) q.0.now };
 
-    ghost respects_hash = { λ q. (items_Alike {E = pointwise nat_eq} {F = λ name. name ∷ []} (record { fed = Prim.search (hashing, rules) })).fed q.0.now };
+    ghost respects_hash = { λ q. (fed.same_Alike (λ names. fed.u64 (digest_of names)) (pointwise_decides (pointwise_decides unsigned_Decides))).fed q.0.now };
 
     ghost respects_eq = { λ q. (lists_equiv nat_list_eq_equiv).congr q.0.now };
 
     fn equivalent(&self, key: &Path) -> bool {
         self.0 == key.as_slice()
+    }
+}
+
+/// A theory and names by which a constant is looked up, so that no path need be made of them.
+#[derive(Clone, Copy, PartialEq, Eq)]
+pub(crate) struct NamesIn<'a> {
+    pub(crate) theory: &'a Name,
+    pub(crate) names: &'a [Name],
+}
+
+impl Hash for NamesIn<'_> {
+    ghost hash_input = { λ q. fed_of (named_by q) };
+
+    ghost respects_eq = { λ q r. (fed.same_Alike fed_of same_constant_decides).fed (named_by q) (named_by r) };
+
+    fn hash<H: Hasher>(&self, state: &mut H) {
+        self.theory.hash(state);
+        PathNames(self.names).hash(state);
+    }
+}
+
+impl Equivalent<QName> for NamesIn<'_> {
+    ghost equivalent = { λ q c. same_constant (named_by q) (read_constant c) };
+
+    ghost respects_hash = { λ q c. (fed.same_Alike fed_of same_constant_decides).fed (named_by q) (read_constant c) };
+
+    ghost respects_eq = { λ q c d. (decided same_constant same_constant_decides).congr (named_by q) (read_constant c) (read_constant d) };
+
+    fn equivalent(&self, key: &QName) -> bool {
+        *self.theory == key.theory && self.names == key.path.as_slice()
     }
 }

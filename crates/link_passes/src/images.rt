@@ -26,7 +26,10 @@ pub(crate) fn add_own_images(
     ensures { Links (λ _. read_map along.new) result (passes.map_all (read_setting setting.now) (read_all_assigned assigned.now) (read_map along.old) (own_part (read_setting setting.now).environment (read_setting setting.now).domain)) }
 {
     match setting.scope.faces.theory(setting.domain) {
-        Some(face) => add_images(alloc, setting, assigned, along, &face.own),
+        Some(face) => {
+            along.reserve(face.own.len())?;
+            add_images(alloc, setting, assigned, along, &face.own)
+        }
         None => Ok(()),
     }
 }

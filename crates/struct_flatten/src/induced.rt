@@ -1,13 +1,15 @@
 //! The constants that a structure induces.
-ghost use Rattle.std.specs.Prelude.{◌≡◌, ◌∷◌, ◌++◌, [], length, take, IfOk, OnErr, OnOk};
+ghost use Rattle.std.specs.Prelude.{◌≡◌, ◌∷◌, ◌++◌, [], length, nat_eq, None, take, IfOk, OnErr, OnOk};
+ghost use Rattle.std.specs.Cmp.Lexicographic.{pointwise};
 ghost use Rattle.std.specs.Option.{option_map};
+ghost use Rattle.lf_meaning.specs.Signatures.{same_constant};
 ghost use Rattle.library_meaning.specs.Faces.{own_part};
-ghost use Rattle.term_trees.specs.Readings.{read_constant, read_declaration, read_image, read_map, read_signature, read_value};
+ghost use Rattle.term_trees.specs.Readings.{read_class, read_constant, read_declaration, read_image, read_map, read_signature, read_value};
 ghost use Rattle.mmt_interface.specs.Readings.{environment_of};
 ghost use Rattle.link_meaning.specs.Induced as meant;
 ghost use Rattle.struct_flatten.specs.Steps.{induced_into};
 
-use lf_terms::{FlatDecl, FlatSig, HeadMap, Image, Memory, Name, QName, Value};
+use lf_terms::{Class, FlatDecl, FlatSig, Image, Memory, Name, Path, QName, Value};
 use link_passes::induced_constant;
 use mmt_interface::{Faces, StructFace};
 use std::alloc::Global;
@@ -25,7 +27,10 @@ pub(crate) fn add_induced(
     ensures front { take (length own.old) own.new ≡ own.old }
 {
     match faces.theory(&face.domain) {
-        Some(domain) => add_all(alloc, here, face, &domain.own, own),
+        Some(domain) => {
+            own.reserve(domain.own.len())?;
+            add_all(alloc, here, face, &domain.own, own)
+        }
         None => Ok(()),
     }
 }
@@ -61,12 +66,65 @@ fn add_one(
     ensures front { take (length own.old) own.new ≡ own.old }
 {
     match face.map.get(&decl.name) {
-        Some(image) => {
-            let constant = induced_constant(alloc, here, &face.name, &decl.name.path)?;
-            add(own, induced_with(alloc, constant, image)?)
-        }
+        Some(image) => add(
+            own,
+            induced_from(alloc, here, &face.name, &decl.name.path, image)?,
+        ),
         None => Ok(()),
     }
+}
+
+/// The constant that the structure induces from the one at this path with this image. Where the image is that constant itself, the
+/// two share its path.
+fn induced_from(
+    alloc: Global,
+    here: &Name,
+    structure: &Name,
+    path: &Path,
+    image: &Image,
+) -> Result<FlatDecl, Memory>
+    ensures { IfOk result (λ decl. read_declaration decl ≡ meant.induced_with (record { theory = here.now; path = structure.now ∷ path.now }) (read_image image.now)) }
+{
+    if let Value::Same(constant) = &image.value {
+        if is_induced(constant, here, structure, path) {
+            return undefined(alloc, constant, &image.class);
+        }
+    }
+    let constant = induced_constant(alloc, here, structure, path)?;
+    induced_with(alloc, constant, image)
+}
+
+/// Whether this is the constant that the structure induces from the one at this path.
+fn is_induced(constant: &QName, here: &Name, structure: &Name, path: &Path) -> bool
+    ensures { result ≡ same_constant (read_constant constant.now) (record { theory = here.now; path = structure.now ∷ path.now }) }
+{
+    constant.theory == *here && is_behind(constant.path.as_slice(), structure, path.as_slice())
+}
+
+/// Whether names are those of a path behind a structure's name.
+fn is_behind(names: &[Name], structure: &Name, path: &[Name]) -> bool
+    ensures { result ≡ pointwise (pointwise nat_eq) names.now (structure.now ∷ path.now) }
+{
+    match names {
+        [first, rest @ ..] => *first == *structure && *rest == *path,
+        [] => false,
+    }
+}
+
+/// The constant with this class, which has no value.
+fn undefined(alloc: Global, constant: &QName, class: &Class) -> Result<FlatDecl, Memory>
+    ensures { IfOk result (λ decl. read_declaration decl ≡ record { name = read_constant constant.now; class = read_class class.now; value = None }) }
+{
+    let class = class.copy(alloc)?;
+    let Ok(name) = constant.copy(alloc) else {
+        drop(class);
+        return Err(Memory);
+    };
+    Ok(FlatDecl {
+        name,
+        class,
+        value: None,
+    })
 }
 
 /// The constant with the class of an image, defined by the image's value.

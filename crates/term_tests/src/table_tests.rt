@@ -9,7 +9,7 @@ use std::alloc::Global;
 use std::marker::Brand;
 use std::sync::ledger::{Blank, Ledger};
 use std::test::Fail;
-use test_texts::{map, signature};
+use test_texts::{constant, map, signature};
 
 const DECLARED: &str = "\
 a : type
@@ -47,6 +47,92 @@ fn declarations_are_found_by_name(rt: HostRuntime) -> Result<(), Fail> {
     let last = pushed_again(alloc, &mut sig, 2)?;
     assert!(rt; is_twice(&sig, &first, 0) && is_twice(&sig, &last, 2));
     assert!(rt; sig.len() == 3 && sig.at(3).is_none());
+    Ok(())
+}
+
+/// Of one theory, and of two: `c` of the first theory comes before that of the other, and `d` behind it.
+const OF_ONE: &str = "\
+a : type
+c : a
+t.s.c : a";
+
+const OF_TWO: &str = "\
+a : type
+c : a
+U.c : a
+U.d : a
+d : a";
+
+/// Paths with the place of the first declaration: in the declarations of one theory, of two, and of the first three of these.
+const IN_ONE: [(&str, Option<usize>); 4] = [
+    ("t.a", Some(0)),
+    ("t.c", Some(1)),
+    ("t.s.c", Some(2)),
+    ("t.s", None),
+];
+
+const IN_TWO: [(&str, Option<usize>); 4] = [
+    ("t.a", Some(0)),
+    ("t.c", Some(1)),
+    ("t.d", Some(3)),
+    ("t.s.c", None),
+];
+
+const IN_THREE: [(&str, Option<usize>); 3] = [("t.a", Some(0)), ("t.c", Some(1)), ("t.d", None)];
+
+/// Whether the first declaration of a path is at this place.
+fn is_first(
+    alloc: Global,
+    sig: &FlatSig,
+    written: &str,
+    place: Option<usize>,
+) -> Result<bool, Fail> {
+    let name = constant(alloc, written)?;
+    Ok(match sig.first_at(name.path.as_slice()) {
+        Some(decl) => sig.place(&decl.name) == place,
+        None => place.is_none(),
+    })
+}
+
+fn are_in_one(alloc: Global, sig: &FlatSig) -> Result<bool, Fail> {
+    for (written, place) in IN_ONE {
+        if !is_first(alloc, sig, written, place)? {
+            return Ok(false);
+        }
+    }
+    Ok(true)
+}
+
+fn are_in_two(alloc: Global, sig: &FlatSig) -> Result<bool, Fail> {
+    for (written, place) in IN_TWO {
+        if !is_first(alloc, sig, written, place)? {
+            return Ok(false);
+        }
+    }
+    Ok(true)
+}
+
+fn are_in_three(alloc: Global, sig: &FlatSig) -> Result<bool, Fail> {
+    for (written, place) in IN_THREE {
+        if !is_first(alloc, sig, written, place)? {
+            return Ok(false);
+        }
+    }
+    Ok(true)
+}
+
+#[test]
+fn declarations_are_found_by_path(rt: HostRuntime) -> Result<(), Fail> {
+    let alloc = rt.alloc();
+    let one = signature(alloc, OF_ONE)?;
+    let in_one = are_in_one(alloc, &one)?;
+    drop(one);
+    let mut two = signature(alloc, OF_TWO)?;
+    let in_two = are_in_two(alloc, &two)?;
+    two.truncate(3);
+    let in_three = are_in_three(alloc, &two)?;
+    drop(two);
+    assert!(rt; in_one && in_two && in_three);
     Ok(())
 }
 

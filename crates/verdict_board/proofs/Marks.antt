@@ -6,16 +6,16 @@ use Rattle.std.proofs.lemmas.Nat.Bits.{bit_at_or, bit_at-pow_same}
 use Rattle.name_meaning.specs.Names.{Name}
 use Rattle.list_laws.proofs.Members.{Member, in_append}
 use Rattle.list_laws.proofs.Places.{take_more}
-use Rattle.verdict_board.specs.Marks.{mark_of, AreMarked}
+use Rattle.verdict_board.specs.Marks.{bit_of, AreMarked}
 
 -- the place of the bit after one more byte
-pub mark_next : (bytes : Name) (i byte : ℕ) → slice_get bytes i ≡ Some byte → mark_of (take (suc i) bytes) ≡ (mark_of (take i bytes) * 31 + byte) % 64
-unfolding mark_of
-mark_next bytes i byte here = ap mark_of (take_more bytes i byte here) ∙ fold-append (λ (number byte : ℕ). (number * 31 + byte) % 64) 0 (take i bytes) (byte ∷ [])
+pub bit_next : (bytes : Name) (i byte : ℕ) → slice_get bytes i ≡ Some byte → bit_of (take (suc i) bytes) ≡ (bit_of (take i bytes) * 31 + byte) % 64
+unfolding bit_of
+bit_next bytes i byte here = ap bit_of (take_more bytes i byte here) ∙ fold-append (λ (number byte : ℕ). (number * 31 + byte) % 64) 0 (take i bytes) (byte ∷ [])
 
-pub mark_within : (bytes : Name) → mark_of bytes < 64
-unfolding mark_of
-mark_within bytes = from bytes 0 (omega arith)
+pub bit_within : (bytes : Name) → bit_of bytes < 64
+unfolding bit_of
+bit_within bytes = from bytes 0 (omega arith)
   where
     from : (bytes : Name) (start : ℕ) → start < 64 → fold (λ (number byte : ℕ). (number * 31 + byte) % 64) start bytes < 64
     from [] start h = h
@@ -29,8 +29,8 @@ now_set : (marks i : ℕ) → bit_at (bit_or marks (2 ^ i)) i ≡ 1
 now_set marks i = let o = bit_at_or marks (2 ^ i) i in let s = bit_at-pow_same i in omega (arith, o, s)
 
 -- the bit of one more name
-pub marked_next : (names : List Name) (i : ℕ) (name : Name) (marks : ℕ) → slice_get names i ≡ Some name → AreMarked (take i names) marks → AreMarked (take (suc i) names) (bit_or marks (2 ^ mark_of name))
+pub marked_next : (names : List Name) (i : ℕ) (name : Name) (marks : ℕ) → slice_get names i ≡ Some name → AreMarked (take i names) marks → AreMarked (take (suc i) names) (bit_or marks (2 ^ bit_of name))
 marked_next names i name marks here so_far other m =
-    ⊎_elim (λ q. still_set marks (2 ^ mark_of name) (mark_of other) (so_far other q))
-    (λ q. ⊎_elim (λ e. subst (λ z. bit_at (bit_or marks (2 ^ mark_of name)) (mark_of z) ≡ 1) (sym e) (now_set marks (mark_of name))) (λ none. absurd none) q)
+    ⊎_elim (λ q. still_set marks (2 ^ bit_of name) (bit_of other) (so_far other q))
+    (λ q. ⊎_elim (λ e. subst (λ z. bit_at (bit_or marks (2 ^ bit_of name)) (bit_of z) ≡ 1) (sym e) (now_set marks (bit_of name))) (λ none. absurd none) q)
     (in_append (take i names) _ other (subst (Member other) (take_more names i name here) m))

@@ -5,19 +5,19 @@ use Rattle.std.proofs.lemmas.List.{length-map}
 use Rattle.std.proofs.lemmas.Option.{same_Some}
 use Rattle.std.proofs.lemmas.Bool.{false_from_ne_true}
 use Rattle.name_meaning.specs.Names.{Name, Text, same_name, is_among}
-use Rattle.name_meaning.specs.Rows.{Rows, row_names, IsTable}
+use Rattle.name_meaning.specs.Rows.{Rows, row_names, row_of, IsTable}
 use Rattle.name_laws.proofs.Order.{among_member, member_among, same_sound, same_itself}
-use Rattle.name_laws.proofs.Rows.{place_of_member, row_at}
+use Rattle.name_laws.proofs.Rows.{place_of_member, row_at, row_with}
 use Rattle.list_laws.proofs.Members.{Member, any_not}
 use Rattle.list_laws.proofs.Places.{place_within}
 use Rattle.log_meaning.specs.Log.{Edit, Put, Drop, Library, edited, edited_name, text_of, is_present}
 use Rattle.log_laws.specs.LogLaws.{left_by}
 use Rattle.log_laws.proofs.Libraries.{text_edited}
-use Rattle.walk_meaning.specs.Walks.{Dependencies, of_text, direct, is_grounded, is_ungrounded, ungrounded_names}
+use Rattle.walk_meaning.specs.Walks.{Dependencies, direct, is_grounded, is_ungrounded, ungrounded_names}
 use Rattle.walk_meaning.specs.Reach.{reach}
 use Rattle.walk_meaning.specs.Graphs.{Graph, HoldsDependencies, graph_reach}
 use Rattle.walk_laws.proofs.Agreement.{direct_same}
-use Rattle.walk_laws.proofs.Graphs.{left_ungrounded, graph_reaches}
+use Rattle.walk_laws.proofs.Graphs.{left_ungrounded, graph_reaches, edited_holds}
 use Rattle.walk_laws.proofs.Reaching.{reach_closed, reach_first}
 use Rattle.walk_laws.proofs.Walking.{present_in, ungrounded_dependency}
 use Rattle.walk_meaning.specs.Subject.{Subject}
@@ -91,17 +91,16 @@ none_dropped D L n sound =
     none_but_edited D L (Drop n) sound (false_from_ne_true (is_ungrounded D (edited L (Drop n)) n) (λ u.
     true≢false (sym (ungrounded_present D (edited L (Drop n)) n u) ∙ ap is_some (text_edited L (Drop n) n ∙ ap (λ b. cond b None (text_of L n)) (same_itself n)))))
 
-direct_of : (D : Dependencies) (L : Library) (n : Name) (t : Text) → text_of L n ≡ Some t → direct D L n ≡ D n t
-unfolding direct
-direct_of D L n t h = ap (of_text (D n)) h
-
 -- no module is ungrounded after a text is put under a name that none of its direct dependencies reaches
 pub none_put : (D : Dependencies) (L : Library) (n : Name) (t : Text) (graph : Graph) → HoldsDependencies graph D L → ((x : Name) → is_ungrounded D L x ≡ false)
     → list_any (λ from. is_among (graph_reach graph from) n) (D n t) ≡ false → (x : Name) → is_ungrounded D (edited L (Put n t)) x ≡ false
 none_put D L n t graph holds sound h = none_apart D L (Put n t) sound apart
   where
     put : direct D (edited L (Put n t)) n ≡ D n t
-    put = direct_of D (edited L (Put n t)) n t (text_edited L (Put n t) n ∙ ap (λ b. cond b (Some t) (text_of L n)) (same_itself n))
+    put =
+        let present : is_present (edited L (Put n t)) n ≡ true = ap is_some (text_edited L (Put n t) n ∙ ap (λ b. cond b (Some t) (text_of L n)) (same_itself n)) in
+        let after = edited_holds graph D L holds (Put n t) in
+        same_Some _ _ (sym (after.rows n present) ∙ row_with n (D n t) graph n ∙ ap (λ b. cond b (Some (D n t)) (row_of graph n)) (same_itself n))
 
     apart : (d : Name) → Member d (direct D (edited L (Put n t)) n) → is_among (reach D L d) n ≡ false
     apart d m = ap (λ names. is_among names n) (sym (graph_reaches graph D L holds d)) ∙ any_not (λ from. is_among (graph_reach graph from) n) (D n t) d h (subst (Member d) put m)

@@ -6,9 +6,9 @@ use Rattle.name_meaning.specs.Names.{Name}
 use Rattle.list_laws.proofs.Members.{Member}
 
 -- A number below 64 that is made of the bytes of a name: the place of its bit, counted from 0.
-unfoldable pub mark_of : Name → ℕ
-mark_of name = fold (λ (number byte : ℕ). (number * 31 + byte) % 64) 0 name
+unfoldable pub bit_of : Name → ℕ
+bit_of name = fold (λ (number byte : ℕ). (number * 31 + byte) % 64) 0 name
 
 -- The bit of each of these names is set.
 abbrev pub AreMarked : List Name → ℕ → Type 0
-AreMarked names marks = (name : Name) → Member name names → bit_at marks (mark_of name) ≡ 1
+AreMarked names marks = (name : Name) → Member name names → bit_at marks (bit_of name) ≡ 1

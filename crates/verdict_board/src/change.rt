@@ -8,7 +8,7 @@ ghost use Rattle.verdict_board.specs.declared.stage.Stage.TheVariants.{Waiting};
 ghost use Rattle.verdict_board.specs.Stages.{fallen, HaveSortedInputs};
 ghost use Rattle.verdict_board.specs.Tables.{graph_changed, graph_in_place, stages_changed, stages_in_place};
 
-use crate::marked_names::mark_of;
+use crate::marked_names::bit_of;
 use crate::stage::Stage;
 use edit_log::{Edit, EditFault, Edited, Log};
 use lf_terms::{Arc, Memory, Name, Names};
@@ -246,10 +246,10 @@ fn fall<A: Drop>(stages: &mut NameTable<Stage<A>>, graph: &Graph, edited: &Name)
     requires sorted { HaveSortedInputs stages.old }
     ensures { stages.new ≡ fallen edited.now stages.old }
 {
-    let mark = mark_of(edited);
+    let bit = bit_of(edited);
     for place in 0..graph.len() {
         let (_, stage) = stages.row_at(place);
-        if stage.falls(edited, mark) {
+        if stage.falls(edited, bit) {
             stages.replace(graph.name_at(place), Stage::Waiting);
         }
     }

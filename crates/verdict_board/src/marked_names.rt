@@ -2,7 +2,7 @@
 ghost use Rattle.std.specs.Prelude.{◌≡◌, ◌<◌, true, IfOk};
 ghost use Rattle.name_meaning.specs.Names.{Name, is_among, is_ascending};
 ghost use Rattle.list_laws.proofs.Members.{Member};
-ghost use Rattle.verdict_board.specs.Marks.{mark_of, AreMarked};
+ghost use Rattle.verdict_board.specs.Marks.{bit_of, AreMarked};
 
 use crate::search::contains;
 use lf_terms::{Arc, Memory, Name, Names};
@@ -57,20 +57,20 @@ impl MarkedNames {
     }
 
     /// Whether a name, the place of whose bit is given, is among them. They are read only where the bit is set.
-    pub fn contains(&self, name: &Name, mark: u32) -> bool
+    pub fn contains(&self, name: &Name, bit: u32) -> bool
         requires sorted { is_ascending self.now ≡ true }
-        requires mark { mark ≡ mark_of name.now }
+        requires bit { bit ≡ bit_of name.now }
         ensures { result ≡ is_among self.now name.now }
     {
-        self.may_contain(mark) && contains(self.names.get(), name)
+        self.may_contain(bit) && contains(self.names.get(), name)
     }
 
     /// Whether the bit at a place is set.
-    fn may_contain(&self, mark: u32) -> bool
-        requires { mark < 64 }
-        ensures { (name : Name) → mark ≡ mark_of name → Member name self.now → result ≡ true }
+    fn may_contain(&self, bit: u32) -> bool
+        requires { bit < 64 }
+        ensures { (name : Name) → bit ≡ bit_of name → Member name self.now → result ≡ true }
     {
-        (self.marks >> mark) & 1 == 1
+        (self.marks >> bit) & 1 == 1
     }
 }
 
@@ -80,19 +80,19 @@ fn marks_of(names: &Names) -> u64
 {
     let mut marks = 0;
     for name in names.as_slice() {
-        marks |= 1 << mark_of(name);
+        marks |= 1 << bit_of(name);
     }
     marks
 }
 
 /// The place of the bit that a name sets, counted from 0.
-pub fn mark_of(name: &Name) -> u32
-    ensures mark { result ≡ mark_of name.now }
+pub fn bit_of(name: &Name) -> u32
+    ensures bit { result ≡ bit_of name.now }
     ensures within { result < 64 }
 {
-    let mut mark = 0;
+    let mut bit = 0;
     for byte in name.as_str().as_bytes() {
-        mark = (mark * 31 + u32::from(*byte)) % 64;
+        bit = (bit * 31 + u32::from(*byte)) % 64;
     }
-    mark
+    bit
 }

@@ -2,10 +2,10 @@
 ghost use Rattle.std.specs.Prelude.{◌≡◌, IfOk};
 ghost use Rattle.std.specs.Option.{option_copied};
 ghost use Rattle.name_meaning.specs.Names.{is_ascending, is_among};
-ghost use Rattle.verdict_board.specs.Marks.{mark_of};
+ghost use Rattle.verdict_board.specs.Marks.{bit_of};
 ghost use Rattle.verdict_board.specs.Stages.{answer_in, claim_in, falls, is_cyclic, is_waiting, standing_in, stage_after, HasSortedInputs};
 
-use crate::marked_names::{MarkedNames, mark_of};
+use crate::marked_names::{MarkedNames, bit_of};
 use lf_terms::{Memory, Name, Names};
 use module_graph::Subject;
 
@@ -48,15 +48,15 @@ impl<A> Stage<A> {
     }
 
     /// Whether it does not stay after an edit of a name, the place of whose bit is given, if the module is grounded then.
-    pub fn falls(&self, edited: &Name, mark: u32) -> bool
+    pub fn falls(&self, edited: &Name, bit: u32) -> bool
         requires sorted { HasSortedInputs self.now }
-        requires mark { mark ≡ mark_of edited.now }
+        requires bit { bit ≡ bit_of edited.now }
         ensures { result ≡ falls edited.now self.now }
     {
         match self {
             Stage::Waiting => false,
             Stage::Claimed { inputs, .. } | Stage::Standing { inputs, .. } => {
-                inputs.contains(edited, mark)
+                inputs.contains(edited, bit)
             }
             Stage::Cyclic { .. } => true,
         }
@@ -91,7 +91,7 @@ pub fn after_edit<S: Subject>(
     requires { HasSortedInputs stage.now }
     ensures { IfOk result (λ after. after ≡ stage_after edited.now stage.now) }
 {
-    if stage.falls(edited, mark_of(edited)) {
+    if stage.falls(edited, bit_of(edited)) {
         return Ok(Stage::Waiting);
     }
     match stage {

@@ -26,7 +26,7 @@ falls-requires g c =
     record {
       sorted = c.requires.sorted c.row_at.result.0.now c.row_at.result.1.now
           (row_at c.row_at.result.0.now c.row_at.result.1.now c.args.stages.now c.loop-place.place (ap is_ascending c.requires.names ∙ c.len-place-end.ensures.ordered) here);
-      mark = c.mark_of-mark.ensures.mark;
+      bit = c.bit_of-bit.ensures.bit;
     }
 
 pub replace-requires : goal.replace-requires
