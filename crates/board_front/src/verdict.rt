@@ -43,7 +43,7 @@ pub fn told<R: Wait, G: Gate>(
             Told::Pending { .. } => {}
         }
         if board.all_work() {
-            board.wait_while_short(rt);
+            board.rest(rt);
             continue;
         }
         match take_turn(rt, alloc, gate, board, pass)? {

@@ -39,6 +39,8 @@ pub struct SharedBoard<S: Subject> {
     pub(crate) claims: AtomicU64,
     /// How many claims have ended, those among them that were made before the board was shared.
     pub(crate) ended: AtomicU64,
+    /// How many passes wait for a turn.
+    pub(crate) waiting: AtomicU64,
     /// 1 once the board is closed.
     pub(crate) is_closed: AtomicU64,
     /// Wakes those that wait for the end of a claim: each install and each release wakes all.
@@ -73,6 +75,7 @@ impl<S: Subject> SharedBoard<S> {
                     workers: AtomicU64::new(0),
                     claims: AtomicU64::new(0),
                     ended: AtomicU64::new(0),
+                    waiting: AtomicU64::new(0),
                     is_closed: AtomicU64::new(0),
                     ends: EventCount::new(),
                 },
@@ -117,6 +120,7 @@ impl<S: Subject> SharedBoard<S> {
             workers: _,
             claims: _,
             ended: _,
+            waiting: _,
             is_closed: _,
             ends: _,
         } = self;
@@ -129,7 +133,10 @@ impl<S: Subject> SharedBoard<S> {
         ensures takes { Takes number_of pass.old result pass.new }
         ensures legal { IsLegal S.subject.dependencies result }
     {
-        self.turns.take(rt, pass).into_board()
+        self.waiting.fetch_add(1, SeqCst);
+        let seated = self.turns.take(rt, pass);
+        self.waiting.fetch_sub(1, SeqCst);
+        seated.into_board()
     }
 
     /// Gives the board back, with the entries with which it was taken or with one more of the pass's number.

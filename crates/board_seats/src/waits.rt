@@ -1,4 +1,4 @@
-//! Waits for a board that may have a job, and for claims that end.
+//! Waits for a board that may have a job, for modules that are long enough to be shared, and for claims that end.
 
 use crate::SharedBoard;
 use crossbeam_utils::sync::Key;
@@ -55,18 +55,34 @@ impl<S: Subject> SharedBoard<S> {
         }
     }
 
-    /// Sleeps for a while, and again for as long as too many modules are claimed in it, for each claim that is open, to be shared. A
-    /// close ends it.
-    pub fn wait_while_short<R: Wait>(&self, rt: &R) {
+    /// Sleeps until so many looks in a row have found that few enough modules are claimed, for each claim that is open, to be shared.
+    /// A close ends it. One look may find none claimed only since whoever judges did not get a processor meanwhile.
+    pub(crate) fn wait_while_short<R: Wait>(&self, rt: &R, looks: u32) {
+        let mut long: u32 = 0;
         for _ in rt.forever() {
             let before = self.claims.load(SeqCst);
-            self.is_closed
-                .park_timeout(rt, 0, Duration::from_micros(LOOK));
+            self.rest(rt);
+            if self.is_closed.load(SeqCst) != 0 {
+                return;
+            }
             let claimed = self.claims.load(SeqCst).wrapping_sub(before);
-            if claimed / MOST_CLAIMS < self.open_claims().max(1) {
+            let is_long = claimed / MOST_CLAIMS < self.open_claims().max(1);
+            long = if is_long { long.saturating_add(1) } else { 0 };
+            if long >= looks {
                 return;
             }
         }
+    }
+
+    /// Sleeps for as long as one look takes, or until the board is closed.
+    pub fn rest<R: Wait>(&self, rt: &R) {
+        self.is_closed
+            .park_timeout(rt, 0, Duration::from_micros(LOOK));
+    }
+
+    /// Whether some pass waits for its turn.
+    pub(crate) fn is_crowded(&self) -> bool {
+        self.waiting.load(SeqCst) > 0
     }
 
     /// How many claims are open. Those that were made before the board was shared are not counted.

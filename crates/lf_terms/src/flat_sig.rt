@@ -77,7 +77,7 @@ impl FlatSig {
         }
     }
 
-    /// Makes room for so many more declarations, so that their table grows at once.
+    /// Makes room for so many more declarations, so that their table grows at once. It may find no memory.
     pub fn reserve(&mut self, additional: usize) -> Result<(), Memory>
         ensures { self.new ≡ self.old }
     {

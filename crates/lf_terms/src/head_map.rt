@@ -75,7 +75,7 @@ impl HeadMap {
         }
     }
 
-    /// Makes room for so many more constants, so that their table grows at once.
+    /// Makes room for so many more constants, so that their table grows at once. It may find no memory.
     pub fn reserve(&mut self, additional: usize) -> Result<(), Memory>
         ensures { self.new ≡ self.old }
     {

@@ -157,7 +157,7 @@ module _ {Answer Meaning : Type 0} (subject : Subject Meaning) (meaning : Answer
     counted = let a = length-append H (e ∷ []) in let b = k.counted in omega (arith, a, b);
     installed_all = let a = installs_last H e in let b = k.installed_all in omega (arith, a, b);
     room = room closed;
-    candidates_all = all_kept new_stages new_graph (λ list. list.items) (length new_graph) new_candidates.candidate.items new_candidates.parked.items
+    candidates_all = all_kept new_stages new_graph (λ list. list.items) (length new_graph) new_candidates.candidate new_candidates.parked.items
         (ap is_ascending staged.names ∙ library_ascending (log_of (H ++ e ∷ []))) same long new;
   }
     where

@@ -4,6 +4,7 @@ pub mod Kept
 pub mod Rooms
 pub mod Calls
 pub mod Jobs
+pub mod PlaceSets
 pub mod Parking
 pub mod Transitions
 pub mod Reports

@@ -1,7 +1,7 @@
 -- The candidates of a board over each change of its tables.
-use Rattle.std.proofs.Common.{◌≡◌, ℕ, zero, suc, ◌<◌, ◌≤◌, Bool, true, false, cond, not, List, [], ◌∷◌, ◌++◌, length, replicate, set, slice_get, take, option_map, Some, None, is_some, ◌⊎◌, inl, inr, ⊎_elim, refl, sym, ap, ◌∙◌, subst, true≢false, arith}
+use Rattle.std.proofs.Common.{◌≡◌, ℕ, zero, suc, ◌<◌, ◌≤◌, Bool, true, false, cond, not, List, [], ◌∷◌, ◌++◌, get_or, length, replicate, set, slice_get, take, option_map, Some, None, is_some, ◌⊎◌, inl, inr, ⊎_elim, refl, sym, ap, ◌∙◌, subst, true≢false, arith}
 use Rattle.std.proofs.lemmas.List.{length-map, length-replicate, length-take}
-use Rattle.std.proofs.lemmas.Option.{slice_get-map, same_Some}
+use Rattle.std.proofs.lemmas.Option.{slice_get-get_or, slice_get-map, same_Some}
 use Rattle.name_meaning.specs.Names.{Name, same_name, is_ascending}
 use Rattle.name_meaning.specs.Rows.{Rows, row_names, row_of, with_row, IsTable, IsGap}
 use Rattle.name_laws.proofs.Order.{same_sound, with_present, among_member}
@@ -14,6 +14,7 @@ use Rattle.verdict_board.specs.declared.stage.Stage.{Stage}
 use Rattle.verdict_board.specs.Stages.{is_waiting, standing_in}
 use Rattle.list_laws.proofs.Writes.{AreEmpty, set_here, set_found, set_left, set_value}
 use Rattle.name_laws.proofs.Sorted.{one_place}
+use Rattle.verdict_board.specs.PlaceSets.{NoneBefore}
 use Rattle.verdict_board.specs.Readiness.{awaits_claim, lacks_verdict, IsBlocked, IsLacking, IsParked, IsReadyAt, IsUnreadyAt, NoneLacks, AreCandidates, AreAll, AreMarked}
 
 -- ---- lists
@@ -171,6 +172,20 @@ module _ {Answer W : Type 0} (stages : Rows (Stage Answer)) (graph : Graph) (ite
 
     pub no_candidate : (place : ℕ) → slice_get candidate place ≡ Some false → IsUnreadyAt stages graph place
     no_candidate place f name h = ⊎_elim (λ w. inl w) (λ p. inr (p.other, p.blocked)) (k.closed place name h f)
+
+    pub none_ready_before : (begin : ℕ) → NoneBefore begin candidate → (place : ℕ) → place < begin → IsUnreadyAt stages graph place
+    none_ready_before begin none place before name h = no_candidate place (out (get_or candidate place false) refl) name h
+      where
+        here : slice_get candidate place ≡ Some (get_or candidate place false)
+        here =
+            let within = place_within (row_names stages) place name h in
+            let named = names_long stages in
+            let each = k.each_candidate in
+            slice_get-get_or candidate place false (omega (arith, within, named, each))
+
+        out : (b : Bool) → get_or candidate place false ≡ b → slice_get candidate place ≡ Some false
+        out true q = absurd (none place before (here ∙ ap Some q))
+        out false q = here ∙ ap Some q
 
     pub not_waiting : (place : ℕ) (m : Name) (stage : Stage Answer) → slice_get stages place ≡ Some (m, stage) → is_waiting stage ≡ false
         → (name : Name) → slice_get (row_names stages) place ≡ Some name → awaits_claim (row_of stages name) ≡ false

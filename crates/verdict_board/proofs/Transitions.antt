@@ -52,7 +52,7 @@ module _ {Answer Meaning : Type 0} (subject : Subject Meaning) (meaning : Answer
     counted = refl;
     installed_all = refl;
     room = omega arith;
-    candidates_all = all_kept {Answer = Answer} [] [] (λ list. list.items) 0 candidates.candidate.items candidates.parked.items refl refl refl new;
+    candidates_all = all_kept {Answer = Answer} [] [] (λ list. list.items) 0 candidates.candidate candidates.parked.items refl refl refl new;
   }
 
   module _ (H : History) (log : Log) (graph : Graph) (stages : Rows (Stage Answer)) (closed : Bool) (opened entries installed : ℕ) {candidates : Candidates} (k : IsKept subject meaning H log graph stages closed opened entries installed candidates) (pass version : ℕ) (v : version ≡ version_after H) where
@@ -120,7 +120,7 @@ module _ {Answer Meaning : Type 0} (subject : Subject Meaning) (meaning : Answer
       counted = more (Claim n);
       installed_all = installed_on (Claim n) refl;
       room = room_more closed;
-      candidates_all = put_claimed stages graph (λ list. list.items) candidates.candidate.items candidates.parked.items k.candidates_all n (Claimed entries names) (staged_present subject meaning H k.legal stages k.staged n ∙ present) refl refl;
+      candidates_all = put_claimed stages graph (λ list. list.items) candidates.candidate candidates.parked.items k.candidates_all n (Claimed entries names) (staged_present subject meaning H k.legal stages k.staged n ∙ present) refl refl;
     }
       where
         present : is_present (library_after H) n ≡ true

@@ -2,6 +2,7 @@ pub mod Entries
 pub mod Readings
 pub mod Stages
 pub mod Readiness
+pub mod PlaceSets
 pub mod Searching
 pub mod Keeping
 pub mod Changes

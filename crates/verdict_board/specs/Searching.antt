@@ -8,8 +8,8 @@ use Rattle.verdict_board.specs.Readiness.{AreCandidates, AreAll}
 
 -- A module that is no candidate is not ready.
 abbrev pub AreKept : {Answer : Type 0} → Rows (Stage Answer) → Graph → Candidates → Type 0
-AreKept stages graph candidates = AreCandidates stages graph (λ list. list.items) candidates.candidate.items candidates.parked.items
+AreKept stages graph candidates = AreCandidates stages graph (λ list. list.items) candidates.candidate candidates.parked.items
 
 -- So many modules are candidates.
 abbrev pub AreNew : ℕ → Candidates → Type 0
-AreNew count candidates = AreAll (λ list. list.items) count candidates.candidate.items candidates.parked.items
+AreNew count candidates = AreAll (λ list. list.items) count candidates.candidate candidates.parked.items

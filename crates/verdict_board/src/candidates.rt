@@ -1,12 +1,14 @@
 //! Which modules may be ready: a claim looks at no others.
-ghost use Rattle.std.specs.Prelude.{◌≡◌, ◌<◌, ◌≤◌, ℕ, true, false, length, slice_get, is_some, IfOk, MatchBool, MatchOption, Some};
+ghost use Rattle.std.specs.Prelude.{◌≡◌, ◌+◌, ◌<◌, ◌≤◌, ℕ, true, false, length, slice_get, is_some, IfOk, MatchBool, MatchOption, Some};
 ghost use Rattle.name_meaning.specs.Rows.{row_names, row_of, with_row, IsTable};
 ghost use Rattle.list_laws.proofs.Members.{Member};
 ghost use Rattle.verdict_board.specs.declared.stage.Stage.TheVariants.{Waiting};
 ghost use Rattle.verdict_board.specs.Stages.{is_waiting};
-ghost use Rattle.verdict_board.specs.Readiness.{AreMarked, IsFirstReady, IsLacking, IsReadyAt, IsUnreadyAt, NoneIsReady, NoneLacks};
+ghost use Rattle.verdict_board.specs.PlaceSets.{NoneBefore};
+ghost use Rattle.verdict_board.specs.Readiness.{IsFirstReady, IsLacking, IsReadyAt, IsUnreadyAt, NoneIsReady, NoneLacks};
 ghost use Rattle.verdict_board.specs.Searching.{AreKept, AreNew};
 
+use crate::place_set::PlaceSet;
 use crate::stage::Stage;
 use lf_terms::{Memory, Name, Names};
 use module_graph::Graph;
@@ -17,8 +19,7 @@ use std::alloc::Global;
 /// a claim, or it is parked at one of its direct dependencies, which is present without a standing verdict.
 #[derive(Drop)]
 pub struct Candidates {
-    /// Whether each module is a candidate.
-    candidate: Vec<bool>,
+    candidate: PlaceSet,
     /// The modules that are parked at each module.
     parked: Vec<Vec<usize>>,
 }
@@ -33,7 +34,7 @@ impl Candidates {
             parked.push(Vec::new(alloc))?;
         }
         Ok(Candidates {
-            candidate: vec![in alloc; true; count]?,
+            candidate: PlaceSet::all(alloc, count)?,
             parked,
         })
     }
@@ -59,18 +60,19 @@ impl Candidates {
         requires within { place < length stages.now }
         ensures kept { AreKept stages.now graph.now self.new }
         ensures ready { IfOk result (λ ready. MatchBool ready (IsReadyAt stages.now graph.now place) (IsUnreadyAt stages.now graph.now place)) }
+        ensures left { IfOk result (λ ready. NoneBefore place self.old.candidate → MatchBool ready (NoneBefore place self.new.candidate) (NoneBefore (place + 1) self.new.candidate)) }
     {
-        if !self.candidate[place] {
+        if !self.candidate.contains(place) {
             return Ok(false);
         }
         if !stages.row_at(place).1.is_waiting() {
-            self.candidate[place] = false;
+            self.candidate.remove(place);
             return Ok(false);
         }
         match first_lacking(stages, graph.dependencies_at(place)) {
             Some(other) => {
                 self.parked[other].push(place)?;
-                self.candidate[place] = false;
+                self.candidate.remove(place);
                 Ok(false)
             }
             None => Ok(true),
@@ -83,7 +85,7 @@ impl Candidates {
         requires within { place < length stages.now }
         ensures { result ≡ false → (graph : Graph) → AreKept stages.now graph self.now → IsUnreadyAt stages.now graph place }
     {
-        if !self.candidate[place] {
+        if !self.candidate.contains(place) {
             return false;
         }
         stages.row_at(place).1.is_waiting()
@@ -95,7 +97,7 @@ pub fn may_be_ready<A: Drop>(stages: &NameTable<Stage<A>>, candidates: &Candidat
     requires kept { (graph : Graph) × AreKept stages.now graph candidates.now }
     ensures { result ≡ false → (graph : Graph) → AreKept stages.now graph candidates.now → NoneIsReady stages.now graph }
 {
-    for place in 0..stages.len() {
+    for place in candidates.candidate.begin()..stages.len() {
         if candidates.may_be_ready(stages, place) {
             return true;
         }
@@ -113,11 +115,13 @@ pub fn first_ready<A: Drop>(
     ensures kept { AreKept stages.now graph.now candidates.new }
     ensures found { IfOk result (λ found. MatchOption found (NoneIsReady stages.now graph.now) (λ place. IsFirstReady stages.now graph.now place)) }
 {
-    for place in 0..stages.len() {
+    for place in candidates.candidate.begin()..stages.len() {
         if candidates.look(stages, graph, place)? {
+            candidates.candidate.begin_at(place);
             return Ok(Some(place));
         }
     }
+    candidates.candidate.begin_at(stages.len());
     Ok(None)
 }
 
@@ -151,7 +155,7 @@ pub fn stand<A: Drop>(
 {
     let place = place_of(stages, name);
     stages.replace(name, stage);
-    mark(&mut candidates.candidate, &candidates.parked[place]);
+    candidates.candidate.insert_all(&candidates.parked[place]);
 }
 
 /// Has a module wait for a claim. It is a candidate again.
@@ -163,7 +167,7 @@ pub fn wait<A: Drop>(stages: &mut NameTable<Stage<A>>, candidates: &mut Candidat
 {
     let place = place_of(stages, name);
     stages.replace(name, Stage::Waiting);
-    candidates.candidate[place] = true;
+    candidates.candidate.insert(place);
 }
 
 /// The place of a module that has a stage.
@@ -175,16 +179,5 @@ fn place_of<A: Drop>(stages: &NameTable<Stage<A>>, name: &Name) -> usize
     match stages.place(name) {
         Ok(place) => place,
         Err(_) => unreachable!(),
-    }
-}
-
-/// Has the modules at these places be candidates.
-fn mark(candidate: &mut [bool], places: &[usize])
-    requires { (place : ℕ) → Member place places.now → place < length candidate.old }
-    ensures length { length candidate.new ≡ length candidate.old }
-    ensures marked { AreMarked candidate.old candidate.new places.now }
-{
-    for place in places {
-        candidate[*place] = true;
     }
 }

@@ -12,6 +12,7 @@ mod install;
 mod job;
 mod marked_names;
 mod pending;
+mod place_set;
 mod replies;
 mod report;
 mod search;

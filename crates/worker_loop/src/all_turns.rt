@@ -5,7 +5,7 @@ ghost use Rattle.board_seats.specs.Seats.{Keeps};
 ghost use Rattle.worker_loop.specs.Work.{IsDone, IsStopped};
 
 use crate::one_turn::{TurnEnd, turn};
-use board_seats::{BoardPass, SharedBoard};
+use board_seats::{BoardPass, Pace, SharedBoard};
 use lf_terms::{Memory, Steps};
 use mmt_outside::Gate;
 use module_graph::Subject;
@@ -30,15 +30,16 @@ pub fn work<R: Wait, S: Subject, G: Gate, L: Ledger>(
     ensures done { OnOk result (IsDone S.subject pass.old.seen pass.old.number steps.old pass.new.seen steps.new) }
     ensures stopped { OnErr result (IsStopped S.subject pass.old.seen pass.old.number steps.old pass.new.seen steps.new) }
 {
+    let mut pace = Pace::new();
     board.wait_for_begin(rt);
-    board.wait_while_short(rt);
+    pace.wait(rt, board);
     for _ in rt.forever() {
         let announced = board.announce();
         match turn(rt, alloc, board, subject, pass, gate, steps)? {
-            TurnEnd::Worked { .. } => {}
+            TurnEnd::Worked { .. } => pace.after_turn(rt, board),
             TurnEnd::Idle => {
                 announced.wait(rt);
-                board.wait_while_short(rt);
+                pace.wait(rt, board);
             }
             TurnEnd::Closed => return Ok(()),
         }

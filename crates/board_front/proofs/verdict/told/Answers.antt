@@ -24,11 +24,11 @@ all_work-requires-send-S-Answer g c κs = param_send _ _ (arg_send _ yes _ verdi
 pub all_work-requires-sync-S-Answer : goal.all_work-requires-sync-S-Answer
 all_work-requires-sync-S-Answer g c κs = param_sync _ _ (arg_sync _ yes _ verdict_row_sync)
 
-pub wait_while_short-requires-send-S-Answer : goal.wait_while_short-requires-send-S-Answer
-wait_while_short-requires-send-S-Answer g c κs within = param_send _ _ (arg_send _ yes _ verdict_row_send)
+pub rest-requires-send-S-Answer : goal.rest-requires-send-S-Answer
+rest-requires-send-S-Answer g c κs within = param_send _ _ (arg_send _ yes _ verdict_row_send)
 
-pub wait_while_short-requires-sync-S-Answer : goal.wait_while_short-requires-sync-S-Answer
-wait_while_short-requires-sync-S-Answer g c κs within = param_sync _ _ (arg_sync _ yes _ verdict_row_sync)
+pub rest-requires-sync-S-Answer : goal.rest-requires-sync-S-Answer
+rest-requires-sync-S-Answer g c κs within = param_sync _ _ (arg_sync _ yes _ verdict_row_sync)
 
 pub returns-in-Verdict-clause-told : goal.returns-in-Verdict-clause-told
 returns-in-Verdict-clause-told g c =

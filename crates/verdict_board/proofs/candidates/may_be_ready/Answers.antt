@@ -1,10 +1,10 @@
-use Rattle.std.proofs.Common.{arith}
 use borrow.Author.Count.{below_more}
 use Rattle.verdict_board.specs.Readiness.{IsUnreadyAt}
+use Rattle.verdict_board.proofs.Parking.{none_ready_before}
 use Rattle.verdict_board.proofs.candidates.may_be_ready.Goals as goal
 
 pub loop-place-init : goal.loop-place-init
-loop-place-init g c graph kept place less = absurd (omega (arith, less))
+loop-place-init g c graph kept = none_ready_before c.args.stages.now graph (λ list. list.items) c.args.candidates.now.candidate c.args.candidates.now.parked.items kept c.begin-place.result c.begin-place.ensures
 
 pub loop-place-preserved : goal.loop-place-preserved
 loop-place-preserved g c graph kept =

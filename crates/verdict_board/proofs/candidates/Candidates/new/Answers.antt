@@ -1,4 +1,4 @@
-use Rattle.std.proofs.Common.{◌≡◌, ◌+◌, replicate, true, subst, sym, arith, rules}
+use Rattle.std.proofs.Common.{◌≡◌, ◌+◌, replicate, true, subst, sym, arith}
 use Rattle.list_laws.proofs.Writes.{AreEmpty, none_empty, more_empty}
 use Rattle.verdict_board.proofs.Parking.{all_new}
 use Rattle.verdict_board.proofs.candidates.Candidates.new.Goals as goal
@@ -16,5 +16,5 @@ returns c =
     let past = c.loop-test.false in
     let auto = c.loop.auto in
     let count : c.loop.counter ≡ c.args.count = omega (arith, past, auto) in
-    let all : c.in_ok-vec.field-0.items ≡ replicate c.args.count true = search rules in
-    all_new (λ list. list.items) c.args.count c.in_ok-vec.field-0.items c.loop.parked.items all (subst (AreEmpty (λ list. list.items) c.loop.parked.items) count c.loop.invariant)
+    let all : c.in_ok-all.field-0 ≡ replicate c.args.count true = c.in_ok-all.ensures in
+    all_new (λ list. list.items) c.args.count c.in_ok-all.field-0 c.loop.parked.items all (subst (AreEmpty (λ list. list.items) c.loop.parked.items) count c.loop.invariant)
