@@ -190,13 +190,13 @@ def levels(count):
 
 
 def folder(count, path):
-    """Files of a megabyte with theories of a few hundred declarations."""
+    """Files of a megabyte with theories of two thousand declarations: so the library stays below the most modules that it may have."""
     path.mkdir(parents=True, exist_ok=True)
     for i in range(count):
         modules = []
         size = number = 0
         while size < 1_000_000:
-            name, text = theory(f"F{i}x{number}", HEAD + values(500))
+            name, text = theory(f"F{i}x{number}", HEAD + values(2_000))
             modules.append(text + "\n")
             size += len(text) + 1
             number += 1
