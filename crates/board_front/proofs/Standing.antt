@@ -9,7 +9,7 @@ use Rattle.text_meaning.specs.Dependencies.{dependencies}
 use Rattle.board_meaning.specs.Events.{Entry, History, edit_in, log_of}
 use Rattle.board_meaning.specs.Standing.{is_edit_of, stands}
 use Rattle.board_meaning.specs.Legal.{IsLegal}
-use Rattle.board_machine_laws.proofs.Histories.{log_append}
+use Rattle.board_laws.proofs.Histories.{log_append}
 use Rattle.board_laws.proofs.Legality.{legal_front}
 use Rattle.board_laws.proofs.Following.{stands_on}
 use Rattle.link_meaning.specs.Refusals.{Refusal}

@@ -11,7 +11,7 @@ use Rattle.board_meaning.specs.Standing.{stands, IsBacked}
 use Rattle.board_meaning.specs.Machine.{IsVerdict, report_reply, answers_reply}
 use Rattle.board_meaning.specs.Legal.{IsLegal}
 use Rattle.board_meaning.specs.Points.{Reports, AsksAnswers, ReportReply, AnswersReply, Happens}
-use Rattle.board_machine_laws.proofs.Histories.{log_append, version_grows}
+use Rattle.board_laws.proofs.Histories.{log_append, version_grows}
 use Rattle.board_laws.proofs.Legality.{legal_front}
 use Rattle.board_laws.proofs.Standings.{standing_grounded}
 use Rattle.board_laws.proofs.Told.{report_tells}

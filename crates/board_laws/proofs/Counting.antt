@@ -15,7 +15,7 @@ use Rattle.board_meaning.specs.Claims.{claim_at, is_name, is_open}
 use Rattle.board_meaning.specs.Standing.{installed_claim, stands, standing_names, standing_count}
 use Rattle.board_meaning.specs.Machine.{is_by, may_call}
 use Rattle.board_meaning.specs.Legal.{MayFollow, IsLegal}
-use Rattle.board_machine_laws.proofs.Histories.{log_none}
+use Rattle.board_laws.proofs.Histories.{log_none}
 use Rattle.board_laws.proofs.Legality.{legal_more, event_install, follows_event}
 use Rattle.board_laws.proofs.Standings.{standing_grounded}
 use Rattle.board_laws.proofs.Following.{others_leave}

@@ -16,7 +16,7 @@ use Rattle.board_meaning.specs.Machine.{edit_reply, edit_event, Installed, IsIns
 use Rattle.board_meaning.specs.Legal.{IsLegal}
 use Rattle.board_laws.specs.HistoryLaws.{is_edit_call}
 use Rattle.list_laws.proofs.Places.{get_take}
-use Rattle.board_machine_laws.proofs.Histories.{log_append}
+use Rattle.board_laws.proofs.Histories.{log_append}
 use Rattle.board_laws.proofs.Legality.{follows_event, edit_event_edit, close_event, claim_event, least_is_ready, install_no_edit}
 use Rattle.board_laws.proofs.Standings.{ready_parts}
 use Rattle.board_laws.proofs.Pointing.{ending_call, by_within}

@@ -14,8 +14,8 @@ use Rattle.board_meaning.specs.Standing.{installed_claim, installed_claims, is_e
 use Rattle.board_meaning.specs.Machine.{IsInstalled, install_reply}
 use Rattle.board_meaning.specs.Legal.{IsLegal}
 use Rattle.list_laws.proofs.Places.{take_front, drop_front}
-use Rattle.board_machine_laws.proofs.Histories.{filter_map_last, edited_append}
-use Rattle.board_machine_laws.proofs.Claiming.{claim_within, claim_front, is_name_some, some_is_name, unedited_input, unedited_from, installed_unedited}
+use Rattle.board_laws.proofs.Histories.{filter_map_last, edited_append}
+use Rattle.board_laws.proofs.Claiming.{claim_within, claim_front, is_name_some, some_is_name, unedited_input, unedited_from, installed_unedited}
 use Rattle.board_laws.proofs.Standings.{Supported, stands_by, by_stands, installed_claimed, reach_now}
 use Rattle.std.proofs.Math.Bool.{or-false}
 

@@ -14,8 +14,8 @@ use Rattle.board_meaning.specs.Ready.{is_closed, is_ready, least_ready}
 use Rattle.board_meaning.specs.Machine.{edit_reply, edit_event, Installed, IsInstalled, IsStale, install_event, install_reply, Call, EditCall, ClaimCall, InstallCall, ReleaseCall, CloseCall, event_of, may_call, after_call}
 use Rattle.board_meaning.specs.Legal.{MayFollow, IsLegal, PassCall, after_calls, may_make_all}
 use Rattle.list_laws.proofs.Places.{place_within, get_front, get_last, get_more, take_front, take_length, take_more, take_past}
-use Rattle.board_machine_laws.proofs.Histories.{log_none, log_some}
-use Rattle.board_machine_laws.proofs.Claiming.{claim_entry}
+use Rattle.board_laws.proofs.Histories.{log_none, log_some}
+use Rattle.board_laws.proofs.Claiming.{claim_entry}
 use Rattle.list_laws.proofs.Options.{clash}
 
 -- ---- histories that grow

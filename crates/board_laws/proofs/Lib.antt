@@ -1,3 +1,7 @@
+pub mod Claiming
+pub mod Computed
+pub mod Earlier
+pub mod Histories
 pub mod Legality
 pub mod Standings
 pub mod Resting

@@ -12,7 +12,7 @@ use Rattle.board_meaning.specs.Events.{Event, EditMade, Claim, Install, Stale, R
 use Rattle.board_meaning.specs.Ready.{is_close, is_closed}
 use Rattle.board_meaning.specs.Legal.{IsLegal}
 use Rattle.board_meaning.specs.Points.{number_of, are_below, IsPoint}
-use Rattle.board_machine_laws.proofs.Histories.{log_append}
+use Rattle.board_laws.proofs.Histories.{log_append}
 use Rattle.board_laws.proofs.Told.{edits_were_made}
 use Rattle.board_laws.proofs.Entries.{closes_are_of_front}
 use Rattle.board_laws.proofs.Pointing.{place_of, not_same}

@@ -15,7 +15,7 @@ use Rattle.board_meaning.specs.Legal.{MayFollow, IsLegal}
 use Rattle.board_meaning.specs.Points.{entries_of, are_of_others, IsPoint, BoardCall, Makes, Reports, AsksAnswers, AsksClosed, Reply, may_ask, added_by, Happens, FindsNoMemory}
 use Rattle.board_laws.specs.PointLaws.{IsSeenAfter}
 use Rattle.list_laws.proofs.Places.{place_within, get_front, get_last, get_take, get_behind, take_front, take_length, length_take}
-use Rattle.board_machine_laws.proofs.Claiming.{claim_within, claim_front}
+use Rattle.board_laws.proofs.Claiming.{claim_within, claim_front}
 use Rattle.board_laws.proofs.Legality.{edit_event_edit, close_event, claim_event, follows_event, legal_call}
 use Rattle.list_laws.proofs.Options.{some_of}
 

@@ -16,8 +16,8 @@ use Rattle.board_meaning.specs.Standing.{installed_claim, installed_claims, is_e
 use Rattle.board_meaning.specs.Ready.{is_ready}
 use Rattle.board_meaning.specs.Legal.{IsLegal}
 use Rattle.list_laws.proofs.Places.{take_take, drop_parts, drop_here, length_take}
-use Rattle.board_machine_laws.proofs.Histories.{edited_append}
-use Rattle.board_machine_laws.proofs.Claiming.{claim_entry, claim_within, claim_front, since_claim, text_since, unedited_input, unedited_from}
+use Rattle.board_laws.proofs.Histories.{edited_append}
+use Rattle.board_laws.proofs.Claiming.{claim_entry, claim_within, claim_front, since_claim, text_since, unedited_input, unedited_from}
 use Rattle.board_laws.proofs.Legality.{legal_claim, legal_front}
 use Rattle.board_laws.proofs.Standings.{Supported, stands_by, by_stands, ready_parts, rests_on, reach_now}
 use Rattle.std.proofs.lemmas.List.Elements.{filter_map-append}

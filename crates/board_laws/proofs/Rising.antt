@@ -10,10 +10,10 @@ use Rattle.board_meaning.specs.Claims.{claim_at, ends_claim, is_ended, is_open, 
 use Rattle.board_meaning.specs.Standing.{installed_claim, is_unedited, installed_claims, stands}
 use Rattle.board_meaning.specs.Machine.{InstallCall, is_by, may_call}
 use Rattle.board_meaning.specs.Legal.{MayFollow, IsLegal}
-use Rattle.board_machine_laws.proofs.Claiming.{claim_within, installed_unedited, is_name_some}
+use Rattle.board_laws.proofs.Claiming.{claim_within, installed_unedited, is_name_some}
 use Rattle.board_laws.proofs.Legality.{legal_claim, legal_install, event_install, follows_event}
 use Rattle.board_laws.proofs.Standings.{Supported, stands_by, by_stands, ready_parts, installed_is, in_filter_map, filter_map_in}
-use Rattle.board_machine_laws.proofs.Earlier.{place_member, current, claim_before, unedited_before, open_before}
+use Rattle.board_laws.proofs.Earlier.{place_member, current, claim_before, unedited_before, open_before}
 
 module _ (dependencies : Dependencies) where
   pub stood_not : (H : History) → IsLegal dependencies H → (c : ℕ) (n : Name) → claim_at H c ≡ Some n → is_open H c ≡ true → is_unedited dependencies H c ≡ true → stands dependencies H n ≡ false

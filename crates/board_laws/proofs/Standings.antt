@@ -18,7 +18,7 @@ use Rattle.board_meaning.specs.Ready.{dependencies_stand, is_ready, is_closed}
 use Rattle.board_meaning.specs.Machine.{IsInstalled, install_reply, is_by, may_call}
 use Rattle.board_meaning.specs.Legal.{IsLegal}
 use Rattle.list_laws.proofs.Places.{place_within}
-use Rattle.board_machine_laws.proofs.Claiming.{claim_within, claim_front, is_name_some, some_is_name, agrees_since}
+use Rattle.board_laws.proofs.Claiming.{claim_within, claim_front, is_name_some, some_is_name, agrees_since}
 use Rattle.board_laws.proofs.Legality.{legal_claim, legal_install}
 use Rattle.list_laws.proofs.Options.{some_of}
 

@@ -18,8 +18,8 @@ use Rattle.board_meaning.specs.Machine.{Job, IsInstalled, IsStale, install_reply
 use Rattle.board_meaning.specs.Legal.{MayFollow, IsLegal}
 use Rattle.board_laws.specs.HistoryLaws.{log_with}
 use Rattle.board_laws.specs.StandingLaws.{IsFirstChanged, IsToldVerdict}
-use Rattle.board_machine_laws.proofs.Histories.{log_last}
-use Rattle.board_machine_laws.proofs.Claiming.{names_are, changed_later, unedited_installed, installed_unedited, installed_unchanged}
+use Rattle.board_laws.proofs.Histories.{log_last}
+use Rattle.board_laws.proofs.Claiming.{names_are, changed_later, unedited_installed, installed_unedited, installed_unchanged}
 use Rattle.board_laws.proofs.Legality.{legal_edit, event_install, follows_event, least_is_ready}
 use Rattle.board_laws.proofs.Standings.{answer_now, reach_now, ready_parts}
 use Rattle.log_laws.proofs.Libraries.{library_ascending}

@@ -1,3 +1,4 @@
+pub mod Examples
 pub mod HistoryLaws
 pub mod StandingLaws
 pub mod PointLaws

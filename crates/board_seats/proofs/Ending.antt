@@ -11,7 +11,7 @@ use Rattle.board_meaning.specs.Ready.{least_ready}
 use Rattle.board_meaning.specs.Machine.{Job, job_after, job_of, claim_reply, ClaimCall, InstallCall, entry_by, after_call}
 use Rattle.board_meaning.specs.Legal.{IsLegal}
 use Rattle.board_meaning.specs.Points.{number_of, IsPoint}
-use Rattle.board_machine_laws.proofs.Claiming.{claim_within}
+use Rattle.board_laws.proofs.Claiming.{claim_within}
 use Rattle.board_laws.proofs.Pointing.{claim_is, job_may_end, point_keeps_job, point_ends_no_claim}
 use Rattle.module_graph.specs.Subjects.{IsGiven}
 use Rattle.verdict_board.proofs.Jobs.{job_given}

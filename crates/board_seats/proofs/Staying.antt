@@ -13,7 +13,7 @@ use Rattle.board_meaning.specs.Ready.{is_closed, least_ready}
 use Rattle.board_meaning.specs.Machine.{Job, job_after, job_of, edit_reply, Installed, IsInstalled, IsStale, install_event, install_reply, Call, EditCall, ClaimCall, InstallCall, ReleaseCall, CloseCall, event_of, is_by, may_call, after_call}
 use Rattle.board_meaning.specs.Legal.{IsLegal}
 use Rattle.board_meaning.specs.Points.{number_of, BoardCall, Makes, Reports, AsksAnswers, AsksClosed, Reply, added_by}
-use Rattle.board_machine_laws.proofs.Claiming.{claim_front}
+use Rattle.board_laws.proofs.Claiming.{claim_front}
 use Rattle.board_laws.proofs.Legality.{edit_event_edit, claim_event, close_event}
 use Rattle.board_laws.proofs.Pointing.{by_within}
 use Rattle.board_laws.proofs.Passing.{joins_are_seen}

@@ -14,7 +14,7 @@ use Rattle.verdict_meaning.specs.Modules.{scope_in}
 use Rattle.verdict_meaning.specs.Rounds.{told_by}
 use Rattle.face_typing.proofs.Below.LibrariesHold.{library_coherent}
 use Rattle.face_typing.specs.Below.TypedFaces.{IsTypedEnvironment}
-use Rattle.face_typing.proofs.Below.LinksTyped.{links_are_typed}
+use Rattle.face_typing.proofs.LinksTyped.{links_are_typed}
 use Rattle.face_typing.proofs.LibrariesTyped.{faces_are_typed, known_views_carry}
 use Rattle.judged_laws.specs.CarryingLaws.{IsTranslated}
 use Rattle.judged_laws.proofs.Translated.{carry_is_translation}

@@ -14,7 +14,7 @@ use Rattle.verdict_meaning.specs.Rounds.{known_of, verdicts, told_by}
 use Rattle.acceptance_laws.proofs.Alike.{Alike, alike_back, AllNamed, flat_alike, stands_for_alike}
 use Rattle.acceptance_laws.proofs.StandsAlike.{object_alike, family_alike}
 use Rattle.face_typing.specs.Below.TypedFaces.{IsTypedEnvironment}
-use Rattle.face_typing.proofs.Below.LinksTyped.{links_are_typed}
+use Rattle.face_typing.proofs.LinksTyped.{links_are_typed}
 use Rattle.face_typing.proofs.LibrariesTyped.{closed_are_typed}
 use Rattle.judged_meaning.specs.Carrying.{CarriedTo, carry}
 use Rattle.judged_laws.specs.CarryingLaws.{IsTranslated}

@@ -8,8 +8,8 @@ use Rattle.text_meaning.specs.TextAnswers.{read}
 use Rattle.library_meaning.specs.Faces.{TheoryFace, ViewFace, IsTheory, Environment, flat_signature}
 use Rattle.expansion_meaning.specs.Rules.{Rule}
 use Rattle.link_meaning.specs.Refusals.{Outcome, demand}
-use Rattle.link_coherence_laws.proofs.Below.Covered.{good_same}
-use Rattle.link_coherence_laws.proofs.Below.Valued.{demand_holds}
+use Rattle.link_laws.proofs.Covered.{good_same}
+use Rattle.link_laws.proofs.Valued.{demand_holds}
 use Rattle.verdict_meaning.specs.Modules.{empty_theory, declare_all, checked_view}
 use Rattle.verdict_meaning.specs.Verdicts.{Interface, Theory, View, Verdict, Accepted, Refused, verdict_by, known_by, written_name, checked, judge_tree, judge_answer, judge}
 use Rattle.verdict_meaning.specs.Rounds.{verdict_of, known_to}

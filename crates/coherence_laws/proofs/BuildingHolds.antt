@@ -7,18 +7,18 @@ use Rattle.lf_meaning.specs.HeadMaps.{HeadMap}
 use Rattle.link_meaning.specs.Assignments.{Setting, Assigned, read_assigns}
 use Rattle.link_meaning.specs.Passes.{map_all}
 use Rattle.holding_laws.specs.ExpansionHolds.{scope_signature}
-use Rattle.link_coherence_laws.proofs.Below.Reading.{assigns_sound}
-use Rattle.link_coherence_laws.proofs.Onces.{once_names, hold_append, after_declarations}
-use Rattle.link_coherence_laws.proofs.ImagesHold.{SettingHolds}
-use Rattle.link_coherence_laws.proofs.AssignedHold.{items_hold}
-use Rattle.link_coherence_laws.proofs.LinksHold.{front_holds, added_all}
+use Rattle.link_laws.proofs.Reading.{assigns_sound}
+use Rattle.link_laws.proofs.Onces.{once_names, hold_append, after_declarations}
+use Rattle.link_laws.proofs.ImagesHold.{SettingHolds}
+use Rattle.link_laws.proofs.AssignedHold.{items_hold}
+use Rattle.link_laws.proofs.LinksHold.{front_holds, added_all}
 use Rattle.text_meaning.specs.Trees.{Assign, first_name}
 use Rattle.verdict_meaning.specs.Modules.{is_used, structure_setting, view_setting, declare, declare_all}
 use Rattle.coherence_laws.specs.BuildingLaws.{IsBuiltOver, BuiltScopesHold, BuiltTheoriesHold, EmptyIsBuilt, InclusionsKeepBuilt, ConstantsKeepBuilt, StructuresKeepBuilt, DeclarationsKeepBuilt, AllDeclarationsKeepBuilt, ViewsAreCoherent}
 use Rattle.coherence_laws.specs.LinksSoFar.{MapHoldsSoFar, StructuresHoldSoFar, ViewsHoldSoFar}
 use Rattle.coherence_laws.proofs.TheoriesHold.{inclusion_step, constant_step}
 use Rattle.coherence_laws.proofs.ModulesHold.{here_ok, scope_ok, Unused, unused_where, setting_ok, structure_next, declare_holds, empty_holds, view_ok, view_next}
-use Rattle.link_coherence_laws.proofs.Below.Covered.{good_same}
+use Rattle.link_laws.proofs.Covered.{good_same}
 use Rattle.list_laws.proofs.Answers.{came_by}
 
 pub built_scopes_hold : BuiltScopesHold

@@ -17,8 +17,8 @@ use Rattle.library_laws.proofs.ClosureMembers.{closure_member, closure_new, clos
 use Rattle.expansion_meaning.specs.Values.{expand_class}
 use Rattle.link_meaning.specs.Refusals.{labelled}
 use Rattle.link_meaning.specs.Passes.{link_map}
-use Rattle.link_coherence_laws.proofs.Below.Covered.{good_same}
-use Rattle.link_coherence_laws.proofs.Below.Linked.{known_theory}
+use Rattle.link_laws.proofs.Covered.{good_same}
+use Rattle.link_laws.proofs.Linked.{known_theory}
 use Rattle.text_meaning.specs.Dependencies.{Dependency, decl_dependencies, module_dependencies, answer_dependencies, dependencies}
 use Rattle.verdict_meaning.specs.Inclusions.{decl_inclusions, answer_inclusions, text_inclusions, inclusions_in, ReachesByInclusions, Directly, Through}
 use Rattle.verdict_meaning.specs.Modules.{module_test, scope_in, unused_test, declared_value, structure_setting, declare, declare_all, empty_theory}

@@ -17,8 +17,8 @@ use Rattle.library_meaning.specs.Faces.{TheoryFace, ViewFace, Known, IsAbsent, I
 use Rattle.library_meaning.specs.Coherence.{IsCoherentTheory, IsCoherentView, IsCoherent}
 use Rattle.expansion_meaning.specs.Rules.{Rule}
 use Rattle.link_meaning.specs.Refusals.{Refusal, Outcome, demand}
-use Rattle.link_coherence_laws.proofs.Below.Covered.{good_same}
-use Rattle.link_coherence_laws.proofs.Below.Valued.{demand_holds}
+use Rattle.link_laws.proofs.Covered.{good_same}
+use Rattle.link_laws.proofs.Valued.{demand_holds}
 use Rattle.text_meaning.specs.Dependencies.{Dependency, dependencies}
 use Rattle.verdict_meaning.specs.Modules.{empty_theory, declare_all, checked_view}
 use Rattle.verdict_meaning.specs.Verdicts.{Interface, Theory, View, Verdict, Accepted, Refused, verdict_by, known_by, written_name, checked, cycle_at, judge_tree, judge_answer, judge}

@@ -16,28 +16,28 @@ use Rattle.text_meaning.specs.Tokens.{Span}
 use Rattle.text_meaning.specs.Trees.{Expr, Written, Assign, Decl, IncludeDecl, StructDecl, ConstDecl, first_name}
 use Rattle.expansion_meaning.specs.Rules.{Rule}
 use Rattle.expansion_meaning.specs.Values.{expand_class, expand_value}
-use Rattle.link_coherence_laws.proofs.Below.ValuesStand.{class_sound, value_sound}
+use Rattle.link_laws.proofs.Below.ValuesStand.{class_sound, value_sound}
 use Rattle.link_meaning.specs.Refusals.{labelled, each}
 use Rattle.link_meaning.specs.Assignments.{Setting, read_assigns}
 use Rattle.link_meaning.specs.Coverings.{covered_tests}
 use Rattle.link_meaning.specs.Passes.{map_all, shared_test, assigned_map, link_map}
 use Rattle.link_meaning.specs.Induced.{with_structure}
-use Rattle.link_coherence_laws.proofs.Below.Covered.{good_same}
-use Rattle.link_coherence_laws.proofs.Below.Valued.{demand_holds, label_came}
-use Rattle.link_coherence_laws.proofs.Below.Reading.{assigns_sound}
-use Rattle.link_coherence_laws.proofs.Below.Linked.{own_named}
+use Rattle.link_laws.proofs.Covered.{good_same}
+use Rattle.link_laws.proofs.Valued.{demand_holds, label_came}
+use Rattle.link_laws.proofs.Reading.{assigns_sound}
+use Rattle.link_laws.proofs.Linked.{own_named}
 use Rattle.verdict_meaning.specs.Modules.{known_theory as theory_known, module_test, scope_in, is_used, unused_test, declared_value, structure_setting, declare, declare_all, empty_theory, view_setting, checked_view}
 use Rattle.holding_laws.specs.HoldingLaws.{Grows}
 use Rattle.holding_laws.specs.ExpansionHolds.{scope_signature, ScopeHolds}
 use Rattle.holding_laws.proofs.Expanding.{standing_class_holds, standing_value_holds}
-use Rattle.link_coherence_laws.proofs.Onces.{Once, once_names, member_grows, HoldAfter}
-use Rattle.link_coherence_laws.specs.LinkTargets.{target_of, StructuresHold, HereHolds}
-use Rattle.link_coherence_laws.specs.BetweenTheories.{IsBetweenTheories}
-use Rattle.link_coherence_laws.proofs.WordsHold.{included_members, accepted_target}
-use Rattle.link_coherence_laws.proofs.ImagesHold.{SettingHolds, between_holds}
-use Rattle.link_coherence_laws.proofs.AssignedHold.{items_hold}
-use Rattle.link_coherence_laws.proofs.LinksHold.{map_holds, added_all}
-use Rattle.link_coherence_laws.proofs.InducedHold.{nothing_added, added_is_induced, induced_members}
+use Rattle.link_laws.proofs.Onces.{Once, once_names, member_grows, HoldAfter}
+use Rattle.link_laws.specs.LinkTargets.{target_of, StructuresHold, HereHolds}
+use Rattle.link_laws.specs.BetweenTheories.{IsBetweenTheories}
+use Rattle.link_laws.proofs.WordsHold.{included_members, accepted_target}
+use Rattle.link_laws.proofs.ImagesHold.{SettingHolds, between_holds}
+use Rattle.link_laws.proofs.AssignedHold.{items_hold}
+use Rattle.link_laws.proofs.LinksHold.{map_holds, added_all}
+use Rattle.link_laws.proofs.InducedHold.{nothing_added, added_is_induced, induced_members}
 use Rattle.coherence_laws.proofs.TheoriesHold.{no_structure, here_once, here_holds, inclusion_step, constant_step, structure_step}
 use Rattle.std.proofs.lemmas.Option.{same_Some}
 use Rattle.list_laws.proofs.Options.{none_of}

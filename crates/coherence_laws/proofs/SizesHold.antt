@@ -9,7 +9,7 @@ use Rattle.coherence_laws.specs.CoherenceLaws.{SizesAreLengths, GroundedKnowSize
 use Rattle.coherence_laws.proofs.Transfer.{Extends, parts_same}
 use Rattle.coherence_laws.proofs.LibrariesHold.{extends_to, theory_shown, sound, tells_more, accepted_theory, closed_extends, grounded_short}
 use Rattle.coherence_laws.proofs.AcceptedTrees.{from_declarations, from_library}
-use Rattle.link_coherence_laws.proofs.Below.Listing.{same_length}
+use Rattle.link_laws.proofs.Listing.{same_length}
 
 -- over all that knows what the theory knows
 size_over : (library : Library) (name : Name) (face : TheoryFace) (size : ℕ) (more : Environment) → Extends (known_to library name) more

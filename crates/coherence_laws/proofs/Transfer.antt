@@ -7,7 +7,7 @@ use Rattle.name_laws.proofs.Order.{member_among}
 use Rattle.library_meaning.specs.Faces.{TheoryFace, ViewFace, IsAbsent, theory_face, Environment, theory_of, includes_of, own_of, own_part, own_parts, flat_signature, flat_of}
 use Rattle.library_meaning.specs.Closure.{sees}
 use Rattle.library_meaning.specs.Coherence.{AreTheories, IsClosure, DeclarationsHold, IsCoherentMap, IsCoherentTheory, IsCoherentView, IsCoherent}
-use Rattle.link_coherence_laws.proofs.WordsHold.{includes_theories}
+use Rattle.link_laws.proofs.WordsHold.{includes_theories}
 
 -- what is known in the first is known in the second
 abbrev pub Extends : Environment → Environment → Type 0

@@ -12,7 +12,7 @@ use Rattle.link_meaning.specs.Passes.{link_map}
 use Rattle.link_meaning.specs.Induced.{with_structure}
 use Rattle.verdict_meaning.specs.Modules.{scope_in, is_used, with_constant, structure_setting, view_setting, declare, declare_all, empty_theory}
 use Rattle.holding_laws.specs.ExpansionHolds.{ScopeHolds}
-use Rattle.link_coherence_laws.specs.LinkTargets.{HereHolds}
+use Rattle.link_laws.specs.LinkTargets.{HereHolds}
 
 -- What is known of others is coherent, nothing is known of the theory itself, and it is coherent so far.
 pub record IsBuiltOver (environment : Environment) (here : TheoryFace) : Type 0 where

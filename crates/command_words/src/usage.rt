@@ -1,6 +1,6 @@
 //! The usage line.
 ghost use Rattle.std.specs.Prelude.{◌≡◌};
-ghost use Rattle.output_meaning.specs.Printed.{usage_line};
+ghost use Rattle.printing_meaning.specs.Printed.{usage_line};
 
 /// The line that answers words that are no accepted list, its line end included.
 pub fn usage_line() -> &'static [u8]

@@ -25,7 +25,7 @@ use Rattle.holding_laws.specs.ExpansionHolds.{scope_signature}
 use Rattle.holding_laws.proofs.Declared.{class_in}
 use Rattle.holding_laws.proofs.Expanding.{scope_member}
 use Rattle.expansion_typing.specs.TypingOfExpansion.{IsTypedScope, StandingObjectChecks, StandingHeadIsTyped, TakenArgumentsAreTyped, StandingFamilyIsFamily, StandingKindIsKind, StandingClassIsClass, StandingFamilyValueIsFamily, StandingValueFits}
-use Rattle.translation_typing.proofs.Below.KindDomains.{domains_append}
+use Rattle.translation_typing.proofs.KindDomains.{domains_append}
 use Rattle.translation_typing.specs.FamilyHeads.{OnSpine, UnderBinders}
 use Rattle.translation_typing.proofs.TypedHeads.{family_whole}
 use Rattle.translation_typing.proofs.Grown.{declaration_more}

@@ -2,7 +2,7 @@
 use Rattle.std.proofs.Common.{[], ◌∷◌, subst}
 use Rattle.verdict_meaning.specs.Modules.{declare, declare_all}
 use Rattle.link_laws.proofs.Covered.{good_same}
-use Rattle.link_typing.proofs.LinkInterface.{LinksAreTyped}
+use Rattle.face_typing.proofs.LinkInterface.{LinksAreTyped}
 use Rattle.coherence_laws.proofs.BuildingHolds.{inclusions_keep_built, declarations_keep_built}
 use Rattle.face_typing.specs.BuildingTyping.{IsTypedOver, BuiltScopesAreTyped, BuiltTheoriesAreTyped, EmptyIsTyped, InclusionsKeepTyped, ConstantsKeepTyped, StructuresKeepTyped, DeclarationsKeepTyped, AllDeclarationsKeepTyped, ViewsAreTyped}
 use Rattle.face_typing.proofs.TheoriesTyped.{inclusion_typed, constant_typed}

@@ -1,4 +1,10 @@
 pub mod Below
+pub mod LinkInterface
+pub mod BetweenTyped
+pub mod Assigning
+pub mod CoveredValues
+pub mod SharedValues
+pub mod LinksTyped
 pub mod TypedAfter
 pub mod TheoriesTyped
 pub mod ModulesTyped

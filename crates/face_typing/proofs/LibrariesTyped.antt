@@ -26,13 +26,13 @@ use Rattle.verdict_laws.proofs.Verdicts.{verdict_is_judged}
 use Rattle.coherence_laws.specs.CoherenceLaws.{AreClosed}
 use Rattle.coherence_laws.proofs.ModulesHold.{empty_holds}
 use Rattle.coherence_laws.proofs.LibrariesHold.{cycle_refuses, absent_reach, others_not, extends_to, itself_absent, told, theory_shown, view_shown, Sound, verdict_text, verdict_reached, sound, tells_more, accepted_theory, accepted_view, library_coherent, listed, closed_extends, grounded_short}
-use Rattle.link_typing.specs.Below.TypedFaces.{IsTypedTheory, IsTypedView, IsTypedEnvironment}
+use Rattle.face_typing.specs.Below.TypedFaces.{IsTypedTheory, IsTypedView, IsTypedEnvironment}
 use Rattle.face_typing.specs.FaceTypingLaws.{FacesAreTyped, TheoriesFlatten, ViewsCarryTyping, StructuresCarryTyping, GroundedKnowTyped, ClosedAreTyped, KnownViewsTranslate, KnownStructuresTranslate, KnownViewsCarryTyping, KnownStructuresCarryTyping}
 use Rattle.face_typing.specs.JudgedTyping.{JudgedTheoriesAreTyped, JudgedViewsAreTyped}
-use Rattle.link_typing.proofs.LinkInterface.{LinksAreTyped}
+use Rattle.face_typing.proofs.LinkInterface.{LinksAreTyped}
 use Rattle.face_typing.proofs.ModulesTyped.{declare_all_typed, empty_typed, view_typed}
 use Rattle.face_typing.proofs.TypingTransfers.{theory_typing_transfers, view_typing_transfers}
-use Rattle.link_typing.proofs.Below.ProperImages.{images_proper}
+use Rattle.face_typing.proofs.Below.ProperImages.{images_proper}
 use Rattle.std.proofs.lemmas.Option.{same_Some}
 use Rattle.name_laws.proofs.Order.{same_sound}
 use Rattle.list_laws.proofs.Answers.{came_by}

@@ -8,7 +8,7 @@ use Rattle.translation_meaning.specs.TypedMaps.{IsTypedMap}
 use Rattle.translation_typing.specs.TypedTranslation.{IsTypedTranslation}
 use Rattle.translation_typing.proofs.Laws.{typing_is_carried}
 use Rattle.translation_typing.proofs.Proper.{proper_atomic_over}
-use Rattle.link_typing.proofs.Below.ProperImages.{images_proper}
+use Rattle.face_typing.proofs.Below.ProperImages.{images_proper}
 use Rattle.face_typing.specs.CarryingMaps.{CarriesTyping, TypedTheoriesFlatten, TypedViewsCarry}
 use Rattle.face_typing.proofs.LibrariesTyped.{flat_typed}
 

@@ -11,22 +11,22 @@ use Rattle.library_meaning.specs.Coherence.{IsCoherentTheory, IsCoherent}
 use Rattle.text_meaning.specs.Trees.{Expr, Written, Assign, Decl, IncludeDecl, StructDecl, ConstDecl, first_name}
 use Rattle.expansion_meaning.specs.Values.{expand_class, expand_value}
 use Rattle.expansion_laws.proofs.ValuesStand.{class_sound, value_sound}
-use Rattle.link_typing.specs.Below.TypingOfExpansion.{IsTypedScope}
-use Rattle.link_typing.proofs.Below.Expanding.{standing_class_is_class, standing_value_fits}
+use Rattle.face_typing.specs.Below.TypingOfExpansion.{IsTypedScope}
+use Rattle.face_typing.proofs.Below.Expanding.{standing_class_is_class, standing_value_fits}
 use Rattle.link_meaning.specs.Refusals.{labelled}
 use Rattle.link_meaning.specs.Passes.{link_map}
 use Rattle.link_meaning.specs.Induced.{induced, with_structure}
 use Rattle.link_laws.proofs.Covered.{good_same}
 use Rattle.link_laws.proofs.Valued.{label_came}
 use Rattle.verdict_meaning.specs.Modules.{module_test, scope_in, unused_test, declared_value, structure_setting, declare, declare_all, empty_theory, view_setting, checked_view}
-use Rattle.link_typing.proofs.Below.LinksHold.{added_all}
-use Rattle.link_typing.proofs.Below.InducedHold.{added_is_induced}
+use Rattle.face_typing.proofs.Below.LinksHold.{added_all}
+use Rattle.face_typing.proofs.Below.InducedHold.{added_is_induced}
 use Rattle.coherence_laws.proofs.TheoriesHold.{inclusion_step}
 use Rattle.coherence_laws.proofs.ModulesHold.{known_by_test, theory_there, unused_by, link_holds, scope_ok, setting_ok, declare_holds, view_is_between}
-use Rattle.link_typing.specs.Below.TypedFaces.{IsTypedTheory, IsTypedView, IsTypedEnvironment}
-use Rattle.link_typing.specs.Below.TypedLinks.{HereTyped}
-use Rattle.link_typing.proofs.LinkInterface.{LinksAreTyped}
-use Rattle.link_typing.proofs.BetweenTyped.{between_typed}
+use Rattle.face_typing.specs.Below.TypedFaces.{IsTypedTheory, IsTypedView, IsTypedEnvironment}
+use Rattle.face_typing.specs.Below.TypedLinks.{HereTyped}
+use Rattle.face_typing.proofs.LinkInterface.{LinksAreTyped}
+use Rattle.face_typing.proofs.BetweenTyped.{between_typed}
 use Rattle.face_typing.proofs.TheoriesTyped.{inclusion_typed, constant_typed, structure_typed}
 use Rattle.std.proofs.lemmas.Option.{same_Some}
 use Rattle.list_laws.proofs.Answers.{came_by}

@@ -17,10 +17,10 @@ use Rattle.link_meaning.specs.Induced.{induced, with_structure}
 use Rattle.verdict_meaning.specs.Modules.{with_constant, structure_setting}
 use Rattle.holding_laws.specs.HoldingLaws.{Grows}
 use Rattle.holding_laws.proofs.Declared.{front_grows}
-use Rattle.link_typing.proofs.Below.Onces.{Once, once_left, member_grows}
+use Rattle.face_typing.proofs.Below.Onces.{Once, once_left, member_grows}
 use Rattle.coherence_laws.proofs.TheoriesHold.{here_once}
-use Rattle.link_typing.specs.Below.TypedFaces.{copies_of, HaveFittingImages, IsPlaced, IsTypedTheory, IsTypedEnvironment}
-use Rattle.link_typing.proofs.Below.Grown.{typed_map_more}
+use Rattle.face_typing.specs.Below.TypedFaces.{copies_of, HaveFittingImages, IsPlaced, IsTypedTheory, IsTypedEnvironment}
+use Rattle.face_typing.proofs.Below.Grown.{typed_map_more}
 use Rattle.face_typing.proofs.TypedAfter.{signature_after, after_signature, typed_more, images_more, closure_typed}
 
 module _ (environment : Environment) (coherent : IsCoherent environment) (typed : IsTypedEnvironment environment) where

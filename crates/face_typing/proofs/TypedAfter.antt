@@ -14,9 +14,9 @@ use Rattle.library_meaning.specs.Closure.{sees}
 use Rattle.library_meaning.specs.Coherence.{IsClosure, IsCoherent}
 use Rattle.link_laws.proofs.Linked.{known_theory}
 use Rattle.holding_laws.specs.HoldingLaws.{Grows}
-use Rattle.link_typing.proofs.Below.Onces.{Once, once_left, member_grows, closure_once, parts_joined}
-use Rattle.link_typing.specs.Below.TypedFaces.{HaveFittingImages, IsTypedEnvironment}
-use Rattle.link_typing.proofs.Below.Grown.{fits_more, declaration_more}
+use Rattle.face_typing.proofs.Below.Onces.{Once, once_left, member_grows, closure_once, parts_joined}
+use Rattle.face_typing.specs.Below.TypedFaces.{HaveFittingImages, IsTypedEnvironment}
+use Rattle.face_typing.proofs.Below.Grown.{fits_more, declaration_more}
 
 abbrev pub TypedAfter : Signature → Signature → Type 0
 TypedAfter before [] = ⊤

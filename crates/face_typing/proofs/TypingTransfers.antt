@@ -5,9 +5,9 @@ use Rattle.lf_meaning.specs.Judgements.{IsSignature}
 use Rattle.translation_meaning.specs.TypedMaps.{IsTypedMap}
 use Rattle.library_meaning.specs.Faces.{StructureFace, TheoryFace, ViewFace, Environment, theory_of, includes_of, own_of, own_parts, flat_signature, flat_of}
 use Rattle.library_meaning.specs.Coherence.{IsCoherentTheory, IsCoherentView, IsCoherent}
-use Rattle.link_typing.proofs.Below.WordsHold.{includes_theories}
+use Rattle.face_typing.proofs.Below.WordsHold.{includes_theories}
 use Rattle.coherence_laws.proofs.Transfer.{Extends, theory_same, parts_same, flat_same}
-use Rattle.link_typing.specs.Below.TypedFaces.{copy_of, HaveFittingImages, IsPlaced, IsTypedTheory, IsTypedView}
+use Rattle.face_typing.specs.Below.TypedFaces.{copy_of, HaveFittingImages, IsPlaced, IsTypedTheory, IsTypedView}
 
 module _ (environment more : Environment) (coherent : IsCoherent environment) (extends : Extends environment more) where
   module _ (name : Name) (face : TheoryFace) (c : IsCoherentTheory environment name face) where

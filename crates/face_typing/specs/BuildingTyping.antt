@@ -14,9 +14,9 @@ use Rattle.link_meaning.specs.Passes.{link_map}
 use Rattle.link_meaning.specs.Induced.{with_structure}
 use Rattle.verdict_meaning.specs.Modules.{scope_in, with_constant, structure_setting, view_setting, declare, declare_all, empty_theory}
 use Rattle.coherence_laws.specs.BuildingLaws.{IsBuiltOver}
-use Rattle.link_typing.specs.Below.TypingOfExpansion.{IsTypedScope}
-use Rattle.link_typing.specs.Below.TypedFaces.{IsTypedTheory, IsTypedEnvironment}
-use Rattle.link_typing.specs.Below.TypedLinks.{HereTyped}
+use Rattle.face_typing.specs.Below.TypingOfExpansion.{IsTypedScope}
+use Rattle.face_typing.specs.Below.TypedFaces.{IsTypedTheory, IsTypedEnvironment}
+use Rattle.face_typing.specs.Below.TypedLinks.{HereTyped}
 
 -- What is known of others is well typed, and the theory is so far; both are coherent.
 pub record IsTypedOver (environment : Environment) (here : TheoryFace) : Type 0 where

@@ -10,7 +10,7 @@ use Rattle.translation_meaning.specs.TypedMaps.{IsTypedMap}
 use Rattle.translation_typing.specs.TypedTranslation.{translate_context}
 use Rattle.library_meaning.specs.Faces.{StructureFace, TheoryFace, ViewFace, Environment, flat_signature, flat_of}
 use Rattle.library_meaning.specs.Coherence.{IsCoherentTheory, IsCoherentView}
-use Rattle.link_typing.specs.Below.TypedFaces.{IsTypedTheory, IsTypedView, IsTypedEnvironment}
+use Rattle.face_typing.specs.Below.TypedFaces.{IsTypedTheory, IsTypedView, IsTypedEnvironment}
 
 -- The map is typed, and carries each typing judgement over the first signature to one over the second.
 pub record CarriesTyping (from to : Signature) (along : HeadMap) : Type 0 where

@@ -13,7 +13,7 @@ use Rattle.walk_meaning.specs.Walks.{is_grounded}
 use Rattle.text_meaning.specs.Dependencies.{dependencies}
 use Rattle.verdict_meaning.specs.Rounds.{known_of, verdicts, told_by, known_to}
 use Rattle.coherence_laws.specs.CoherenceLaws.{AreClosed}
-use Rattle.link_typing.specs.Below.TypedFaces.{IsTypedEnvironment}
+use Rattle.face_typing.specs.Below.TypedFaces.{IsTypedEnvironment}
 
 -- The faces of all accepted modules of a library are well typed.
 abbrev pub FacesAreTyped : Type 0

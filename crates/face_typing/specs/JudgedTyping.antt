@@ -5,7 +5,7 @@ use Rattle.name_meaning.specs.Names.{Name, Text}
 use Rattle.library_meaning.specs.Faces.{TheoryFace, ViewFace, IsAbsent, Environment}
 use Rattle.library_meaning.specs.Coherence.{IsCoherent}
 use Rattle.verdict_meaning.specs.Verdicts.{Theory, View, Accepted, judge}
-use Rattle.link_typing.specs.Below.TypedFaces.{IsTypedTheory, IsTypedView, IsTypedEnvironment}
+use Rattle.face_typing.specs.Below.TypedFaces.{IsTypedTheory, IsTypedView, IsTypedEnvironment}
 
 -- A text that is accepted as a theory has a well-typed face, whichever names are ungrounded.
 abbrev pub JudgedTheoriesAreTyped : Type 0

@@ -1,4 +1,5 @@
 pub mod Below
+pub mod TypedMapsOfLinks
 pub mod FaceTypingLaws
 pub mod JudgedTyping
 pub mod BuildingTyping

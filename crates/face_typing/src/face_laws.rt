@@ -1,6 +1,6 @@
 //! Accepted theories flatten to well-typed signatures, and accepted views and structures carry typing.
 
-ghost use Rattle.link_typing.specs.Below.TypedLinks.{CoherentMapsAreProper};
+ghost use Rattle.face_typing.specs.Below.TypedLinks.{CoherentMapsAreProper};
 ghost use Rattle.face_typing.specs.FaceTypingLaws.{FacesAreTyped, GroundedKnowTyped, ClosedAreTyped, KnownViewsTranslate, KnownStructuresTranslate, KnownViewsCarryTyping, KnownStructuresCarryTyping, TheoriesFlatten, ViewsCarryTyping, StructuresCarryTyping};
 ghost use Rattle.face_typing.specs.BuildingTyping.{BuiltScopesAreTyped, BuiltTheoriesAreTyped, EmptyIsTyped, InclusionsKeepTyped, ConstantsKeepTyped, StructuresKeepTyped, DeclarationsKeepTyped, AllDeclarationsKeepTyped, ViewsAreTyped};
 ghost use Rattle.face_typing.specs.JudgedTyping.{JudgedTheoriesAreTyped, JudgedViewsAreTyped};

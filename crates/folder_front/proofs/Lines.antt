@@ -13,7 +13,7 @@ use Rattle.printing_meaning.specs.FolderLines as lines
 use Rattle.printing_meaning.specs.FolderLines.{place_in_file}
 use Rattle.run_meaning.specs.Judging.{environment_of}
 use Rattle.run_meaning.specs.Files.{Damaged, Origin}
-use Rattle.output_meaning.specs.Printed.{absent_line}
+use Rattle.printing_meaning.specs.Printed.{absent_line}
 use Rattle.run_meaning.specs.Folders.{damaged_line, is_refused, loaded_line}
 use Rattle.judged_meaning.specs.JudgingByRules.{judged_by, judged_if, printed_refusal, rules}
 use Rattle.mmt_syntax.specs.declared.origin.Origin as shown

@@ -4,7 +4,7 @@ use Rattle.name_meaning.specs.Names.{Name, Text}
 use Rattle.name_meaning.specs.Rows.{Rows, row_of, with_row}
 use Rattle.log_meaning.specs.Log.{Log, library_of, names_of, text_of, version_of}
 use Rattle.text_meaning.specs.Dependencies.{dependencies}
-use Rattle.output_meaning.specs.Printed.{absent_line}
+use Rattle.printing_meaning.specs.Printed.{absent_line}
 use Rattle.printing_meaning.specs.VerdictLines.{judged_line}
 use Rattle.printing_meaning.specs.FolderLines.{files_line}
 use Rattle.run_meaning.specs.Judging.{environment_of}

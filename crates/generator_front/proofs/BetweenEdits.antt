@@ -6,7 +6,7 @@ use Rattle.walk_meaning.specs.Walks.{Dependencies, is_grounded}
 use Rattle.board_meaning.specs.Events.{Entry, History, edit_in, log_of}
 use Rattle.board_meaning.specs.Standing.{is_edit_of}
 use Rattle.board_meaning.specs.Legal.{IsLegal}
-use Rattle.board_machine_laws.proofs.Histories.{log_none}
+use Rattle.board_laws.proofs.Histories.{log_none}
 use Rattle.board_laws.proofs.Legality.{legal_front}
 use Rattle.board_laws.proofs.Following.{stands_on}
 use Rattle.install_laws.specs.InstallLaws.{AllStand, StandBetween}

@@ -12,7 +12,7 @@ use Rattle.text_meaning.specs.Dependencies.{dependencies}
 use Rattle.board_meaning.specs.Events.{History, log_of}
 use Rattle.board_meaning.specs.Legal.{IsLegal}
 use Rattle.board_meaning.specs.Standing.{installs}
-use Rattle.board_machine_laws.proofs.Histories.{log_append}
+use Rattle.board_laws.proofs.Histories.{log_append}
 use Rattle.run_meaning.specs.Backing.{AreBacked}
 use Rattle.run_meaning.specs.Parts.{told_of_all}
 use Rattle.run_meaning.specs.Generator.{asked_after, generated, generator_told, grounded_names, installs_of}

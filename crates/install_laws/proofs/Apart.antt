@@ -12,7 +12,7 @@ use Rattle.name_laws.proofs.Order.{member_among}
 use Rattle.board_meaning.specs.Events.{Event, Entry, History, edit_in, library_after, log_of}
 use Rattle.board_meaning.specs.Standing.{installed_claim, installed_claims, installs, standing_count, stands}
 use Rattle.board_meaning.specs.Legal.{IsLegal}
-use Rattle.board_machine_laws.proofs.Histories.{log_some, log_none}
+use Rattle.board_laws.proofs.Histories.{log_some, log_none}
 use Rattle.board_laws.proofs.Counting.{filter_same, install_raises_count, others_keep_count}
 use Rattle.board_laws.proofs.Legality.{legal_front, legal_last}
 use Rattle.board_laws.proofs.Standings.{installed_is, standing_grounded}

@@ -12,7 +12,7 @@ use Rattle.name_laws.proofs.Order.{same_sound}
 use Rattle.board_meaning.specs.Events.{EditMade, Entry, History, edit_of, log_of, library_after}
 use Rattle.board_meaning.specs.Standing.{stands, standing_count}
 use Rattle.board_meaning.specs.Legal.{IsLegal}
-use Rattle.board_machine_laws.proofs.Histories.{log_some}
+use Rattle.board_laws.proofs.Histories.{log_some}
 use Rattle.board_laws.proofs.Standings.{standing_grounded}
 use Rattle.board_laws.proofs.Told.{edit_leaves_told}
 use Rattle.board_laws.proofs.Counting.{filter_same}

@@ -9,7 +9,7 @@ use Rattle.list_laws.proofs.Places.{get_last, take_front, take_length}
 use Rattle.board_meaning.specs.Events.{Event, EditMade, Claim, Install, Stale, Release, Close, Entry, History, edit_of, edit_in, log_of, library_after, version_after}
 use Rattle.board_meaning.specs.Standing.{installed_claim, installed_claims, supports, stands, standing_count, installs}
 use Rattle.board_meaning.specs.Legal.{IsLegal}
-use Rattle.board_machine_laws.proofs.Histories.{log_none, log_some, log_append}
+use Rattle.board_laws.proofs.Histories.{log_none, log_some, log_append}
 use Rattle.board_laws.proofs.Legality.{legal_front, legal_last}
 use Rattle.board_laws.proofs.Standings.{installed_is}
 use Rattle.board_laws.proofs.Following.{installs_last}

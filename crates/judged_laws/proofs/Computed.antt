@@ -28,8 +28,8 @@ use Rattle.verdict_meaning.specs.Verdicts.{judge}
 use Rattle.verdict_meaning.specs.Rounds.{verdict_under, others_reached, rounds, verdicts, verdict_of}
 use Rattle.std.specs.Fmt.{digits}
 use lib.Utf8.{encode}
-use Rattle.output_meaning.specs.Lines.{lines_of}
-use Rattle.output_meaning.specs.ScriptLines.{text_before, behind_end}
+use Rattle.printing_meaning.specs.Lines.{lines_of}
+use Rattle.printing_meaning.specs.ScriptLines.{text_before, behind_end}
 use Rattle.log_meaning.specs.Append.{append_answer, appended, appended_all}
 use Rattle.text_meaning.specs.Dividing.{divide_on, divide}
 use Rattle.printing_meaning.specs.Prefixes.{marks, free_from, prefix_of}

@@ -18,7 +18,7 @@ use Rattle.holding_laws.specs.ExpansionHolds.{ScopeHolds}
 use Rattle.holding_laws.proofs.Expanding.{standing_object_holds, standing_family_holds}
 use Rattle.holding_laws.proofs.Translating.{coherent_maps_into}
 use Rattle.library_meaning.specs.Holding.{FamilyHolds}
-use Rattle.link_coherence_laws.proofs.Scopes.{theory_scopes_hold}
+use Rattle.link_laws.proofs.Scopes.{theory_scopes_hold}
 use Rattle.verdict_meaning.specs.Modules.{scope_in}
 use Rattle.translation_meaning.specs.Unmapped.{unmapped_object, unmapped_family}
 use Rattle.judged_meaning.specs.Carrying.{NoSuchView, carried_object, carried_family, carried_over, carried_text, carried_along, carry}

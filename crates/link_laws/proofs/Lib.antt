@@ -1,4 +1,13 @@
 pub mod Below
+pub mod Onces
+pub mod WordsHold
+pub mod ImagesHold
+pub mod AssignedHold
+pub mod LinksHold
+pub mod InducedHold
+pub mod Rows
+pub mod Scopes
+pub mod InducedPlaces
 pub mod Agreeing
 pub mod Covered
 pub mod Following

@@ -2,7 +2,7 @@
 use Rattle.std.proofs.Common.{◌≡◌, ℕ, Bool, true, List, sym, subst}
 use Rattle.std.specs.Prelude.{Option}
 use Rattle.mmt_outside.specs.Bytes.{Taken}
-use Rattle.output_meaning.specs.Printed.{bad_line, unended_line, usage_line}
+use Rattle.printing_meaning.specs.Printed.{bad_line, unended_line, usage_line}
 use Rattle.script_reader.specs.declared.fault.ScriptFault.{ScriptFault as Fault}
 use Rattle.script_reader.specs.declared.fault.ScriptFault.TheVariants.{Bad, Unended, Failed, Spent, Memory as OutOfMemory}
 use Rattle.run_status.specs.Taking.{TookOn}

@@ -5,9 +5,9 @@ use Rattle.list_laws.proofs.Lists.{first_same}
 use Rattle.list_laws.proofs.Places.{length_take}
 use Rattle.mmt_outside.specs.Bytes.{Taken, TookPrefix, appended}
 use Rattle.mmt_outside.proofs.Bytes.{TookPrefix-append}
-use Rattle.output_meaning.specs.Lines.{lines_of}
-use Rattle.output_meaning.specs.Printed.{bad_line, unended_line}
-use Rattle.output_meaning.specs.ScriptLines.{line_after}
+use Rattle.printing_meaning.specs.Lines.{lines_of}
+use Rattle.printing_meaning.specs.Printed.{bad_line, unended_line}
+use Rattle.printing_meaning.specs.ScriptLines.{line_after}
 use Rattle.log_meaning.specs.Log.{Log}
 use Rattle.text_meaning.specs.Dependencies.{dependencies}
 use Rattle.board_meaning.specs.Events.{History, log_of}

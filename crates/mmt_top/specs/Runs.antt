@@ -3,7 +3,7 @@ use Rattle.std.specs.Prelude.{◌≡◌, ◌≤◌, ℕ, Bool, true, false, List
 use Rattle.mmt_outside.specs.Bytes.{Taken, appended, flushed, ReadPrefix, TookPrefix}
 use Rattle.mmt_outside.specs.Faults.{Rose}
 use Rattle.mmt_outside.specs.Files.{Files}
-use Rattle.output_meaning.specs.Printed.{usage_line}
+use Rattle.printing_meaning.specs.Printed.{usage_line}
 use Rattle.run_meaning.specs.ScriptItems.{script_of}
 use Rattle.run_meaning.specs.ScriptOutput.{has_fault}
 use Rattle.word_list_meaning.specs.WordLists.{Task, Play, CheckFolder, Generate, Run}

@@ -2,8 +2,8 @@
 use Rattle.std.specs.Prelude.{◌≡◌, ◌<◌, ◌≤◌, ◌-◌, ℕ, Bool, true, false, List, [], ◌∷◌, ◌++◌, length, map, IfSome, IsSome, Option, Some, None}
 use Rattle.mmt_outside.specs.Bytes.{Taken, appended, flushed, ReadPrefix, TookPrefix}
 use Rattle.mmt_outside.specs.Faults.{Rose}
-use Rattle.output_meaning.specs.Lines.{lines_of}
-use Rattle.output_meaning.specs.Printed.{bad_line, unended_line}
+use Rattle.printing_meaning.specs.Lines.{lines_of}
+use Rattle.printing_meaning.specs.Printed.{bad_line, unended_line}
 use Rattle.log_meaning.specs.Log.{Log}
 use Rattle.text_meaning.specs.Dependencies.{dependencies}
 use Rattle.board_meaning.specs.Events.{History, log_of}

@@ -1,7 +1,7 @@
 -- The lines of carried judgements (this profile).
 use Rattle.std.specs.Prelude.{ℕ, suc, List, ◌++◌, codes}
 use Rattle.std.specs.Fmt.{decimal}
-use Rattle.output_meaning.specs.Printed.{end_of_line, named_at}
+use Rattle.printing_meaning.specs.Printed.{end_of_line, named_at}
 use Rattle.name_meaning.specs.Names.{Name}
 use Rattle.lf_meaning.specs.Terms.{Object, Family}
 use Rattle.printing_meaning.specs.Constants.{Seen}

@@ -1,7 +1,7 @@
 -- The lines of edits and of the log (this profile).
 use Rattle.std.specs.Prelude.{ℕ, suc, List, [], ◌∷◌, ◌++◌, length, codes}
 use Rattle.std.specs.Fmt.{decimal}
-use Rattle.output_meaning.specs.Printed.{end_of_line}
+use Rattle.printing_meaning.specs.Printed.{end_of_line}
 use Rattle.name_meaning.specs.Names.{Name}
 use Rattle.log_meaning.specs.Log.{Edit, Put, Drop, edited_name, Log, version_of}
 use Rattle.log_meaning.specs.Append.{Edited, Made, Same, Absent, Full, TooLong, TooMany, append_answer, appended}

@@ -1,7 +1,7 @@
 -- The lines of a checked folder (this profile).
 use Rattle.std.specs.Prelude.{ℕ, List, [], ◌++◌, Option, Some, None, codes}
 use Rattle.std.specs.Fmt.{decimal}
-use Rattle.output_meaning.specs.Printed.{end_of_line}
+use Rattle.printing_meaning.specs.Printed.{end_of_line}
 use Rattle.name_meaning.specs.Names.{Name}
 use Rattle.printing_meaning.specs.VerdictLines.{place_text}
 

@@ -1,7 +1,7 @@
 -- The two lines of the generator (this profile).
 use Rattle.std.specs.Prelude.{ℕ, List, ◌++◌, codes}
 use Rattle.std.specs.Fmt.{decimal}
-use Rattle.output_meaning.specs.Printed.{end_of_line}
+use Rattle.printing_meaning.specs.Printed.{end_of_line}
 
 -- What the generator counts: its modules and edits, the version of the log, and of the last library the accepted and
 -- the refused modules, and the declarations of the accepted ones.

@@ -1,3 +1,6 @@
+pub mod Lines
+pub mod Printed
+pub mod ScriptLines
 pub mod Numbers
 pub mod Prefixes
 pub mod Constants

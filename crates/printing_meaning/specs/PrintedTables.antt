@@ -1,7 +1,7 @@
 -- The flat text of theories and of views (this profile).
 use Rattle.std.specs.Prelude.{ℕ, List, [], ◌++◌, length, flat_map, Option, Some, None, codes}
 use Rattle.std.specs.Fmt.{decimal}
-use Rattle.output_meaning.specs.Printed.{end_of_line, named_at}
+use Rattle.printing_meaning.specs.Printed.{end_of_line, named_at}
 use Rattle.name_meaning.specs.Names.{Name}
 use Rattle.lf_meaning.specs.Signatures.{Value, Declaration}
 use Rattle.lf_meaning.specs.HeadMaps.{Mapping}

@@ -1,7 +1,7 @@
 -- The lines of verdicts (this profile).
 use Rattle.std.specs.Prelude.{ℕ, List, ◌++◌, length, codes}
 use Rattle.std.specs.Fmt.{decimal}
-use Rattle.output_meaning.specs.Printed.{end_of_line, named_at}
+use Rattle.printing_meaning.specs.Printed.{end_of_line, named_at}
 use Rattle.text_meaning.specs.Places.{line_at, column_at}
 use Rattle.name_meaning.specs.Names.{Name, Path}
 use Rattle.library_meaning.specs.Faces.{TheoryFace, ViewFace, Known, IsRefused, IsTheory, IsView, Environment, flat_signature, flat_of}

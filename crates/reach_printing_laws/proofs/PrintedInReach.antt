@@ -6,7 +6,7 @@ use Rattle.name_meaning.specs.Names.{Name}
 use Rattle.log_meaning.specs.Log.{Library}
 use Rattle.lf_meaning.specs.Signatures.{Signature}
 use Rattle.library_meaning.specs.Faces.{TheoryFace, ViewFace, Environment, IsTheory, IsView, theory_face, includes_of, own_of, own_part, own_parts, flat_of, flat_signature}
-use Rattle.output_meaning.specs.Printed.{end_of_line, named_at}
+use Rattle.printing_meaning.specs.Printed.{end_of_line, named_at}
 use Rattle.verdict_meaning.specs.Rounds.{known_of, verdicts, told_by}
 use Rattle.printing_meaning.specs.Constants.{Seen}
 use Rattle.printing_meaning.specs.Prefixes.{prefix_of}

@@ -10,11 +10,11 @@ use Rattle.text_meaning.specs.TextAnswers.{answer_to, read}
 use Rattle.reading_laws.specs.AnswerLaws.{TokensHaveOneAnswer, EachTextHasOneReading, TextsSpellOneTree}
 use Rattle.token_laws.proofs.CutFollows.{or_front, or_back}
 use Rattle.token_laws.proofs.OneCut.{one_cut}
-use Rattle.text_laws.proofs.Runs.{levels-append}
-use Rattle.text_laws.proofs.Spelled.{spelled_reads, trees_are_determined}
-use Rattle.text_laws.proofs.Fits.{Fits}
-use Rattle.text_laws.proofs.Sound.{step_fits, run_fits, start_fits, read_spelled}
-use Rattle.text_laws.proofs.Completes.{Alive, step_lives, start_alive, refused_run}
+use Rattle.reading_laws.proofs.Runs.{levels-append}
+use Rattle.reading_laws.proofs.Spelled.{spelled_reads, trees_are_determined}
+use Rattle.reading_laws.proofs.Fits.{Fits}
+use Rattle.reading_laws.proofs.Sound.{step_fits, run_fits, start_fits, read_spelled}
+use Rattle.reading_laws.proofs.Completes.{Alive, step_lives, start_alive, refused_run}
 use Rattle.reading_laws.proofs.Stopping.{end_steps, begins_if, begins_only, run-snoc, goes_if, goes_only, lives_on, alive_at, left_out_if, left_out_only}
 
 -- ---- nestings

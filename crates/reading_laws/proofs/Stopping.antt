@@ -7,11 +7,11 @@ use Rattle.text_meaning.specs.Nesting.{Nesting}
 use Rattle.text_meaning.specs.Reading.{Target, Tree, Spells, nesting, Begins, GoesOn, IsLeftOut, other_word, inner_module, bare_binder}
 use Rattle.text_meaning.specs.Reading as reading
 use Rattle.text_meaning.specs.Parsing.{Atoms, NoAtoms, SomeAtoms, Row, Curly, Square, ClassOf, ValueOf, ValueFor, ObjectOf, FamilyOf, Waiting, Ends, InParens, InDomain, InBody, InCodomain, State, Refused, Whole, Expect, ExpectName, ExpectPath, MoreWords, AtModule, AtDecl, AfterDomain, AtAssign, AtOperand, AtVariable, AfterVariable, code, resume, step, run, levels, is_refused, takes_include, is_bare_binder, is_left_out, start}
-use Rattle.text_laws.proofs.Runs.{run-append, levels-append, length-levels}
-use Rattle.text_laws.proofs.Spelled.{spelled_reads}
-use Rattle.text_laws.proofs.Fits.{Fits}
-use Rattle.text_laws.proofs.Sound.{code_injective, run_fits, read_spelled}
-use Rattle.text_laws.proofs.Completes.{is_whole, expect_ok, Alive, Lives, start_alive, run_lives, refused_run, completes}
+use Rattle.reading_laws.proofs.Runs.{run-append, levels-append, length-levels}
+use Rattle.reading_laws.proofs.Spelled.{spelled_reads}
+use Rattle.reading_laws.proofs.Fits.{Fits}
+use Rattle.reading_laws.proofs.Sound.{code_injective, run_fits, read_spelled}
+use Rattle.reading_laws.proofs.Completes.{is_whole, expect_ok, Alive, Lives, start_alive, run_lives, refused_run, completes}
 
 -- ---- the end of the input
 

@@ -1,2 +1,4 @@
+-- What tokens and texts spell.
+pub mod ReadingLaws
 pub mod AnswerLaws
 pub mod ReadingExamples

@@ -1,7 +1,7 @@
 -- Why a file was not loaded, and the line of a file whose place is counted already (this profile).
 use Rattle.std.specs.Prelude.{ℕ, List, ◌++◌, codes}
 use Rattle.std.specs.Fmt.{decimal}
-use Rattle.output_meaning.specs.Printed.{end_of_line}
+use Rattle.printing_meaning.specs.Printed.{end_of_line}
 use Rattle.printing_meaning.specs.FolderLines as lines
 use Rattle.mmt_syntax.specs.declared.file_fault.FileWord.{FileWord}
 use Rattle.mmt_syntax.specs.declared.file_fault.FileWord.TheVariants.{TooLong, Syntax, Unsupported, DuplicateName, TooMany, Full}

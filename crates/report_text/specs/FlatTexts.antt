@@ -1,6 +1,6 @@
 -- The flat text of what is known of a module, and the line of a constant's image (this profile).
 use Rattle.std.specs.Prelude.{ℕ, List, [], ◌++◌, ⊤, codes}
-use Rattle.output_meaning.specs.Printed.{end_of_line}
+use Rattle.printing_meaning.specs.Printed.{end_of_line}
 use Rattle.name_meaning.specs.Names.{Name}
 use Rattle.lf_meaning.specs.Terms.{Constant}
 use Rattle.lf_meaning.specs.Signatures.{Value}

@@ -4,7 +4,7 @@ use Rattle.std.specs.Fmt.{decimal}
 use Rattle.name_meaning.specs.Names.{Name}
 use Rattle.text_meaning.specs.Places.{line_at, column_at}
 use Rattle.library_meaning.specs.Faces.{Environment, flat_signature, flat_of}
-use Rattle.output_meaning.specs.Printed.{absent_line}
+use Rattle.printing_meaning.specs.Printed.{absent_line}
 use Rattle.printing_meaning.specs.VerdictLines.{judged_line}
 use Rattle.printing_meaning.specs.FolderLines.{place_in_file}
 use Rattle.judged_meaning.specs.JudgingByRules.{judged_by}

@@ -1,7 +1,7 @@
 //! The edits of a log.
 ghost use Rattle.std.specs.Prelude.{◌≡◌, ◌++◌, IfOk, OnOk, codes};
 ghost use Rattle.std.specs.Fmt.{decimal};
-ghost use Rattle.output_meaning.specs.Printed.{end_of_line};
+ghost use Rattle.printing_meaning.specs.Printed.{end_of_line};
 ghost use Rattle.printing_meaning.specs.EditLines as printed;
 ghost use Rattle.edit_log.specs.Readings.{read_edit};
 

@@ -1,6 +1,6 @@
 //! The line of a fault of a script.
 ghost use Rattle.std.specs.Prelude.{◌≡◌, IfOk, if◌then◌else◌};
-ghost use Rattle.output_meaning.specs.Printed.{bad_line, unended_line};
+ghost use Rattle.printing_meaning.specs.Printed.{bad_line, unended_line};
 
 use lf_terms::{Bytes, Memory};
 use std::alloc::Global;

@@ -3,7 +3,7 @@ ghost use Rattle.std.specs.Prelude.{◌≡◌, ◌++◌, ◌≤◌, ◌^◌, IfO
 ghost use Rattle.std.specs.Option.{option_copied};
 ghost use Rattle.library_meaning.specs.Faces.{Environment};
 ghost use Rattle.std.specs.Fmt.{decimal};
-ghost use Rattle.output_meaning.specs.Printed.{end_of_line, named_at};
+ghost use Rattle.printing_meaning.specs.Printed.{end_of_line, named_at};
 ghost use Rattle.mmt_interface.specs.Readings.{read_refusal, read_verdict};
 ghost use Rattle.printing_meaning.specs.VerdictLines.{judged_line, refused_line};
 ghost use Rattle.judged_meaning.specs.JudgingByRules.{judged_by, printed_refusal};

@@ -1,3 +1,3 @@
 -- What those above cite of the crates below, which they have from here.
-pub use Rattle.link_coherence_laws.proofs.Below.CoveringMaps
-pub use Rattle.link_coherence_laws.proofs.Below.Reading
+pub use Rattle.link_laws.proofs.CoveringMaps
+pub use Rattle.link_laws.proofs.Reading

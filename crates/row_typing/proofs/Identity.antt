@@ -13,9 +13,9 @@ use Rattle.lf_meaning.specs.HeadMaps.{Image, HeadMap, image_of}
 use Rattle.translation_meaning.specs.Translation.{headed_image, family_head_image, family_of, image_kind, translate_object, translate_head, translate_family, translate_kind, translate_class, translate_value, object_value, family_value, same_image}
 use Rattle.translation_meaning.specs.ProperValues.{IsProperValue}
 use Rattle.translation_meaning.specs.TypedMaps.{KeepsValue, IsTypedMap}
-use Rattle.translation_sort_laws.proofs.Images.{by_images}
-use Rattle.translation_sort_laws.proofs.Kinded.{family_kinded, kind_kinded}
-use Rattle.translation_sort_laws.proofs.Known.{ObjectKnown, AtomicKnown, HeadKnown, FamilyKnown, KindKnown, object_known, family_known, kind_known}
+use Rattle.translation_typing.proofs.Images.{by_images}
+use Rattle.translation_typing.proofs.Kinded.{family_kinded, kind_kinded}
+use Rattle.translation_typing.proofs.Known.{ObjectKnown, AtomicKnown, HeadKnown, FamilyKnown, KindKnown, object_known, family_known, kind_known}
 use Rattle.translation_typing.proofs.Proper.{proper_object, proper_body}
 use Rattle.translation_typing.proofs.DeclaredTyped.{declared_typed}
 use Rattle.library_meaning.specs.Holding.{ObjectHolds, AtomicHolds, ArgumentsHold, FamilyHolds, KindHolds, ClassHolds}

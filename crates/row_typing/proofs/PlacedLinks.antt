@@ -6,8 +6,8 @@ use Rattle.list_laws.proofs.Members.{Member, member_place}
 use Rattle.library_meaning.specs.Faces.{StructureFace, TheoryFace, IsTheory, Environment, theory_face, theory_of, structure_of, includes_of, own_of, own_parts, flat_of}
 use Rattle.library_meaning.specs.Coherence.{IsCoherent}
 use Rattle.library_meaning.specs.Words.{Link, structure_link, behind_structure, structures_of, link_by, is_empty, structures_link}
-use Rattle.link_coherence_laws.proofs.Below.Linked.{known_theory}
-use Rattle.link_coherence_laws.proofs.WordsHold.{structure_member}
+use Rattle.link_laws.proofs.Linked.{known_theory}
+use Rattle.link_laws.proofs.WordsHold.{structure_member}
 use Rattle.row_typing.specs.TypedFaces.{IsTypedEnvironment}
 use Rattle.row_typing.proofs.Places.{LinkPlaced, structure_placed, structure_within}
 use Rattle.std.proofs.lemmas.Option.{same_Some}

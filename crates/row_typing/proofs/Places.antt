@@ -18,16 +18,16 @@ use Rattle.translation_meaning.specs.TypedMaps.{KeepsValue, IsTypedAt, IsTypedMa
 use Rattle.library_meaning.specs.Faces.{StructureFace, TheoryFace, IsTheory, Environment, theory_face, theory_of, includes_of, own_of, own_part, own_parts, flat_signature, flat_of}
 use Rattle.library_meaning.specs.Coherence.{IsCoherent}
 use Rattle.link_meaning.specs.Induced.{defined_by, induced_with}
-use Rattle.link_coherence_laws.specs.Below.HoldingLaws.{Grows}
-use Rattle.link_coherence_laws.proofs.Below.Declared.{front_grows}
-use Rattle.link_coherence_laws.proofs.Onces.{Once, once_left, member_declared}
-use Rattle.link_coherence_laws.proofs.WordsHold.{flat_once}
+use Rattle.link_laws.specs.Below.HoldingLaws.{Grows}
+use Rattle.link_laws.proofs.Below.Declared.{front_grows}
+use Rattle.link_laws.proofs.Onces.{Once, once_left, member_declared}
+use Rattle.link_laws.proofs.WordsHold.{flat_once}
 use Rattle.row_typing.specs.TypedFaces.{IsPlaced, IsTypedTheory, IsTypedEnvironment}
 use Rattle.row_typing.proofs.ProperImages.{images_proper}
 use Rattle.row_typing.proofs.Grown.{fits_more}
 use Rattle.std.proofs.lemmas.Option.{same_Some}
 use Rattle.std.proofs.lemmas.List.Elements.{filter_map-append}
-use Rattle.link_coherence_laws.proofs.LinksHold.{undefined_itself}
+use Rattle.link_laws.proofs.LinksHold.{undefined_itself}
 use Rattle.translation_typing.proofs.Proper.{proper_atomic_over}
 
 -- ---- copies

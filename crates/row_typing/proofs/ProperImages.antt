@@ -4,7 +4,7 @@ use Rattle.lf_meaning.specs.Terms.{Constant}
 use Rattle.lf_meaning.specs.Signatures.{Class, FamilyClass, KindClass, Value, SameAs, TermValue, FamilyValue, Signature, same_constant}
 use Rattle.lf_meaning.specs.HeadMaps.{Image, Mapping, HeadMap, image_of}
 use Rattle.translation_meaning.specs.ProperValues.{IsProperValue, ValuesAreProper}
-use Rattle.translation_sort_laws.specs.AtomicBodies.{BodiesAreAtomic}
+use Rattle.translation_typing.specs.AtomicBodies.{BodiesAreAtomic}
 use Rattle.translation_typing.proofs.Proper.{proper_atomic_map}
 use Rattle.library_meaning.specs.Holding.{ValueHolds}
 use Rattle.library_meaning.specs.Coherence.{IsCoherentMap}

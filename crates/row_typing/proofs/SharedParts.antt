@@ -23,9 +23,9 @@ use Rattle.link_meaning.specs.Coverings.{identity_covers, is_identity_covering, 
 use Rattle.link_meaning.specs.CoveringMaps.{cover_all}
 use Rattle.link_meaning.specs.LinkMaps.{IsSettled}
 use Rattle.link_meaning.specs.Passes.{mapping_to}
-use Rattle.link_coherence_laws.proofs.Below.Linked.{own_named, declarations_hold}
-use Rattle.link_coherence_laws.proofs.Onces.{parts_joined, declaration_member, member_declared, own_is_once, once_left, declarations_from, HoldAfter, Once}
-use Rattle.link_coherence_laws.proofs.WordsHold.{includes_closed, includes_theories}
+use Rattle.link_laws.proofs.Linked.{own_named, declarations_hold}
+use Rattle.link_laws.proofs.Onces.{parts_joined, declaration_member, member_declared, own_is_once, once_left, declarations_from, HoldAfter, Once}
+use Rattle.link_laws.proofs.WordsHold.{includes_closed, includes_theories}
 use Rattle.row_typing.proofs.Identity.{held_class_same, identity_image, undefined_is, IsIdentityOn}
 use Rattle.row_typing.proofs.SameValues.{back_image}
 

@@ -13,9 +13,9 @@ use Rattle.translation_typing.proofs.Composed.{composition_is_typed, composition
 use Rattle.library_meaning.specs.Faces.{TheoryFace, ViewFace, IsView, Environment, theory_of, includes_of, own_of, own_parts, flat_signature, flat_of}
 use Rattle.library_meaning.specs.Coherence.{IsCoherentMap, IsCoherent}
 use Rattle.library_meaning.specs.Words.{Link, RowMeans, row_meaning, structures_of, structures_link}
-use Rattle.link_coherence_laws.proofs.Below.Linked.{known_theory}
-use Rattle.link_coherence_laws.specs.LinkTargets.{target_of, HereHolds}
-use Rattle.link_coherence_laws.proofs.WordsHold.{Composes, AreStructures, theory_at, structures_link_is, row_is}
+use Rattle.link_laws.proofs.Linked.{known_theory}
+use Rattle.link_laws.specs.LinkTargets.{target_of, HereHolds}
+use Rattle.link_laws.proofs.WordsHold.{Composes, AreStructures, theory_at, structures_link_is, row_is}
 use Rattle.row_typing.specs.TypedFaces.{IsTypedEnvironment}
 use Rattle.row_typing.specs.TypedLinks.{HereTyped, RowsAreTyped}
 use Rattle.row_typing.proofs.ProperImages.{images_proper}

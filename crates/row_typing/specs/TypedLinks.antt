@@ -6,11 +6,11 @@ use Rattle.lf_meaning.specs.Judgements.{IsSignature}
 use Rattle.lf_meaning.specs.HeadMaps.{HeadMap}
 use Rattle.translation_meaning.specs.ProperValues.{ValuesAreProper}
 use Rattle.translation_meaning.specs.TypedMaps.{IsTypedMap}
-use Rattle.translation_sort_laws.specs.AtomicBodies.{BodiesAreAtomic}
+use Rattle.translation_typing.specs.AtomicBodies.{BodiesAreAtomic}
 use Rattle.library_meaning.specs.Faces.{StructureFace, TheoryFace, Environment, flat_signature, flat_of}
 use Rattle.library_meaning.specs.Coherence.{IsCoherentMap, IsCoherent}
 use Rattle.library_meaning.specs.Words.{Link, RowMeans, row_meaning}
-use Rattle.link_coherence_laws.specs.LinkTargets.{target_of, HereHolds}
+use Rattle.link_laws.specs.LinkTargets.{target_of, HereHolds}
 use Rattle.row_typing.specs.TypedFaces.{IsTypedEnvironment}
 
 -- The values of a coherent map are proper, and its families atomic.

@@ -3,8 +3,8 @@ use Rattle.std.proofs.Common.{refl}
 use Rattle.std.specs.Str.{is_utf8, chars}
 use Rattle.std.specs.Fmt.{digits}
 use lib.Utf8.{encode}
-use Rattle.output_meaning.specs.Lines.{lines_of}
-use Rattle.output_meaning.specs.ScriptLines.{text_before, behind_end}
+use Rattle.printing_meaning.specs.Lines.{lines_of}
+use Rattle.printing_meaning.specs.ScriptLines.{text_before, behind_end}
 use Rattle.name_meaning.specs.Names.{is_among, is_ascending, with_name, with_names}
 use Rattle.log_meaning.specs.Log.{with_module, without_module, library_of, text_of}
 use Rattle.log_meaning.specs.Append.{append_answer, appended}

@@ -1,3 +1,6 @@
+pub mod LineLemmas
+pub mod TextLemmas
+pub mod LongLines
 pub mod Items
 pub mod Kept
 pub mod Lines

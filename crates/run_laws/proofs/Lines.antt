@@ -1,8 +1,8 @@
 -- The lines of bytes that go on.
 use Rattle.std.proofs.Common.{◌≡◌, ℕ, ◌<◌, Bool, true, false, cond, List, [], ◌∷◌, ◌++◌, length, refl, ap, ◌∙◌, arith}
 use Rattle.std.specs.Prelude.{◌==◌, Option, Some}
-use Rattle.output_meaning.specs.Lines.{onto_first, lines_of}
-use Rattle.output_meaning.specs.ScriptLines.{is_end_line, text_before, behind_end}
+use Rattle.printing_meaning.specs.Lines.{onto_first, lines_of}
+use Rattle.printing_meaning.specs.ScriptLines.{is_end_line, text_before, behind_end}
 use Rattle.run_laws.specs.RunLaws.{ends_in_feed}
 
 onto_first-length : (byte : ℕ) (lines : List (List ℕ)) → 0 < length (onto_first byte lines)

@@ -2,7 +2,7 @@
 use Rattle.std.proofs.Common.{◌≡◌, ℕ, false, true, List, [], ◌∷◌, ◌++◌, length, refl, sym, ap, ◌∙◌, arith, append_assoc}
 use Rattle.std.specs.Prelude.{Option, Some, None, map}
 use Rattle.log_meaning.specs.Log.{Log}
-use Rattle.output_meaning.specs.Lines.{lines_of}
+use Rattle.printing_meaning.specs.Lines.{lines_of}
 use Rattle.run_meaning.specs.Judging.{Judging}
 use Rattle.run_meaning.specs.ScriptCommands.{Command}
 use Rattle.run_meaning.specs.ScriptItems.{Item, Spoken, BadAt, UnendedAt, items_of, script_of}

@@ -5,7 +5,7 @@ use Rattle.name_meaning.specs.Names.{Name, Text}
 use Rattle.log_meaning.specs.Log.{Edit, Put, Log, library_of, version_of}
 use Rattle.name_meaning.specs.Limits.{text_limit}
 use Rattle.log_meaning.specs.Append.{append_answer, appended, appended_all}
-use Rattle.output_meaning.specs.Printed.{bad_line, unended_line}
+use Rattle.printing_meaning.specs.Printed.{bad_line, unended_line}
 use Rattle.run_meaning.specs.Judging.{Judging}
 use Rattle.printing_meaning.specs.EditLines.{edited_line}
 use Rattle.run_meaning.specs.ScriptCommands.{kept, Command, ReportCommand, CheckCommand, FlatCommand, CarryCommand}

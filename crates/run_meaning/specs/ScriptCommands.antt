@@ -3,8 +3,8 @@ use Rattle.name_meaning.specs.Limits.{put_limit, line_limit, text_limit}
 use Rattle.std.specs.Prelude.{ℕ, suc, List, [], ◌∷◌, ◌==◌, length, take, drop, nat_eq, nat_lt, Option, Some, None, option_map, if◌then◌else◌, codes}
 use Rattle.std.specs.List.{starts_with}
 use Rattle.std.specs.Str.{bytes_eq}
-use Rattle.output_meaning.specs.Lines.{content_of}
-use Rattle.output_meaning.specs.ScriptLines.{is_name, is_silent, text_before, behind_end}
+use Rattle.printing_meaning.specs.Lines.{content_of}
+use Rattle.printing_meaning.specs.ScriptLines.{is_name, is_silent, text_before, behind_end}
 use Rattle.name_meaning.specs.Names.{Name, Text}
 use Rattle.log_meaning.specs.Log.{Edit, Put, Drop}
 

@@ -1,7 +1,7 @@
 -- What a script holds, in order (this profile).
 use Rattle.std.specs.Prelude.{ℕ, zero, suc, List, [], ◌∷◌, length}
-use Rattle.output_meaning.specs.Lines.{lines_of}
-use Rattle.output_meaning.specs.ScriptLines.{line_after}
+use Rattle.printing_meaning.specs.Lines.{lines_of}
+use Rattle.printing_meaning.specs.ScriptLines.{line_after}
 use Rattle.run_meaning.specs.ScriptCommands.{Command, Next, Ends, Gives, Bad, Unended, next_of}
 
 -- A command; or a fault, with the number of its line.

@@ -1,6 +1,6 @@
 -- What a script prints (this profile).
 use Rattle.std.specs.Prelude.{ℕ, Bool, true, false, List, [], ◌∷◌, ◌++◌, map, Option, Some, None}
-use Rattle.output_meaning.specs.Printed.{absent_line, bad_line, unended_line}
+use Rattle.printing_meaning.specs.Printed.{absent_line, bad_line, unended_line}
 use Rattle.name_meaning.specs.Names.{Name, Text}
 use Rattle.log_meaning.specs.Log.{Log, Library, names_of, library_of, text_of, version_of}
 use Rattle.log_meaning.specs.Append.{appended}

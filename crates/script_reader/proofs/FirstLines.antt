@@ -5,9 +5,9 @@ use Rattle.std.proofs.lemmas.Bool.Decides.{nat_tests}
 use Rattle.std.specs.declared.option.Option.{Option}
 use Rattle.std.proofs.lemmas.List.{length-append}
 use Rattle.mmt_outside.specs.Bytes.{preceded}
-use Rattle.output_meaning.specs.Lines.{lines_of, NoFeed, content_of}
+use Rattle.printing_meaning.specs.Lines.{lines_of, NoFeed, content_of}
 use Rattle.run_meaning.specs.ScriptCommands.{Bad, next_of, said_by, Wrong}
-use Rattle.output_laws.proofs.LongLines.{first_begins, content_of-long}
+use Rattle.run_laws.proofs.LongLines.{first_begins, content_of-long}
 use Rattle.name_meaning.specs.Limits.{line_limit}
 use Rattle.script_reader.specs.Pieces.{ReadsLine}
 use Rattle.script_reader.specs.declared.line.LineEnd.TheVariants.{Feed, Input, Limit}

@@ -4,7 +4,7 @@ use Rattle.std.specs.Prelude.{Some, None, IsTrue, if◌then◌else◌}
 use Rattle.std.specs.Str.{IsUtf8, is_utf8}
 use Rattle.std.proofs.lemmas.Str.{IsUtf8-from_is_utf8, is_utf8-from_IsUtf8}
 use Rattle.name_meaning.specs.Identifiers.{is_identifier}
-use Rattle.output_meaning.specs.ScriptLines.{is_name}
+use Rattle.printing_meaning.specs.ScriptLines.{is_name}
 use Rattle.std.proofs.lemmas.Bool.{false_from_ne_true}
 
 pub no_name-bytes : (bytes : List ℕ) → (IsUtf8 bytes → ⊥) → is_name bytes ≡ false

@@ -2,7 +2,7 @@
 use Rattle.std.proofs.Common.{◌≡◌, ℕ, ◌+◌, ◌-◌, ◌^◌, ◌≤◌, List, [], ◌∷◌, length, refl, sym, ap, subst, ◌∙◌, arith}
 use Rattle.std.specs.Prelude.{Some, None, IfSome, IsSome, min, Result, Ok, Err}
 use Rattle.std.specs.declared.option.Option.{Option}
-use Rattle.output_meaning.specs.Lines.{lines_of, content_of}
+use Rattle.printing_meaning.specs.Lines.{lines_of, content_of}
 use Rattle.run_meaning.specs.ScriptCommands as meant
 use Rattle.run_laws.proofs.Items.{next_of-shorter}
 use Rattle.script_reader.specs.Commands.{read_command}

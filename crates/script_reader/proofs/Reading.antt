@@ -5,9 +5,9 @@ use Rattle.std.specs.Prelude.{Some, None, IsSome}
 use Rattle.std.specs.declared.option.Option.{Option}
 use Rattle.std.proofs.lemmas.List.{take_more, take-append-drop, length-append, length-take}
 use Rattle.mmt_outside.specs.Bytes.{preceded, ReadPrefix}
-use Rattle.output_meaning.specs.Lines.{lines_of, NoFeed}
-use Rattle.output_laws.proofs.LineLemmas.{NoFeed-append, lines_of-last}
-use Rattle.output_laws.proofs.TextLemmas.{first_line-feed}
+use Rattle.printing_meaning.specs.Lines.{lines_of, NoFeed}
+use Rattle.run_laws.proofs.LineLemmas.{NoFeed-append, lines_of-last}
+use Rattle.run_laws.proofs.TextLemmas.{first_line-feed}
 use Rattle.script_reader.specs.Pieces.{EndsInFeed, MovesFront, ReadsLine}
 use Rattle.script_reader.specs.Texts.{StaysTold}
 use Rattle.script_reader.specs.declared.line.LineEnd.{LineEnd}

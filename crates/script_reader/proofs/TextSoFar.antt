@@ -4,13 +4,13 @@ use Rattle.std.specs.Prelude.{Some, None, IfSome, min}
 use Rattle.std.specs.declared.option.Option.{Option}
 use Rattle.std.proofs.lemmas.List.{append-nil, length-append}
 use Rattle.mmt_outside.specs.Bytes.{preceded}
-use Rattle.output_meaning.specs.Lines.{lines_of, NoFeed}
-use Rattle.output_meaning.specs.ScriptLines.{is_end_line, text_before, behind_end, line_after}
+use Rattle.printing_meaning.specs.Lines.{lines_of, NoFeed}
+use Rattle.printing_meaning.specs.ScriptLines.{is_end_line, text_before, behind_end, line_after}
 use Rattle.name_meaning.specs.Limits.{put_limit}
 use Rattle.run_meaning.specs.ScriptCommands.{kept}
-use Rattle.output_laws.proofs.LineLemmas.{NoFeed-append}
-use Rattle.output_laws.proofs.TextLemmas.{IsTextSoFar, IsTextSoFar-nil, IsTextSoFar-more, EndsText, text_ends, RunsOut, text_runs_out}
-use Rattle.output_laws.proofs.LongLines.{is_end_line-long, text_before-long}
+use Rattle.run_laws.proofs.LineLemmas.{NoFeed-append}
+use Rattle.run_laws.proofs.TextLemmas.{IsTextSoFar, IsTextSoFar-nil, IsTextSoFar-more, EndsText, text_ends, RunsOut, text_runs_out}
+use Rattle.run_laws.proofs.LongLines.{is_end_line-long, text_before-long}
 use Rattle.script_reader.specs.HeldTexts.{Held, held_of, more}
 use Rattle.script_reader.specs.Pieces.{EndsInFeed, ReadsLine}
 use Rattle.script_reader.specs.declared.line.LineEnd.{LineEnd}

@@ -2,8 +2,8 @@
 use Rattle.std.specs.Prelude.{◌≡◌, ℕ, List, [], ◌∷◌, IfSome, Result, Ok, Err, Some, None}
 use Rattle.std.specs.declared.option.Option.{Option}
 use Rattle.mmt_outside.specs.Faults.{Rose}
-use Rattle.output_meaning.specs.Lines.{lines_of}
-use Rattle.output_meaning.specs.ScriptLines.{line_after}
+use Rattle.printing_meaning.specs.Lines.{lines_of}
+use Rattle.printing_meaning.specs.ScriptLines.{line_after}
 use Rattle.run_meaning.specs.ScriptCommands as meant
 use Rattle.script_reader.specs.Commands.{read_command}
 use Rattle.script_reader.specs.Texts.{StaysTold}

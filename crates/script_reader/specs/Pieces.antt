@@ -3,7 +3,7 @@ use Rattle.std.specs.Prelude.{◌≡◌, ◌<◌, ◌≤◌, ℕ, Bool, true, fa
 use Rattle.std.specs.declared.option.Option.{Option}
 use Rattle.mmt_outside.specs.Bytes.{preceded}
 use Rattle.mmt_outside.specs.Faults.{Rose}
-use Rattle.output_meaning.specs.Lines.{NoFeed}
+use Rattle.printing_meaning.specs.Lines.{NoFeed}
 use Rattle.script_reader.specs.declared.line.LineEnd.{LineEnd}
 use Rattle.script_reader.specs.declared.line.LineEnd.TheVariants.{Feed, Input, Limit}
 use Rattle.script_reader.specs.declared.fault.ScriptFault.{ScriptFault}

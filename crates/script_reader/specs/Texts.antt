@@ -2,8 +2,8 @@
 use Rattle.std.specs.Prelude.{◌≡◌, ◌<◌, ◌≤◌, ℕ, suc, Bool, false, true, List, [], ◌⊎◌, length, IfSome, IsSome, Some, None}
 use Rattle.std.specs.declared.option.Option.{Option}
 use Rattle.mmt_outside.specs.Bytes.{preceded}
-use Rattle.output_meaning.specs.Lines.{lines_of, NoFeed}
-use Rattle.output_meaning.specs.ScriptLines.{is_end_line, text_before, behind_end, line_after}
+use Rattle.printing_meaning.specs.Lines.{lines_of, NoFeed}
+use Rattle.printing_meaning.specs.ScriptLines.{is_end_line, text_before, behind_end, line_after}
 use Rattle.name_meaning.specs.Limits.{put_limit, text_limit}
 use Rattle.run_meaning.specs.ScriptCommands.{kept}
 use Rattle.script_reader.specs.HeldTexts.{Held, more}

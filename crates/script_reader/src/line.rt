@@ -1,7 +1,7 @@
 //! One line of the bytes to come.
 ghost use Rattle.std.specs.Prelude.{◌≡◌, ◌<◌, ◌≤◌, length, take, slice_index, MatchOption, IfOk, IfErr, OnErr};
 ghost use Rattle.mmt_outside.specs.Bytes.{preceded, ReadPrefix};
-ghost use Rattle.output_meaning.specs.Lines.{NoFeed};
+ghost use Rattle.printing_meaning.specs.Lines.{NoFeed};
 ghost use Rattle.script_reader.specs.Pieces.{MovesFront, ReadsLine, IsCaused};
 
 use crate::buffer::Buffer;

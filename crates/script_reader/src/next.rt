@@ -1,7 +1,7 @@
 //! The next command of the bytes to come.
 ghost use Rattle.std.specs.Prelude.{◌≡◌, ◌≤◌, ℕ, List, [], length, IfOk, IfErr, OnOk, IfSome};
 ghost use Rattle.mmt_outside.specs.Bytes.{preceded, ReadPrefix};
-ghost use Rattle.output_meaning.specs.Lines.{lines_of};
+ghost use Rattle.printing_meaning.specs.Lines.{lines_of};
 ghost use Rattle.name_meaning.specs.Limits.{line_limit};
 ghost use Rattle.run_meaning.specs.ScriptCommands.{put_of, next_of};
 ghost use Rattle.script_reader.specs.Pieces.{IsCaused};

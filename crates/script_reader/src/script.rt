@@ -1,6 +1,6 @@
 //! The script that is read.
 ghost use Rattle.std.specs.Prelude.{◌≡◌, ◌≤◌, true, false, [], IsTrue, IfSome, IfOk, OnOk, OnErr, IsErrOf, ◌↔◌};
-ghost use Rattle.output_meaning.specs.Lines.{lines_of};
+ghost use Rattle.printing_meaning.specs.Lines.{lines_of};
 ghost use Rattle.run_meaning.specs.ScriptCommands.{next_of};
 ghost use Rattle.mmt_outside.specs.Bytes.{ReadPrefix};
 ghost use Rattle.mmt_outside.specs.Faults.{Rose};

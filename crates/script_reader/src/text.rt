@@ -1,7 +1,7 @@
 //! The text of a `put`, up to its end line.
 ghost use Rattle.std.specs.Prelude.{◌≡◌, ◌≤◌, suc, length, IfOk, IfErr, IfSome};
 ghost use Rattle.mmt_outside.specs.Bytes.{preceded, ReadPrefix};
-ghost use Rattle.output_meaning.specs.Lines.{lines_of};
+ghost use Rattle.printing_meaning.specs.Lines.{lines_of};
 ghost use Rattle.script_reader.specs.Pieces.{IsCaused};
 ghost use Rattle.script_reader.specs.Texts.{ReadsPiece, TextGives, StaysTold, IsWithinLimit};
 

@@ -12,7 +12,7 @@ use Rattle.face_typing.specs.Below.BuildingLaws.{IsBuiltOver}
 use Rattle.face_typing.proofs.Below.BuildingHolds.{structures_keep_built}
 use Rattle.face_typing.proofs.Below.ModulesHold.{unused_where}
 use Rattle.face_typing.specs.Below.TypedFaces.{IsTypedTheory}
-use Rattle.face_typing.proofs.Below.LinksTyped.{links_are_typed}
+use Rattle.face_typing.proofs.LinksTyped.{links_are_typed}
 use Rattle.face_typing.specs.BuildingTyping.{IsTypedOver}
 use Rattle.face_typing.specs.CarryingMaps.{CarriesTyping}
 use Rattle.face_typing.proofs.BuildingTyped.{structures_keep_typed}

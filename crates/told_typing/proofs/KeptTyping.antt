@@ -4,7 +4,7 @@ use Rattle.name_meaning.specs.Names.{Name}
 use Rattle.log_meaning.specs.Log.{Library, library_of}
 use Rattle.verdict_meaning.specs.Rounds.{told_by}
 use Rattle.coherence_laws.proofs.LibrariesHold.{library_coherent}
-use Rattle.link_typing.proofs.LinksTyped.{links_are_typed}
+use Rattle.face_typing.proofs.LinksTyped.{links_are_typed}
 use Rattle.face_typing.proofs.LibrariesTyped.{faces_are_typed}
 use Rattle.face_typing.proofs.MapsCarry.{typed_theories_flatten, typed_views_carry}
 use Rattle.told_typing.specs.ToldTyping.{AllAreTyped, KeepsTyping}

@@ -10,9 +10,9 @@ use Rattle.translation_meaning.specs.Heads.{head_takes}
 use Rattle.lf_meaning.specs.HeadMaps.{HeadMap}
 use Rattle.translation_meaning.specs.Translation.{headed_image, family_head_image, family_of, translate_object, translate_head, translate_family, translate_kind, translate_class, translate_value, object_value, family_value, same_image}
 use Rattle.translation_typing.specs.TypedTranslation.{translate_context}
-use Rattle.translation_sort_laws.proofs.Kinded.{family_kinded, kind_kinded}
-use Rattle.translation_sort_laws.proofs.Known.{ObjectKnown, AtomicKnown, HeadKnown, FamilyKnown, KindKnown, object_known, family_known, kind_known}
-use Rattle.translation_sort_laws.proofs.Images.{by_images}
+use Rattle.translation_typing.proofs.Kinded.{family_kinded, kind_kinded}
+use Rattle.translation_typing.proofs.Known.{ObjectKnown, AtomicKnown, HeadKnown, FamilyKnown, KindKnown, object_known, family_known, kind_known}
+use Rattle.translation_typing.proofs.Images.{by_images}
 use Rattle.lf_term_laws.proofs.Declarations.{AgreeOn}
 
 module _ (sig : Signature) (first second : HeadMap) (agree : AgreeOn sig first second) where

@@ -17,11 +17,11 @@ use Rattle.translation_meaning.specs.Heads.{Head, ObjectHead, FamilyHead, head_t
 use Rattle.lf_meaning.specs.HeadMaps.{HeadMap, image_of}
 use Rattle.translation_meaning.specs.Translation.{object_image, headed_image, family_image, family_head_image, family_of, translate_object, translate_head, translate_family, translate_kind, translate_class, translate_value, object_value, family_value, same_image}
 use Rattle.translation_typing.specs.TypedTranslation.{translate_context}
-use Rattle.translation_sort_laws.proofs.KindDomains.{domains_append}
-use Rattle.translation_sort_laws.proofs.Kinded.{IsKinded, family_kinded, kind_kinded}
-use Rattle.translation_sort_laws.proofs.Bases.{bases, erase_translated}
-use Rattle.translation_sort_laws.proofs.Images.{IsMap, by_images}
-use Rattle.translation_sort_laws.proofs.Commuting.{raise_family_translated, substitute_family_translated, substitute_kind_translated}
+use Rattle.translation_typing.proofs.KindDomains.{domains_append}
+use Rattle.translation_typing.proofs.Kinded.{IsKinded, family_kinded, kind_kinded}
+use Rattle.translation_typing.proofs.Bases.{bases, erase_translated}
+use Rattle.translation_typing.proofs.Images.{IsMap, by_images}
+use Rattle.translation_typing.proofs.Commuting.{raise_family_translated, substitute_family_translated, substitute_kind_translated}
 use Rattle.translation_typing.specs.FamilyHeads.{FamilyTyped, OnSpine, UnderBinders}
 use Rattle.translation_typing.proofs.TypedHeads.{HeadIs, domains_context, kind_of_body, spine_taken, binder_taken, family_whole}
 

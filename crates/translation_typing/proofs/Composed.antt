@@ -8,9 +8,9 @@ use Rattle.translation_meaning.specs.Translation.{translate_object, translate_fa
 use Rattle.translation_meaning.specs.ProperValues.{IsProperValue, ValuesAreProper}
 use Rattle.translation_meaning.specs.TypedMaps.{KeepsValue, IsTypedAt}
 use Rattle.translation_laws.proofs.Spines.{composed}
-use Rattle.translation_sort_laws.specs.AtomicBodies.{HasAtomicBody, BodiesAreAtomic}
+use Rattle.translation_typing.specs.AtomicBodies.{HasAtomicBody, BodiesAreAtomic}
 use Rattle.translation_typing.specs.Composition.{AreComposable, ObjectsAreComposed, FamiliesAreComposed, KindsAreComposed, ClassesAreComposed, ValuesAreComposed, CompositionIsTyped, CompositionIsProper}
-use Rattle.translation_sort_laws.proofs.Bases.{atomic_translated}
+use Rattle.translation_typing.proofs.Bases.{atomic_translated}
 use Rattle.translation_typing.proofs.Proper.{proper_atomic, object_value_proper, family_value_proper, proper_atomic_map}
 use Rattle.translation_typing.proofs.DeclaredTyped.{declared_typed}
 use Rattle.translation_typing.proofs.Laws.{class_carried, value_carried}

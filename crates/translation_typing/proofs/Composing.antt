@@ -17,13 +17,13 @@ use Rattle.lf_meaning.specs.HeadMaps.{Image, HeadMap, image_of}
 use Rattle.translation_meaning.specs.Translation.{object_image, headed_image, family_image, family_head_image, family_of, translate_object, translate_head, translate_family, translate_kind, translate_class, translate_value, translate_image, object_value, family_value, same_image, compose}
 use Rattle.translation_laws.proofs.Spines.{composed}
 use Rattle.translation_typing.specs.TypedTranslation.{translate_context, IsTypedTranslation}
-use Rattle.translation_sort_laws.specs.AtomicBodies.{HasAtomicBody}
+use Rattle.translation_typing.specs.AtomicBodies.{HasAtomicBody}
 use Rattle.translation_typing.specs.Composition.{AreComposable}
-use Rattle.translation_sort_laws.proofs.KindDomains.{domains_append, domains_length}
+use Rattle.translation_typing.proofs.KindDomains.{domains_append, domains_length}
 use Rattle.translation_typing.specs.FamilyHeads.{FamilyTyped, OnSpine, UnderBinders}
 use Rattle.translation_typing.proofs.TypedHeads.{domains_context, HeadIs, binder_taken, family_whole}
-use Rattle.translation_sort_laws.proofs.Bases.{bases, renamed, erase_translated, HasBase, head_base}
-use Rattle.translation_sort_laws.proofs.Images.{by_images}
+use Rattle.translation_typing.proofs.Bases.{bases, renamed, erase_translated, HasBase, head_base}
+use Rattle.translation_typing.proofs.Images.{by_images}
 use Rattle.translation_typing.proofs.Proper.{proper_object, proper_body, proper_atomic_map}
 use Rattle.translation_typing.proofs.Carrying.{domains_translated, count_translated}
 use Rattle.translation_typing.proofs.Laws.{Images, typed_images, context_carried, family_carried, kind_carried, object_carried, atomic_carried, head_carried, substituted_object, substituted_family, substituted_kind}

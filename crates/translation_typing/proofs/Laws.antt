@@ -21,13 +21,13 @@ use Rattle.lf_meaning.specs.HeadMaps.{HeadMap, image_of}
 use Rattle.translation_meaning.specs.Translation.{translate_object, translate_head, translate_family, translate_kind, translate_class, translate_value}
 use Rattle.translation_meaning.specs.TypedMaps.{IsTypedMap}
 use Rattle.translation_typing.specs.TypedTranslation.{BodiesAreAtomicOver, translate_context, IsTypedTranslation, TypingIsCarried, ContextsAreCarried, FamiliesAreCarried, KindsAreCarried, ClassesAreCarried, ValuesAreCarried, RaisedObjectsAreTranslated, RaisedFamiliesAreTranslated, RaisedKindsAreTranslated, SubstitutedObjectsAreTranslated, SubstitutedFamiliesAreTranslated, SubstitutedKindsAreTranslated}
-use Rattle.translation_sort_laws.proofs.Kinded.{kind_has_domains, IsKinded, IsKindedKind, family_kinded, kind_kinded}
-use Rattle.translation_sort_laws.proofs.Known.{AtomicKnown, HeadKnown, atomic_known, head_known, object_known, family_known, kind_known, raised_object_known, raised_family_known, raised_kind_known, substituted_object_known, substituted_family_known, substituted_kind_known}
-use Rattle.translation_sort_laws.proofs.Bases.{renamed, erase_translated}
-use Rattle.translation_sort_laws.proofs.Commuting.{raise_translated, raise_family_translated, raise_kind_translated, substitute_translated, substitute_family_translated, substitute_kind_translated}
-use Rattle.translation_sort_laws.proofs.Images.{TypedImage, IsMap, by_images}
+use Rattle.translation_typing.proofs.Kinded.{kind_has_domains, IsKinded, IsKindedKind, family_kinded, kind_kinded}
+use Rattle.translation_typing.proofs.Known.{AtomicKnown, HeadKnown, atomic_known, head_known, object_known, family_known, kind_known, raised_object_known, raised_family_known, raised_kind_known, substituted_object_known, substituted_family_known, substituted_kind_known}
+use Rattle.translation_typing.proofs.Bases.{renamed, erase_translated}
+use Rattle.translation_typing.proofs.Commuting.{raise_translated, raise_family_translated, raise_kind_translated, substitute_translated, substitute_family_translated, substitute_kind_translated}
+use Rattle.translation_typing.proofs.Images.{TypedImage, IsMap, by_images}
 use Rattle.translation_typing.proofs.TypedHeads.{HeadIs}
-use Rattle.translation_sort_laws.proofs.KindDomains.{domains_of}
+use Rattle.translation_typing.proofs.KindDomains.{domains_of}
 use Rattle.translation_typing.proofs.Restricted.{restrict, restricted_there, restricted_declared}
 use Rattle.translation_typing.proofs.Agreeing.{replace_head_agrees, head_agrees, class_agrees, context_agrees, object_agrees, family_agrees, kind_agrees, checked_agrees, typed_family_agrees, typed_kind_agrees, value_agrees}
 use Rattle.translation_typing.proofs.Carrying.{synthesises_translated, head_translated, class_translated, context_translated, family_translated, kind_translated, checks_translated, value_translated}

@@ -1,4 +1,11 @@
-pub mod Below
+pub mod KindDomains
+pub mod Kinded
+pub mod Bases
+pub mod Images
+pub mod HeadSorts
+pub mod MappedHeads
+pub mod Commuting
+pub mod Known
 pub mod TypedHeads
 pub mod Carrying
 pub mod Agreeing

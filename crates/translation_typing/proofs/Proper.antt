@@ -6,7 +6,7 @@ use Rattle.lf_meaning.specs.Signatures.{Signature, Value, SameAs, TermValue, Fam
 use Rattle.translation_meaning.specs.Translation.{object_value, family_value}
 use Rattle.translation_meaning.specs.ProperValues.{IsProperValue, IsNoConstant, IsValueBody, ValuesAreProper}
 use Rattle.translation_meaning.specs.AtomicFamilies.{IsAtomicFamily}
-use Rattle.translation_sort_laws.specs.AtomicBodies.{HasAtomicBody, BodiesAreAtomic}
+use Rattle.translation_typing.specs.AtomicBodies.{HasAtomicBody, BodiesAreAtomic}
 use Rattle.translation_typing.specs.TypedTranslation.{BodiesAreAtomicOver}
 
 pub proper_object : (o : Object) → IsNoConstant o → object_value o ≡ TermValue o

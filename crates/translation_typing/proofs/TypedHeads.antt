@@ -9,7 +9,7 @@ use Rattle.lf_typing.proofs.Regular.{context_sorted}
 use Rattle.lf_typing.proofs.SubstitutionTyping.{substitute_is_family, substitute_is_kind}
 use Rattle.translation_meaning.specs.Heads.{Head, ObjectHead, FamilyHead, family_takes}
 use Rattle.translation_typing.specs.FamilyHeads.{FamilyTyped, OnSpine, UnderBinders}
-use Rattle.translation_sort_laws.proofs.KindDomains.{domains_append, domains_length, domains_map}
+use Rattle.translation_typing.proofs.KindDomains.{domains_append, domains_length, domains_map}
 use Rattle.lf_term_laws.proofs.Spines.{domain_count_map}
 
 -- a head of this kind

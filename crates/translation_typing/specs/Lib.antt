@@ -1,3 +1,5 @@
+pub mod AtomicBodies
+pub mod SortedTranslation
 pub mod FamilyHeads
 pub mod TypedTranslation
 pub mod Composition

@@ -10,7 +10,7 @@ use Rattle.lf_meaning.specs.Judgements.{Checks, IsFamily, IsKind, IsContext, IsT
 use Rattle.lf_meaning.specs.HeadMaps.{Image, HeadMap, image_of}
 use Rattle.translation_meaning.specs.Translation.{translate_object, translate_family, translate_kind, translate_class, translate_value}
 use Rattle.translation_meaning.specs.TypedMaps.{IsTypedMap}
-use Rattle.translation_sort_laws.specs.AtomicBodies.{HasAtomicBody}
+use Rattle.translation_typing.specs.AtomicBodies.{HasAtomicBody}
 
 -- The families of the context, translated.
 abbrev pub translate_context : HeadMap → Context → Context

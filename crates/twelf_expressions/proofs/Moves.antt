@@ -4,7 +4,7 @@ use Rattle.text_meaning.specs.Tokens.{Span, Sign, Kind, Mark, Token, sign, SigWo
 use Rattle.text_meaning.specs.Reading.{Answer, Syntax, TooDeep, Unsupported, is_too_deep}
 use Rattle.text_meaning.specs.Parsing.{Atoms, Waiting, Row, NoAtoms, State, Refused, Expect, MoreWords, AtOperand, at_operand, begins_operand, operand_ends, step, level, fault, expect, answer_on, is_refused, is_left_out, takes_include, is_bare_binder}
 use Rattle.reading_laws.proofs.OneAnswer.{answer_refused, answer_deep, answer_goes}
-use Rattle.text_laws.proofs.Completes.{expect_here}
+use Rattle.reading_laws.proofs.Completes.{expect_here}
 use Rattle.twelf_expressions.specs.Left.{left, next_kind, next_token}
 use Rattle.twelf_expressions.specs.Going.{Fails, Goes, answer_with, bare_at, left_out_at, takes_at}
 use Rattle.twelf_expressions.specs.declared.fault.ReadFault.{ReadFault}

@@ -4,7 +4,7 @@ use Rattle.text_meaning.specs.Tokens.{Span, Sign, Kind, Mark, Ident, LeftParen, 
 use Rattle.name_meaning.specs.Names.{Path}
 use Rattle.text_meaning.specs.Trees.{first_name, Written}
 use Rattle.text_meaning.specs.Parsing.{Atoms, NoAtoms, Row, Waiting, State, code, expect, more_words, at_operand, is_refused, begins_operand}
-use Rattle.text_laws.proofs.Sound.{code_injective}
+use Rattle.reading_laws.proofs.Sound.{code_injective}
 use Rattle.twelf_expressions.specs.Signs.{is_sign, is_path, is_name}
 
 -- a kind that is a sign

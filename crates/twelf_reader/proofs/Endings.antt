@@ -8,7 +8,7 @@ use Rattle.text_meaning.specs.Reading.{Target, Tree, Answer, Read, Syntax, is_to
 use Rattle.text_meaning.specs.Parsing.{State, Refused, Whole, Expect, ExpectName, ExpectPath, MoreWords, AtModule, AtDecl, AfterDomain, AtAssign, AtOperand, AtVariable, AfterVariable, NoAtoms, SomeAtoms, Waiting, Ends, InParens, InDomain, InBody, InCodomain, ClassOf, ValueOf, ValueFor, ObjectOf, FamilyOf, Curly, Square, step, level, fault, resume, answer_on, is_refused, is_left_out, start, parse}
 use Rattle.text_meaning.specs.TextAnswers.{read, answer_to}
 use Rattle.token_laws.proofs.OneCut.{lex_utf8}
-use Rattle.text_laws.proofs.Completes.{Alive, expect_ok, step_lives, start_alive}
+use Rattle.reading_laws.proofs.Completes.{Alive, expect_ok, step_lives, start_alive}
 use Rattle.reading_laws.proofs.Stopping.{lives_on}
 use Rattle.reading_laws.proofs.OneAnswer.{answer_refused, answer_deep, answer_goes}
 use Rattle.twelf_expressions.specs.Left.{last_token, left_from, with_last}

@@ -13,8 +13,8 @@ use Rattle.board_meaning.specs.Events.{Claim, Entry, History, edit_in, library_a
 use Rattle.board_meaning.specs.Claims.{claimed_name, claim_at, ends_claim, is_ended, is_open, claims_from, open_claims, inputs_of, is_unchanged, is_claim_of, has_current_claim}
 use Rattle.board_meaning.specs.Standing.{is_edit_of, is_edited, stands}
 use Rattle.board_meaning.specs.Legal.{IsLegal}
-use Rattle.board_machine_laws.proofs.Claiming.{claim_entry, claim_found, claim_within, claim_front, is_name_some, installed_unedited, unedited_from}
-use Rattle.board_machine_laws.proofs.Earlier.{current, claim_before, unedited_before, open_before}
+use Rattle.board_laws.proofs.Claiming.{claim_entry, claim_found, claim_within, claim_front, is_name_some, installed_unedited, unedited_from}
+use Rattle.board_laws.proofs.Earlier.{current, claim_before, unedited_before, open_before}
 use Rattle.board_laws.proofs.Legality.{legal_claim}
 use Rattle.board_laws.proofs.Standings.{ready_parts, grounded_now, reach_now}
 use Rattle.board_laws.proofs.Following.{unedited_more, unedited_less}

@@ -25,7 +25,7 @@ use Rattle.board_meaning.specs.Standing.{stands}
 use Rattle.board_meaning.specs.Ready.{is_closed}
 use Rattle.board_meaning.specs.Machine.{EditCall, edit_event, edit_reply, event_of, may_call}
 use Rattle.board_meaning.specs.Legal.{IsLegal}
-use Rattle.board_machine_laws.proofs.Histories.{log_some, text_entry}
+use Rattle.board_laws.proofs.Histories.{log_some, text_entry}
 use Rattle.board_laws.proofs.Standings.{standing_grounded}
 use Rattle.board_laws.proofs.Following.{installs_last, edit_leaves}
 use Rattle.verdict_board.specs.declared.candidates.Candidates.{Candidates}

@@ -13,7 +13,7 @@ use Rattle.board_meaning.specs.Events.{History, library_after, stamp_after}
 use Rattle.board_meaning.specs.Claims.{Input, claim_at, is_open, inputs_of, input_names, is_unchanged, first_changed}
 use Rattle.board_meaning.specs.Machine.{Job, job_of, IsInstalled, IsStale, installed_by, install_reply, is_by, may_call, InstallCall, ReleaseCall}
 use Rattle.board_meaning.specs.Legal.{IsLegal}
-use Rattle.board_machine_laws.proofs.Claiming.{installed_unedited}
+use Rattle.board_laws.proofs.Claiming.{installed_unedited}
 use Rattle.board_laws.proofs.Standings.{grounded_now}
 use Rattle.module_graph.specs.Subjects.{IsGiven, read_answers}
 use Rattle.verdict_board.specs.declared.candidates.Candidates.{Candidates}

@@ -10,7 +10,7 @@ use Rattle.board_meaning.specs.Claims.{claim_at, inputs_after, inputs_of, input_
 use Rattle.board_meaning.specs.Standing.{is_unedited}
 use Rattle.board_meaning.specs.Machine.{Job, job_after, job_of}
 use Rattle.board_meaning.specs.Legal.{IsLegal}
-use Rattle.board_machine_laws.proofs.Claiming.{inputs_are, names_are}
+use Rattle.board_laws.proofs.Claiming.{inputs_are, names_are}
 use Rattle.board_laws.proofs.Legality.{legal_claim}
 use Rattle.board_laws.proofs.Standings.{ready_parts, answer_now}
 use Rattle.module_graph.specs.Subjects.{IsGiven}

@@ -15,7 +15,7 @@ use Rattle.board_meaning.specs.Events.{Entry, History, edit_in, log_of, library_
 use Rattle.board_meaning.specs.Claims.{claimed_name, ends_claim}
 use Rattle.board_meaning.specs.Standing.{is_edit_of, stands}
 use Rattle.board_meaning.specs.Legal.{IsLegal}
-use Rattle.board_machine_laws.proofs.Histories.{log_none}
+use Rattle.board_laws.proofs.Histories.{log_none}
 use Rattle.verdict_board.specs.declared.stage.Stage.{Stage}
 use Rattle.verdict_board.specs.declared.stage.Stage.TheVariants.{Waiting, Claimed, Standing, Cyclic}
 use Rattle.verdict_board.specs.Stages.{IsCurrent, IsStage, AreStages}

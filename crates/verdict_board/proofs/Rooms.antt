@@ -13,8 +13,8 @@ use Rattle.board_meaning.specs.Events.{Entry, History}
 use Rattle.board_meaning.specs.Claims.{claimed_name, claim_at, claims_from, ends_claim, is_ended, is_open, open_claims}
 use Rattle.board_meaning.specs.Standing.{installed_claim, installed_claims, installs}
 use Rattle.board_meaning.specs.Ready.{is_close, is_closed}
-use Rattle.board_machine_laws.proofs.Claiming.{claim_entry, claim_front}
-use Rattle.board_machine_laws.proofs.Earlier.{claims_in}
+use Rattle.board_laws.proofs.Claiming.{claim_entry, claim_front}
+use Rattle.board_laws.proofs.Earlier.{claims_in}
 use Rattle.verdict_board.proofs.Currents.{open_parts, open_from, ended_more}
 
 pub closed_more : (H : History) (e : Entry) → is_closed (H ++ e ∷ []) ≡ (is_closed H || is_close e.event)

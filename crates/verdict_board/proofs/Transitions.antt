@@ -17,8 +17,8 @@ use Rattle.board_meaning.specs.Claims.{claimed_name, claim_at, claims_from, ends
 use Rattle.board_meaning.specs.Standing.{installed_claim, installed_claims, installs, is_unedited, stands}
 use Rattle.board_meaning.specs.Ready.{is_close, is_closed, least_ready}
 use Rattle.board_meaning.specs.Machine.{IsInstalled, IsStale, install_event, install_reply, ClaimCall, InstallCall, ReleaseCall, CloseCall, event_of, is_by, may_call}
-use Rattle.board_machine_laws.proofs.Histories.{log_none}
-use Rattle.board_machine_laws.proofs.Claiming.{some_is_name, is_name_some, installed_unedited, unedited_installed}
+use Rattle.board_laws.proofs.Histories.{log_none}
+use Rattle.board_laws.proofs.Claiming.{some_is_name, is_name_some, installed_unedited, unedited_installed}
 use Rattle.board_laws.proofs.Legality.{legal_empty, least_is_ready}
 use Rattle.board_laws.proofs.Standings.{ready_parts, reach_now, grounded_now}
 use Rattle.board_laws.proofs.Following.{installs_last, others_leave, install_makes}

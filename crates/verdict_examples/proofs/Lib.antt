@@ -1,2 +1,4 @@
+mod LinksComputed
+mod TermsComputed
 pub mod Computed
 pub mod BoardComputed

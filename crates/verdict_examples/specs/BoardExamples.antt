@@ -8,7 +8,7 @@ use Rattle.log_meaning.specs.Append.{Made}
 use Rattle.board_meaning.specs.Events.{EditMade, Claim, Install, Stale, History}
 use Rattle.board_meaning.specs.Machine.{edit_reply, claim_reply, IsInstalled, IsStale, install_reply, IsVerdict, IsPending, report_reply, EditCall, ClaimCall, InstallCall}
 use Rattle.board_meaning.specs.Legal.{PassCall, after_calls, may_make_all}
-use Rattle.board_machine_laws.specs.Examples.{by_front, input}
+use Rattle.board_laws.specs.Examples.{by_front, input}
 use Rattle.text_meaning.specs.Dependencies.{dependencies}
 use Rattle.verdict_meaning.specs.Verdicts.{Verdict, Accepted, Theory}
 use Rattle.verdict_meaning.specs.Rounds.{modules}

@@ -1,3 +1,6 @@
+pub mod OrderTexts
+pub mod LinkOrder
+pub mod TermOrder
 pub mod Telling
 pub mod ExampleTexts
 pub mod Examples

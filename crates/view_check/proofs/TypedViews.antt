@@ -8,7 +8,7 @@ use Rattle.text_meaning.specs.Trees.{first_name}
 use Rattle.link_meaning.specs.Passes.{link_map}
 use Rattle.face_typing.proofs.Below.BuildingHolds.{views_are_coherent}
 use Rattle.face_typing.specs.Below.TypedFaces.{IsTypedEnvironment}
-use Rattle.face_typing.proofs.Below.LinksTyped.{links_are_typed}
+use Rattle.face_typing.proofs.LinksTyped.{links_are_typed}
 use Rattle.face_typing.specs.CarryingMaps.{ViewCarriesTyping}
 use Rattle.face_typing.proofs.BuildingTyped.{views_are_typed}
 use Rattle.face_typing.proofs.MapsCarry.{typed_views_carry}

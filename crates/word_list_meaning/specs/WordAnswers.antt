@@ -1,6 +1,6 @@
 -- What a list of words comes to: the run that it asks for, or the usage line (this profile).
 use Rattle.std.specs.Prelude.{◌≡◌, ◌⊎◌, ℕ, List, [], ◌∷◌, ◌++◌, Option, Some, None}
-use Rattle.output_meaning.specs.Printed.{usage_line}
+use Rattle.printing_meaning.specs.Printed.{usage_line}
 use Rattle.word_list_meaning.specs.WordLists.{Run, default_workers, worker_part, task_of, run_of}
 
 -- No words are no worker part, and leave the number of workers that is taken without one; other words are a worker part

@@ -1,4 +1,4 @@
-use Rattle.link_typing.proofs.LinksTyped.{links_are_typed}
+use Rattle.face_typing.proofs.LinksTyped.{links_are_typed}
 use Rattle.face_typing.proofs.BuildingTyped.{built_scopes_are_typed, built_theories_are_typed, empty_is_typed, inclusions_keep_typed, constants_keep_typed, structures_keep_typed, declarations_keep_typed, all_declarations_keep_typed, views_are_typed}
 use Rattle.face_typing.proofs.face_laws.law_typed_declarations.Goals as goal
 

@@ -1,4 +1,4 @@
-use Rattle.link_typing.proofs.LinksTyped.{links_are_typed}
+use Rattle.face_typing.proofs.LinksTyped.{links_are_typed}
 use Rattle.face_typing.proofs.LibrariesTyped.{faces_are_typed, theories_flatten, views_carry_typing, structures_carry_typing}
 use Rattle.face_typing.proofs.face_laws.law_typed_faces.Goals as goal
 

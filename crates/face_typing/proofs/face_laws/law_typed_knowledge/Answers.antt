@@ -1,4 +1,4 @@
-use Rattle.link_typing.proofs.LinksTyped.{links_are_typed}
+use Rattle.face_typing.proofs.LinksTyped.{links_are_typed}
 use Rattle.face_typing.proofs.LibrariesTyped.{grounded_know_typed, closed_are_typed}
 use Rattle.face_typing.proofs.face_laws.law_typed_knowledge.Goals as goal
 

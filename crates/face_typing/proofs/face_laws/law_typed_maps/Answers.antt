@@ -1,4 +1,4 @@
-use Rattle.link_typing.proofs.Below.ProperImages.{coherent_maps_are_proper}
+use Rattle.face_typing.proofs.Below.ProperImages.{coherent_maps_are_proper}
 use Rattle.face_typing.proofs.LibrariesTyped.{known_views_translate, known_structures_translate}
 use Rattle.face_typing.proofs.face_laws.law_typed_maps.Goals as goal
 

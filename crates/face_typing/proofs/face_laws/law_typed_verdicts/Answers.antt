@@ -1,4 +1,4 @@
-use Rattle.link_typing.proofs.LinksTyped.{links_are_typed}
+use Rattle.face_typing.proofs.LinksTyped.{links_are_typed}
 use Rattle.face_typing.proofs.LibrariesTyped.{judged_theories_are_typed, judged_views_are_typed}
 use Rattle.face_typing.proofs.face_laws.law_typed_verdicts.Goals as goal
 

@@ -1,6 +1,6 @@
 use Rattle.std.proofs.Common.{◌≡◌, false, [], subst}
 use Rattle.std.specs.Prelude.{IfSome}
-use Rattle.output_meaning.specs.Lines.{lines_of}
+use Rattle.printing_meaning.specs.Lines.{lines_of}
 use Rattle.run_meaning.specs.ScriptCommands as meant
 use Rattle.script_reader.specs.Reading.{to_come}
 use Rattle.script_reader.specs.Commands.{read_command}

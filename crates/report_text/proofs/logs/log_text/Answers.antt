@@ -3,7 +3,7 @@ use Rattle.std.specs.Fmt.{decimal}
 use Rattle.std.proofs.Common.{◌+◌, ◌++◌, drop, append_assoc, sym, ap, ◌∙◌, arith}
 use Rattle.std.proofs.lemmas.List.{append-nil}
 use Rattle.edit_log.specs.Readings.{read_edit}
-use Rattle.output_meaning.specs.Printed.{end_of_line}
+use Rattle.printing_meaning.specs.Printed.{end_of_line}
 use Rattle.printing_meaning.specs.EditLines.{entry_line, entry_lines}
 use Rattle.report_text.proofs.Entries.{edit_behind, next_line, no_line, none_within}
 use Rattle.report_text.proofs.logs.log_text.Goals as goal

@@ -1,5 +1,5 @@
 use Rattle.std.proofs.Common.{arith}
-use Rattle.output_laws.proofs.LineLemmas.{NoFeed-take_more}
+use Rattle.run_laws.proofs.LineLemmas.{NoFeed-take_more}
 use Rattle.script_reader.proofs.line.feed_at.Goals as goal
 
 pub loop-i-preserved : goal.loop-i-preserved

@@ -1,5 +1,5 @@
 use Rattle.std.proofs.Common.{take}
-use Rattle.output_meaning.specs.Lines.{NoFeed}
+use Rattle.printing_meaning.specs.Lines.{NoFeed}
 use Rattle.script_reader.proofs.line.feed_at.Given as goal
 
 abbrev pub invariant-loop-i : goal.invariant-loop-i

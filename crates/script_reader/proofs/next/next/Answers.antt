@@ -1,7 +1,7 @@
 use Rattle.std.proofs.Common.{◌≡◌, ℕ, List, subst, sym, ap, ◌∙◌}
 use Rattle.std.specs.Prelude.{Some}
 use Rattle.mmt_outside.specs.Bytes.{preceded}
-use Rattle.output_meaning.specs.Lines.{content_of}
+use Rattle.printing_meaning.specs.Lines.{content_of}
 use Rattle.run_meaning.specs.ScriptCommands as meant
 use Rattle.script_reader.specs.Said.{read_said}
 use Rattle.script_reader.specs.declared.said.Said.{Said}

@@ -1,6 +1,6 @@
 use Rattle.std.proofs.Common.{◌≡◌, List, ℕ, false, true, sym, ap, ◌∙◌, arith}
 use Rattle.mmt_outside.specs.Bytes.{preceded}
-use Rattle.output_meaning.specs.ScriptLines.{is_end_line}
+use Rattle.printing_meaning.specs.ScriptLines.{is_end_line}
 use Rattle.script_reader.proofs.TextSoFar.{end_piece}
 use Rattle.script_reader.proofs.text.read_piece.Goals as goal
 

@@ -1,4 +1,0 @@
-pub mod Claiming
-pub mod Computed
-pub mod Earlier
-pub mod Histories

@@ -1,5 +1,0 @@
-use Rattle.link_coherence_laws.proofs.Rows.{rows_are_coherent}
-use Rattle.link_coherence_laws.proofs.row_laws.law_rows.Goals as goal
-
-pub returns : goal.returns
-returns c = rows_are_coherent

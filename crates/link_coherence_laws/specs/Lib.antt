@@ -1,5 +1,0 @@
-pub mod Below
-pub mod LinkTargets
-pub mod TheoryScopes
-pub mod BetweenTheories
-pub mod InducedConstants

@@ -1,4 +1,0 @@
--- What those above cite of the crates below, which they have from here.
-pub use Rattle.expansion_typing.specs.TypingOfExpansion
-pub use Rattle.row_typing.specs.TypedFaces
-pub use Rattle.row_typing.specs.TypedLinks

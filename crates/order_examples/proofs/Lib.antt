@@ -1,2 +1,0 @@
-mod LinksComputed
-mod TermsComputed

@@ -1,3 +1,0 @@
-pub mod OrderTexts
-pub mod LinkOrder
-pub mod TermOrder

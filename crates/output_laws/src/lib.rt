@@ -1,2 +1,0 @@
-//! Lemmas on lines of scripts and on the texts between them.
-#![tactic(auto)]

@@ -1,2 +1,0 @@
--- What tokens and texts spell.
-pub mod ReadingLaws

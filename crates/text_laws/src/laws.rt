@@ -1,8 +1,0 @@
-// The law of what tokens spell. It is the contract of a function that does nothing.
-
-ghost use Rattle.text_laws.specs.ReadingLaws.{TreesAreDetermined};
-
-/// Tokens spell at most one tree.
-pub fn law_one_tree()
-    ensures { TreesAreDetermined }
-{}

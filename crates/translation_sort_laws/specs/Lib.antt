@@ -1,2 +1,0 @@
-pub mod AtomicBodies
-pub mod SortedTranslation

@@ -1,0 +1,160 @@
+-- The worked cases of links compute.
+use Rattle.std.proofs.Common.{refl}
+use Rattle.verdict_examples.proofs.Computed.{judging}
+use Rattle.verdict_examples.specs.LinkOrder.{UnknownTargetBeforeOverlap, TargetBehindASharedStructure, StructureOfAnAssignedConstant, OverlapBeforeWords, SharedByALinkFromATheoryThatIncludesTheDomain, SharedByALinkFromATheoryThatTheDomainIncludes, CoveringLinkFromATheoryThatIsNotIncluded, CoveringLinkIntoAnIncludedTheory, RowThroughAnInclusion, SecondWordBad, EndsOfARowOfTwo, WordWithoutStructure, DefinitionClashInAStructure, SharedStructureWithAnotherDefinition, DuplicateBeforeTheModuleTest, StructureNamedAsAConstant, ConstantNamedAsAStructure, UnknownDomainOfAStructure, BothEndsUnknown, CodomainUnknown, CycleAtAnEndOfAView, CycleAtTheFirstOfBothEnds, CycleAtAWordOfASharedStructure, CycleAtACoveringWord, OwnNameAloneIsADependency, OwnWordIsNone, CoveringsBeforeValues, FirstPassBeforeCoverings, ValuesInTheOrderOfConstants, ValueDoesNotSeeItsStructure, MissingAssignmentBeforeALaterValue, IdentityOfOneTheoryAndALinkOfAnother, IdentityTheSecondOfTwoLinksDiffers, IdentityOnOneThenTwoLinksOfWhichOneDiffers, LateTheoryIsNotCoveredEarlyCoveringsDisagree, AssignedValueUnderTheTranslatedClass, IdentityIsGivenUpWhereALinkCovers, CycleAtTheDomainOfAStructureBeforeItsWords, TwoLinksDifferFromTheIdentity}
+
+pub unknown_target_before_overlap : UnknownTargetBeforeOverlap
+unfolding judging
+unknown_target_before_overlap = refl
+
+pub target_behind_a_shared_structure : TargetBehindASharedStructure
+unfolding judging
+target_behind_a_shared_structure = refl
+
+pub structure_of_an_assigned_constant : StructureOfAnAssignedConstant
+unfolding judging
+structure_of_an_assigned_constant = refl
+
+pub overlap_before_words : OverlapBeforeWords
+unfolding judging
+overlap_before_words = refl
+
+pub shared_by_a_link_from_a_theory_that_includes_the_domain : SharedByALinkFromATheoryThatIncludesTheDomain
+unfolding judging
+shared_by_a_link_from_a_theory_that_includes_the_domain = refl
+
+pub shared_by_a_link_from_a_theory_that_the_domain_includes : SharedByALinkFromATheoryThatTheDomainIncludes
+unfolding judging
+shared_by_a_link_from_a_theory_that_the_domain_includes = refl
+
+pub covering_link_from_a_theory_that_is_not_included : CoveringLinkFromATheoryThatIsNotIncluded
+unfolding judging
+covering_link_from_a_theory_that_is_not_included = refl
+
+pub covering_link_into_an_included_theory : CoveringLinkIntoAnIncludedTheory
+unfolding judging
+covering_link_into_an_included_theory = refl
+
+pub row_through_an_inclusion : RowThroughAnInclusion
+unfolding judging
+row_through_an_inclusion = refl
+
+pub second_word_bad : SecondWordBad
+unfolding judging
+second_word_bad = refl
+
+pub ends_of_a_row_of_two : EndsOfARowOfTwo
+unfolding judging
+ends_of_a_row_of_two = refl
+
+pub word_without_structure : WordWithoutStructure
+unfolding judging
+word_without_structure = refl
+
+pub definition_clash_in_a_structure : DefinitionClashInAStructure
+unfolding judging
+definition_clash_in_a_structure = refl
+
+pub shared_structure_with_another_definition : SharedStructureWithAnotherDefinition
+unfolding judging
+shared_structure_with_another_definition = refl
+
+pub duplicate_before_the_module_test : DuplicateBeforeTheModuleTest
+unfolding judging
+duplicate_before_the_module_test = refl
+
+pub structure_named_as_a_constant : StructureNamedAsAConstant
+unfolding judging
+structure_named_as_a_constant = refl
+
+pub constant_named_as_a_structure : ConstantNamedAsAStructure
+unfolding judging
+constant_named_as_a_structure = refl
+
+pub unknown_domain_of_a_structure : UnknownDomainOfAStructure
+unfolding judging
+unknown_domain_of_a_structure = refl
+
+pub both_ends_unknown : BothEndsUnknown
+unfolding judging
+both_ends_unknown = refl
+
+pub codomain_unknown : CodomainUnknown
+unfolding judging
+codomain_unknown = refl
+
+pub cycle_at_an_end_of_a_view : CycleAtAnEndOfAView
+unfolding judging
+cycle_at_an_end_of_a_view = refl
+
+pub cycle_at_the_first_of_both_ends : CycleAtTheFirstOfBothEnds
+unfolding judging
+cycle_at_the_first_of_both_ends = refl
+
+pub cycle_at_a_word_of_a_shared_structure : CycleAtAWordOfASharedStructure
+unfolding judging
+cycle_at_a_word_of_a_shared_structure = refl
+
+pub cycle_at_a_covering_word : CycleAtACoveringWord
+unfolding judging
+cycle_at_a_covering_word = refl
+
+pub own_name_alone_is_a_dependency : OwnNameAloneIsADependency
+unfolding judging
+own_name_alone_is_a_dependency = refl
+
+pub own_word_is_none : OwnWordIsNone
+unfolding judging
+own_word_is_none = refl
+
+pub coverings_before_values : CoveringsBeforeValues
+unfolding judging
+coverings_before_values = refl
+
+pub first_pass_before_coverings : FirstPassBeforeCoverings
+unfolding judging
+first_pass_before_coverings = refl
+
+pub values_in_the_order_of_constants : ValuesInTheOrderOfConstants
+unfolding judging
+values_in_the_order_of_constants = refl
+
+pub value_does_not_see_its_structure : ValueDoesNotSeeItsStructure
+unfolding judging
+value_does_not_see_its_structure = refl
+
+pub missing_assignment_before_a_later_value : MissingAssignmentBeforeALaterValue
+unfolding judging
+missing_assignment_before_a_later_value = refl
+
+pub identity_of_one_theory_and_a_link_of_another : IdentityOfOneTheoryAndALinkOfAnother
+unfolding judging
+identity_of_one_theory_and_a_link_of_another = refl
+
+pub identity_the_second_of_two_links_differs : IdentityTheSecondOfTwoLinksDiffers
+unfolding judging
+identity_the_second_of_two_links_differs = refl
+
+pub identity_on_one_then_two_links_of_which_one_differs : IdentityOnOneThenTwoLinksOfWhichOneDiffers
+unfolding judging
+identity_on_one_then_two_links_of_which_one_differs = refl
+
+pub late_theory_is_not_covered_early_coverings_disagree : LateTheoryIsNotCoveredEarlyCoveringsDisagree
+unfolding judging
+late_theory_is_not_covered_early_coverings_disagree = refl
+
+pub assigned_value_under_the_translated_class : AssignedValueUnderTheTranslatedClass
+unfolding judging
+assigned_value_under_the_translated_class = refl
+
+pub identity_is_given_up_where_a_link_covers : IdentityIsGivenUpWhereALinkCovers
+unfolding judging
+identity_is_given_up_where_a_link_covers = refl
+
+pub cycle_at_the_domain_of_a_structure_before_its_words : CycleAtTheDomainOfAStructureBeforeItsWords
+unfolding judging
+cycle_at_the_domain_of_a_structure_before_its_words = refl
+
+pub two_links_differ_from_the_identity : TwoLinksDifferFromTheIdentity
+unfolding judging
+two_links_differ_from_the_identity = refl
