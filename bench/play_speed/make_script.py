@@ -1,4 +1,8 @@
-"""Writes a script for `mmt play`: `make_script.py SHAPE NUMBER FILE`. Of the shape `folder` FILE is a folder for `mmt check`.
+"""Writes a script for `mmt play` to a file; of the shape `folder` FILE is a folder for `mmt check`.
+
+usage: make_script.py SHAPE NUMBER FILE
+
+The shapes:
 
 chain    NUMBER theories, each of which includes the last and has a structure of it
 plain    NUMBER theories, each of which includes the last and has a constant
@@ -25,7 +29,10 @@ import random
 import re
 import sys
 
-LIBRARY = pathlib.Path(__file__).resolve().parent.parent.parent / "examples/library"
+sys.path.insert(0, str(pathlib.Path(__file__).resolve().parent.parent.parent / "tools"))
+from common import TOP, Words, stop  # noqa: E402
+
+LIBRARY = TOP / "examples/library"
 ALGEBRAS = (
     "Prop", "Set", "Magma", "Semigroup", "CommutativeMagma", "Monoid", "Group", "AbelianGroup", "Ring", "LeftModule",
     "OppositeMonoid", "RingItself", "RegularModule",
@@ -231,7 +238,12 @@ def pieces(shape, count):
 
 
 def main():
-    shape, count, file = sys.argv[1], int(sys.argv[2]), sys.argv[3]
+    words = Words(__doc__, most=3).rest
+    if len(words) < 3 or not words[1].isdigit():
+        stop("a shape, a number and a file are wanted; see --help")
+    shape, count, file = words[0], int(words[1]), words[2]
+    if not re.search(rf"^{re.escape(shape)} ", __doc__, re.MULTILINE):
+        stop(f"no such shape: {shape}; see --help")
     if shape == "folder":
         folder(count, pathlib.Path(file))
         return

@@ -1,10 +1,20 @@
-"""Writes a theory of declarations whose names have 1 to 12 letters. The words are its size in bytes and the file. With
-a third word, `fresh`, each declaration has a name of its own and longer classes, of names that were declared before."""
+"""Writes a theory of declarations whose names have 1 to 12 letters, of a size in bytes. With a third word, `fresh`, each declaration has
+a name of its own and longer classes, of names that were declared before.
+
+usage: make_text.py SIZE FILE [fresh]
+"""
+import pathlib
 import random
 import string
 import sys
 
-size, file, fresh = int(sys.argv[1]), sys.argv[2], "fresh" in sys.argv[3:]
+sys.path.insert(0, str(pathlib.Path(__file__).resolve().parent.parent.parent / "tools"))
+from common import Words, stop  # noqa: E402
+
+words = Words(__doc__, most=3).rest
+if len(words) < 2 or not words[0].isdigit() or words[2:] not in ([], ["fresh"]):
+    stop("a size and a file are wanted; see --help")
+size, file, fresh = int(words[0]), words[1], words[2:] == ["fresh"]
 rng = random.Random(7)
 
 
