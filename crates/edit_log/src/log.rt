@@ -1,11 +1,12 @@
 //! The log of the edits made.
-ghost use Rattle.std.specs.Prelude.{◌≡◌, ◌∷◌, ◌++◌, ◌≤◌, [], length, suc, IfOk, IfSome, OnErr, OnOk};
+ghost use Rattle.std.specs.Prelude.{◌≡◌, ◌∷◌, ◌++◌, ◌≤◌, [], length, suc, ◌≢◌, Err, IfOk, IfSome, OnErr, OnOk};
 ghost use Rattle.std.specs.Option.{option_copied, option_map};
 ghost use Rattle.log_meaning.specs.Log as logs;
 ghost use Rattle.log_meaning.specs.Log.{library_of, text_of, version_of, stamp_of, edit_at, name_at};
 ghost use Rattle.name_meaning.specs.Limits.{text_limit};
 ghost use Rattle.log_meaning.specs.Append.{Made, append_answer, appended, size_of, made_unless_full, IsWithinLimits};
 ghost use Rattle.edit_log.specs.Readings.{read_edit, IsAnswer};
+ghost use Rattle.edit_log.specs.declared.answers.EditFault.TheVariants.{Memory as WantOfMemory};
 
 use crate::changes::change_text;
 use crate::{Edit, EditFault, Edited};
@@ -141,9 +142,11 @@ impl Log {
         }
     }
 
-    /// What `append` answers to an edit where memory suffices, by the tests in their order. It takes no memory.
+    /// What `append` answers to an edit where memory suffices, by the tests in their order. It takes no memory, and never answers
+    /// want of it.
     pub fn answer(&self, edit: &Edit) -> Result<Edited, EditFault>
-        ensures { IsAnswer result (append_answer self.now (read_edit edit.now)) }
+        ensures answer { IsAnswer result (append_answer self.now (read_edit edit.now)) }
+        ensures no_want { result ≢ Err WantOfMemory }
     {
         match edit {
             Edit::Put { name, text } => self.answer_to_put(name, text.get().as_slice()),
@@ -152,7 +155,8 @@ impl Log {
     }
 
     fn answer_to_put(&self, name: &Name, text: &[u8]) -> Result<Edited, EditFault>
-        ensures { IsAnswer result (append_answer self.now (logs.Put name.now text.now)) }
+        ensures answer { IsAnswer result (append_answer self.now (logs.Put name.now text.now)) }
+        ensures no_want { result ≢ Err WantOfMemory }
     {
         if text.len() > TEXT_LIMIT {
             return Err(EditFault::TooLong);
@@ -173,7 +177,8 @@ impl Log {
     }
 
     fn answer_to_drop(&self, name: &Name) -> Result<Edited, EditFault>
-        ensures { IsAnswer result (append_answer self.now (logs.Drop name.now)) }
+        ensures answer { IsAnswer result (append_answer self.now (logs.Drop name.now)) }
+        ensures no_want { result ≢ Err WantOfMemory }
     {
         if self.text(name).is_none() {
             return Ok(Edited::Absent(self.version()));
@@ -183,7 +188,8 @@ impl Log {
 
     /// The answer to an edit that puts so many bytes and has passed the other tests.
     fn made_unless_full(&self, size: usize) -> Result<Edited, EditFault>
-        ensures { (edit : logs.Edit) → size_of edit ≡ size → IsAnswer result (made_unless_full self.now edit) }
+        ensures answer { (edit : logs.Edit) → size_of edit ≡ size → IsAnswer result (made_unless_full self.now edit) }
+        ensures no_want { result ≢ Err WantOfMemory }
     {
         if self.edits.len() >= EDIT_LIMIT || size > TOTAL_LIMIT - self.size {
             return Err(EditFault::Full);

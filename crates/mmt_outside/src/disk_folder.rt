@@ -12,7 +12,8 @@ use std::fs::File;
 use std::io::Read;
 use std::marker::Model;
 use std::path::Path;
-use std::{fs, io};
+use std::rt::Files;
+use std::{fs, io, str};
 
 /// The folders of the system, seen as their count of faults.
 #[derive(Drop)]
@@ -51,13 +52,67 @@ impl DiskFolder {
     }
 }
 
-/// The names of all in a folder but other folders. A name that is not UTF-8 is an error.
+/// The name under which what stands so in a folder is read. Names that begin with a dot have none, as `*.elf` in a shell leaves them
+/// out. A name that ends in `.elf` is an error where it is not UTF-8, or has a byte below 32, which would forge lines where it is
+/// printed; of another one that is not UTF-8 nothing is read.
+fn readable(listed: &[u8]) -> io::Result<Option<&str>> {
+    if listed.is_empty() || listed.starts_with(b".") {
+        return Ok(None);
+    }
+    let is_source = listed.ends_with(b".elf");
+    match str::from_utf8(listed) {
+        Ok(_) if is_source && listed.iter().any(|byte| *byte < b' ') => Err(no_name()),
+        Ok(name) => Ok(Some(name)),
+        Err(_) if is_source => Err(no_name()),
+        Err(_) => Ok(None),
+    }
+}
+
+fn no_name() -> io::Error {
+    io::Error::from(io::ErrorKind::InvalidFilename)
+}
+
+/// Whether what has this name is no folder, pipe, socket or device, links followed. What cannot be asked about is taken for a file, so
+/// that reading it tells why.
+fn is_file(rt: HostRuntime, alloc: Global, folder: &str, name: &str) -> io::Result<bool> {
+    let path = Path::new(folder).join(alloc, name)?;
+    match fs::metadata(&rt, path.as_path()) {
+        Ok(found) => Ok(found.is_file()),
+        Err(error) if error.kind() == io::ErrorKind::OutOfMemory => Err(error),
+        Err(_) => Ok(true),
+    }
+}
+
+/// What stands in a folder: names, with a zero byte behind each.
+fn listing(rt: HostRuntime, alloc: Global, folder: &str) -> io::Result<Vec<u8>> {
+    let mut path = String::from_str(alloc, folder)?;
+    // with a slash at its end a link to a folder is followed
+    if !folder.is_empty() && !folder.ends_with('/') {
+        path.push('/')?;
+    }
+    let mut entries = rt.open_dir(path.as_str())?;
+    let mut listed = Vec::new(alloc);
+    // a read gives whole names, and so needs room for one
+    let mut piece = [0; 4096];
+    for _ in 0..u64::MAX {
+        let count = entries.read(&mut piece)?;
+        if count == 0 {
+            break;
+        }
+        listed.extend_from_slice(&piece[..count])?;
+    }
+    Ok(listed)
+}
+
+/// The names of the files in a folder.
 fn names_of(rt: HostRuntime, alloc: Global, folder: &str) -> io::Result<Texts> {
+    let listed = listing(rt, alloc, folder)?;
     let mut names = Vec::new(alloc);
-    for entry in fs::read_dir(&rt, folder)? {
-        let entry = entry?;
-        if !entry.path().is_dir(&rt) {
-            names.push(String::from_str(alloc, entry.file_name())?)?;
+    for entry in listed.split(|byte| *byte == 0) {
+        if let Some(name) = readable(entry)? {
+            if is_file(rt, alloc, folder, name)? {
+                names.push(String::from_str(alloc, name)?)?;
+            }
         }
     }
     Ok(Texts::from_vec(names))

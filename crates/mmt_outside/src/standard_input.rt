@@ -1,8 +1,9 @@
 //! The standard input of the process. It does not tell what bytes come.
-ghost use Rattle.std.specs.Prelude.{◌≡◌, None};
+ghost use Rattle.std.specs.Prelude.{◌≡◌, ◌≤◌, None, IfOk, length};
 
 use crate::copying::copy_front;
 use crate::{Failed, Source};
+use std::io;
 use std::io::Read;
 use std::marker::Model;
 use std::rt::Stdin;
@@ -45,6 +46,19 @@ impl StdSource {
     }
 }
 
+/// One read, which is made again where a signal interrupts it.
+fn read_once(input: &mut Stdin, into: &mut [u8]) -> io::Result<usize>
+    ensures { IfOk result (λ count. count ≤ length into.old) }
+{
+    for _ in 0..u64::MAX {
+        match input.read(into) {
+            Err(error) if error.kind() == io::ErrorKind::Interrupted => {}
+            read => return read,
+        }
+    }
+    Err(io::Error::from(io::ErrorKind::Interrupted))
+}
+
 impl Source for StdSource {
     ghost left = { λ _. None };
 
@@ -52,7 +66,7 @@ impl Source for StdSource {
 
     fn read(&mut self, into: &mut [u8]) -> Result<usize, Failed> {
         if self.from == self.to && !into.is_empty() {
-            match self.input.read(&mut self.buffer) {
+            match read_once(&mut self.input, &mut self.buffer) {
                 Ok(count) => {
                     self.from = 0;
                     self.to = count;

@@ -1,8 +1,9 @@
 //! The standard output of the process. It does not tell what bytes went out.
-ghost use Rattle.std.specs.Prelude.{◌≡◌, ◌≤◌, None};
+ghost use Rattle.std.specs.Prelude.{◌≡◌, ◌≤◌, None, IfOk, length};
 ghost use Rattle.mmt_outside.specs.Faults.{Rose};
 
 use crate::{Failed, Sink};
+use std::io;
 use std::io::Write;
 use std::marker::Model;
 use std::rt::Stdout;
@@ -42,13 +43,26 @@ impl StdSink {
     }
 }
 
+/// One write, which is made again where a signal interrupts it.
+fn write_once(output: &mut Stdout, piece: &[u8]) -> io::Result<usize>
+    ensures { IfOk result (λ count. count ≤ length piece.now) }
+{
+    for _ in 0..u64::MAX {
+        match output.write(piece) {
+            Err(error) if error.kind() == io::ErrorKind::Interrupted => {}
+            written => return written,
+        }
+    }
+    Err(io::Error::from(io::ErrorKind::Interrupted))
+}
+
 impl Sink for StdSink {
     ghost taken = { λ _. None };
 
     ghost faults = { λ s. s };
 
     fn write(&mut self, piece: &[u8]) -> Result<usize, Failed> {
-        match self.output.write(piece) {
+        match write_once(&mut self.output, piece) {
             Ok(count) if count > 0 || piece.is_empty() => Ok(count),
             _ => Err(self.fault()),
         }

@@ -13,11 +13,11 @@ something : (found : Option (Bor Text)) → is_some found ≡ true → (t : Text
 something None h = absurd (true≢false (sym h))
 something (Some b) h = (b.now, refl)
 
-pub returns-then-is_none : goal.returns-then-is_none
-returns-then-is_none c =
+pub returns-then-is_none-clause-answer : goal.returns-then-is_none-clause-answer
+returns-then-is_none-clause-answer c =
     rw c.version.ensures.version (drop_absent c.args.self.now c.args.name.now (sym c.text.ensures.text ∙ nothing c.text.result c.if-is_none.ensures))
 
-pub returns : goal.returns
-returns c =
+pub returns-clause-answer : goal.returns-clause-answer
+returns-clause-answer c =
     let q = something c.text.result c.if-is_none.ensures in
-    subst (IsAnswer c.made_unless_full.result) (sym (drop_present c.args.self.now c.args.name.now q.0 (sym c.text.ensures.text ∙ q.1))) (c.made_unless_full.ensures (logs.Drop c.args.name.now) refl)
+    subst (IsAnswer c.made_unless_full.result) (sym (drop_present c.args.self.now c.args.name.now q.0 (sym c.text.ensures.text ∙ q.1))) (c.made_unless_full.ensures.answer (logs.Drop c.args.name.now) refl)

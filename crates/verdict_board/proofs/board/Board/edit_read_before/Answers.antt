@@ -19,7 +19,7 @@ use Rattle.verdict_board.proofs.board.Board.edit_read_before.Goals as goal
 pub returns-in_default : goal.returns-in_default
 returns-in_default g c =
     let e = read_edit c.args.edit in
-    let reply : append_answer (log_of c.self.inside.history.entries) e ≡ read_edited c.in_ok-answer.answer = ap (λ log. append_answer log e) (sym c.self.invariant.logged) ∙ c.in_ok-answer.ensures in
+    let reply : append_answer (log_of c.self.inside.history.entries) e ≡ read_edited c.in_ok-answer.answer = ap (λ log. append_answer log e) (sym c.self.invariant.logged) ∙ c.in_ok-answer.ensures.answer in
     record {
       answer = rw (← c.self.view_is) reply;
       history = rw (← c.self.view_is) (unmade_after g.S.Subject.subject.dependencies c.self.inside.history.entries c.args.pass e c.in_ok-answer.answer c.in_default.not-Made reply);
@@ -28,7 +28,7 @@ returns-in_default g c =
 
 pub next-requires-clause-short : goal.next-requires-clause-short
 next-requires-clause-short g c κs b =
-    made_short c.self.inside.log (read_edit c.args.edit) c.in-Made.version (c.in_ok-answer.ensures ∙ ap read_edited c.in-Made.is)
+    made_short c.self.inside.log (read_edit c.args.edit) c.in-Made.version (c.in_ok-answer.ensures.answer ∙ ap read_edited c.in-Made.is)
 
 pub make_edit-requires-clause-sorted : goal.make_edit-requires-clause-sorted
 make_edit-requires-clause-sorted g c =
@@ -63,7 +63,7 @@ invariant_of-self-2 g c =
     let M = g.S.Subject.meaning in
     let e = read_edit c.args.edit in
     let H = c.self.inside.history.entries in
-    let made : append_answer c.self.inside.log e ≡ Made c.in-Made.version = c.in_ok-answer.ensures ∙ ap read_edited c.in-Made.is in
+    let made : append_answer c.self.inside.log e ≡ Made c.in-Made.version = c.in_ok-answer.ensures.answer ∙ ap read_edited c.in-Made.is in
     let reply : append_answer (log_of H) e ≡ Made c.in-Made.version = ap (λ log. append_answer log e) (sym c.self.invariant.logged) ∙ made in
     let v : c.in-Made.version ≡ suc (version_after H) = made_version (log_of H) e c.in-Made.version reply in
     let lawful = (g.met.S.Subject g.world.𝓛 g.world.𝓜 g.world.𝓡 ((λ s x. x), (λ x. x), (λ x. x), λ x. x)).lawful in
@@ -86,7 +86,7 @@ pub returns-clause-history : goal.returns-clause-history
 returns-clause-history g c =
     let e = read_edit c.args.edit in
     let H = c.self.inside.history.entries in
-    let made : append_answer c.self.inside.log e ≡ Made c.in-Made.version = c.in_ok-answer.ensures ∙ ap read_edited c.in-Made.is in
+    let made : append_answer c.self.inside.log e ≡ Made c.in-Made.version = c.in_ok-answer.ensures.answer ∙ ap read_edited c.in-Made.is in
     let reply : append_answer (log_of H) e ≡ Made c.in-Made.version = ap (λ log. append_answer log e) (sym c.self.invariant.logged) ∙ made in
     let v : c.in-Made.version ≡ suc (version_after H) = made_version (log_of H) e c.in-Made.version reply in
     let noted : c.in_ok-next.next.history.entries ≡ H ++ entry c.args.pass c.in-Made.version (EditMade e) ∷ [] = rw c.self.view_is c.in_ok-next.ensures.history in
