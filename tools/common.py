@@ -4,6 +4,7 @@ A script prints what it found on standard output, and messages on standard error
 where something is not, and with 2 where it cannot begin: a word that it does not know, a program that is not built."""
 import os
 import pathlib
+import re
 import signal
 import sys
 
@@ -114,3 +115,17 @@ def sources(program):
     for name in standing_on(program, layout()):
         for part in PARTS:
             yield from (file for file in (CRATES / name / part).rglob("*") if file.is_file())
+
+
+def first_sentence(file, ends="."):
+    """The comment that a source begins with, up to the first of these signs outside of parentheses, as a cell of a table."""
+    comment = []
+    for line in file.read_text().splitlines():
+        found = re.match(r"(?:--|//!|///?) ?(.*)", line)
+        if not found:
+            break
+        comment.append(found[1].strip())
+    told, *others = re.split(rf"(?<=[{ends}])(?:\s|$)", " ".join(comment))
+    while others and told.count("(") > told.count(")"):
+        told += f" {others.pop(0)}"
+    return told.rstrip(ends).replace("|", "\\|")

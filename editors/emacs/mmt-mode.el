@@ -30,14 +30,15 @@
 (defun mmt-mode-propertize (start end)
   "Mark the edges of the comments between START and END."
   (goto-char start)
-  (while (re-search-forward "%{\\|%[ \t%]\\|%$" end t)
-    (let ((begin (match-beginning 0)))
+  (while (re-search-forward "%[{.]\\|%[ \t%]\\|%$" end t)
+    (let ((begin (match-beginning 0)) (kind (char-before)))
       (unless (nth 4 (save-excursion (syntax-ppss begin)))
-        (if (not (eq (char-before) ?{))
+        (if (not (memq kind '(?{ ?.)))
             (progn
               (put-text-property begin (1+ begin) 'syntax-table (string-to-syntax "<"))
               (end-of-line))
-          (mmt-mode-comment-end (point-max))
+          ;; (the sign %. ends the input)
+          (if (eq kind ?.) (goto-char (point-max)) (mmt-mode-comment-end (point-max)))
           (put-text-property begin (1+ begin) 'syntax-table (string-to-syntax "!"))
           (put-text-property (1- (point)) (point) 'syntax-table (string-to-syntax "!")))))))
 
