@@ -1,11 +1,11 @@
 -- What expressions stand for, step by step, by the expressions of the code.
-use Rattle.std.proofs.Common.{◌≡◌, ℕ, List, [], ◌∷◌, ◌++◌, map, fold, take, drop, length, slice_index_or, ◌+◌, ◌<◌, ◌≤◌, Option, Some, None, Result, Ok, Err, refl, sym, ap, ap₂, ◌∙◌, subst}
+use Rattle.std.proofs.Common.{◌≡◌, ℕ, List, [], ◌∷◌, map, fold, take, drop, length, slice_index_or, ◌+◌, ◌<◌, ◌≤◌, Option, Some, None, Result, Ok, Err, refl, sym, ap, ap₂, ◌∙◌, subst}
 use Rattle.std.proofs.lemmas.List.{map-append, take-append-drop, take_all}
 use Rattle.std.proofs.lemmas.List.Sums.{fold-append}
 use Rattle.std.specs.declared.boxed.Box.{Box}
 use Rattle.std.specs.declared.alloc.Global.{Global}
 use Rattle.name_meaning.specs.Names.{Name, Path}
-use Rattle.lf_meaning.specs.Terms.{Object, Lam, Family, Pi, AtFamily, FamilyCon, family_apply_all}
+use Rattle.lf_meaning.specs.Terms.{Object, Lam, Family, Pi}
 use Rattle.translation_meaning.specs.Heads as heads
 use Rattle.library_meaning.specs.Resolution.{Scope}
 use Rattle.text_meaning.specs.Tokens.{Span}
@@ -17,7 +17,7 @@ use Rattle.lf_meaning.specs.Equality.{same_family}
 use Rattle.expansion_meaning.specs.Locals.{Locals, with_local}
 use Rattle.expansion_meaning.specs.NameHeads.{Level, Objects, Families, name_head}
 use Rattle.expansion_meaning.specs.Expansion.{Product, span_of, lambda_at, object_at, family_at_type, expand_object, expand_head, expand_arguments, expand_family}
-use Rattle.term_trees.specs.Readings.{read_arguments, read_constant, read_family, read_object}
+use Rattle.term_trees.specs.Readings.{read_family, read_object}
 use Rattle.term_trees.proofs.ReadingEquations.{read_family_pi, read_family_at, read_object_lam}
 use Rattle.base_types.specs.declared.qname.QName.{QName}
 use Rattle.term_trees.specs.declared.fam.Fam.{Fam}

@@ -1,9 +1,11 @@
 -- What the heads of the code stand for, step by step.
-use Rattle.std.proofs.Common.{◌≡◌, ℕ, Option, true, false, Bool, List, [], ◌∷◌, ◌++◌, map, Some, None, Result, Ok, IfOk, sym, ap, ap₂, ◌∙◌, subst}
+use Rattle.std.proofs.Common.{◌≡◌, ℕ, Option, true, List, [], ◌∷◌, ◌++◌, Some, None, Ok, Err, sym, ap, ap₂, ◌∙◌, subst}
 use Rattle.std.specs.Option.{option_map}
 use Rattle.std.proofs.lemmas.List.{map-append}
-use Rattle.lf_meaning.specs.Terms.{Object, At, Var, Con, Family, Pi, AtFamily, AtomicFamily, FamilyCon, Kind, Ty, PiKind, apply_all, family_apply_all}
+use Rattle.lf_meaning.specs.Terms.{Object, At, Var, Con, Family, Pi, AtFamily, AtomicFamily, FamilyCon, Kind, apply_all, family_apply_all}
 use Rattle.lf_meaning.specs.Equality.{same_family}
+use Rattle.lf_meaning.specs.Erasure.{erase}
+use Rattle.lf_meaning.specs.Substitution.{app, substitute_family}
 use Rattle.lf_meaning.specs.Replacement.{object_of, takes_all}
 use Rattle.translation_meaning.specs.Translation.{object_image, family_image, family_of}
 use Rattle.translation_meaning.specs.Heads as heads
@@ -11,14 +13,14 @@ use Rattle.translation_meaning.specs.Heads.{head_takes, head_takes_all}
 use Rattle.expansion_meaning.specs.NameHeads.{class_head, declared_head}
 use Rattle.expansion_meaning.specs.Expansion as expansion
 use Rattle.text_meaning.specs.Tokens.{Span}
-use Rattle.term_trees.specs.Readings.{arguments_of, read_arguments, read_class, read_constant, read_declaration, read_family, read_head, read_kind, read_object, read_objects, read_value}
+use Rattle.term_trees.specs.Readings.{arguments_of, read_arguments, read_class, read_constant, read_declaration, read_family, read_kind, read_object, read_objects, read_value}
 use Rattle.term_trees.specs.declared.fam.Fam.{Fam}
 use Rattle.term_trees.specs.declared.flat_decl.FlatDecl.{FlatDecl}
 use Rattle.term_trees.specs.declared.class.Value as code
 use Rattle.term_trees.specs.declared.kind.Kind as code_kind
 use Rattle.term_trees.specs.declared.kind.Kind.TheVariants as kinds
 use Rattle.answer_meaning.specs.Answers.{◌>>=◌}
-use Rattle.expansion_meaning.specs.Answers.{must}
+use Rattle.expansion_meaning.specs.Answers.{Answer, must}
 use Rattle.expansion_meaning.specs.Rules.{Rule}
 use Rattle.term_trees.specs.declared.obj.Obj.{Obj}
 use Rattle.term_trees.specs.declared.obj.Obj.TheVariants as objs
@@ -28,10 +30,10 @@ use Rattle.base_types.specs.declared.qname.QName.{QName}
 use Rattle.term_trees.proofs.ReadingEquations.{read_object_at, read_family_at, read_kind_ty}
 use Rattle.term_trees.specs.declared.obj.Spine.{Spine}
 use Rattle.elaborate.specs.LentValues.{value_of}
-use Rattle.elaborate.specs.HeadStates.{BeginsWith, Classifies, Stands}
+use Rattle.elaborate.specs.HeadStates.{BeginsWith, Classifies, Stands, StandsForFamily, StandsForHead}
+use Rattle.elaborate.specs.Answers.{Begins}
 use Rattle.elaborate.specs.declared.heads.Classifier.{Classifier}
 use Rattle.elaborate.specs.declared.heads.Classifier.TheVariants as classifiers
-use Rattle.elaborate.specs.declared.heads.Start.{Start}
 use Rattle.elaborate.specs.declared.heads.Start.TheVariants as starts
 use Rattle.elaborate.specs.declared.heads.Head.{Head}
 use Rattle.elaborate.specs.declared.lent.Lent.{Lent}
@@ -59,6 +61,20 @@ pub variable_first : (own : Head) (i : ℕ) (o : Object) (a : Family) → own.st
 variable_first own i o a is stands =
     let begins : BeginsWith (starts.Variable i) stands.first = subst (λ s. BeginsWith s stands.first) is stands.begins in
     atomic_is (Var i) begins.0 (read_arguments own.spine) o a (ap (λ h. head_takes_all h (read_arguments own.spine)) (sym begins.1) ∙ stands.takes)
+
+-- What begins as an object is none of families, whatever arguments it takes.
+object_stays : (o : Object) (a : Family) (ms : List Object) (n : ℕ) (b : Family) (k : Kind) → head_takes_all (heads.ObjectHead o a) ms ≡ heads.FamilyHead n b k → ⊥
+unfolding head_takes_all
+object_stays o a [] n b k h = cc
+object_stays o (Pi domain body) (m ∷ ms) n b k h = object_stays (app (erase (Pi domain body)) o m).value (substitute_family m (erase domain) 0 body) ms n b k h
+object_stays o (AtFamily p) (m ∷ ms) n b k h = object_stays (app (erase (AtFamily p)) o m).value (AtFamily p) ms n b k h
+
+-- So no head of families begins at a variable.
+pub no_variable : (own : Head) (i : ℕ) → own.start ≡ starts.Variable i → StandsForFamily own → ⊥
+no_variable own i is for_family =
+    let stands = for_family.3 in
+    let begins : BeginsWith (starts.Variable i) stands.first = subst (λ s. BeginsWith s stands.first) is stands.begins in
+    object_stays (At (Var i)) begins.0 (read_arguments own.spine) for_family.0 for_family.1 for_family.2 (ap (λ h. head_takes_all h (read_arguments own.spine)) (sym begins.1) ∙ stands.takes)
 
 -- A declared constant with its arguments: its value takes them, or it keeps them.
 module _ (d : FlatDecl) (spine : Spine) (value : Option code.Value) (is : d.value ≡ value) where
@@ -101,6 +117,17 @@ object_of_family family (heads.FamilyHead n b k) h = absurd h
 family_of_kind : (kind : Lent code_kind.Kind) (f : heads.Head) → Classifies (classifiers.Kind kind) f → (n : ℕ) × (b : Family) × (f ≡ heads.FamilyHead n b (read_kind (value_of kind)))
 family_of_kind kind (heads.ObjectHead o a) h = absurd h
 family_of_kind kind (heads.FamilyHead n b k) h = (n, b, ap (λ x. heads.FamilyHead n b x) (sym h))
+
+-- A head with a kind is one of families.
+pub family_head : (own : Head) (kind : Lent code_kind.Kind) → own.classifier ≡ classifiers.Kind kind → StandsForHead own → StandsForFamily own
+family_head own kind is for_head =
+    let found = family_of_kind kind for_head.0 (subst (λ x. Classifies x for_head.0) is for_head.1.classifies) in
+    (found.0, found.1, read_kind (value_of kind), subst (Stands own) found.2 for_head.1)
+
+-- What a call begins with stands for a head.
+pub begun : (own : Head) (answer : Answer heads.Head) → Begins (Ok own) answer → StandsForHead own
+begun own (Ok head) h = (head, h)
+begun own (Err fault) h = absurd h
 
 -- The object of a head that stands at its family.
 pub object_stands : (span : Span) (own : Head) (family : Lent Fam) (t : Fam) (q : QName) (s : Spine) (m : Obj) (f : heads.Head) → own.classifier ≡ classifiers.Family family → t ≡ fams.At q s

@@ -1,12 +1,10 @@
 -- What expressions stand for as kinds, classes and values, step by step, by the expressions of the code.
-use Rattle.std.proofs.Common.{◌≡◌, Bool, true, false, Option, Some, None, Result, Ok, Err, refl, sym, ap, ap₂, ◌∙◌}
+use Rattle.std.proofs.Common.{◌≡◌, true, false, Option, Some, None, Result, Ok, Err, refl, sym, ap, ap₂, ◌∙◌}
 use Rattle.std.specs.declared.boxed.Box.{Box}
 use Rattle.std.specs.declared.alloc.Global.{Global}
 use Rattle.name_meaning.specs.Names.{Name, Path}
-use Rattle.lf_meaning.specs.Terms.{Family, Kind, Ty, PiKind}
-use Rattle.lf_meaning.specs.Signatures.{Class, Value}
+use Rattle.lf_meaning.specs.Terms.{Family, Kind, PiKind}
 use Rattle.lf_meaning.specs.Equality.{same_family}
-use Rattle.translation_meaning.specs.Heads as heads
 use Rattle.library_meaning.specs.Resolution.{Scope}
 use Rattle.text_meaning.specs.Tokens.{Span}
 use Rattle.text_meaning.specs.Trees as trees
@@ -16,24 +14,22 @@ use Rattle.expansion_meaning.specs.Answers.{Answer, broken, must}
 use Rattle.expansion_meaning.specs.Locals.{Locals, with_local}
 use Rattle.expansion_meaning.specs.NameHeads.{Families}
 use Rattle.expansion_meaning.specs.Expansion.{span_of, expand_object, expand_head, expand_family, expand_kind}
-use Rattle.expansion_meaning.specs.Values.{KindProduct, ends_in_type, lambda_at_kind, family_at_kind, expand_family_value}
+use Rattle.expansion_meaning.specs.Values.{KindProduct, ends_in_type, lambda_at_kind, expand_family_value}
 use Rattle.term_trees.specs.Readings.{read_family, read_kind}
 use Rattle.term_trees.proofs.ReadingEquations.{read_kind_ty, read_kind_pi}
 use Rattle.term_trees.specs.declared.fam.Fam.{Fam}
 use Rattle.term_trees.specs.declared.kind.Kind as code
 use Rattle.term_trees.specs.declared.kind.Kind.TheVariants as kinds
-use Rattle.mmt_syntax.specs.Readings.{read_span, read_binder, read_expr, expressions_of}
+use Rattle.mmt_syntax.specs.Readings.{read_span, read_binder, read_expr}
 use Rattle.mmt_syntax.specs.declared.expr.Binder.{Binder}
 use Rattle.mmt_syntax.specs.declared.expr.Expr.{Expr}
 use Rattle.mmt_syntax.specs.declared.expr.Exprs.{Exprs}
 use Rattle.mmt_syntax.specs.declared.expr.Node.TheVariants as nodes
-use Rattle.elaborate.specs.HeadStates.{Stands}
-use Rattle.elaborate.specs.Steps.{written_of, domain_answer, kind_product_answer, named_answer, built_answer, value_answer, atomic_body_answer}
-use Rattle.elaborate.specs.Answers.{IsFirstFault, Expands, Begins}
+use Rattle.elaborate.specs.Steps.{written_of, domain_answer, kind_product_answer, atomic_body_answer}
+use Rattle.elaborate.specs.Answers.{IsFirstFault, Expands}
 use Rattle.elaborate.specs.declared.fault.ElabFault.{ElabFault}
-use Rattle.elaborate.specs.declared.heads.Head.{Head}
 use Rattle.mmt_syntax.proofs.Nodes.{read_ty, read_name, read_app, read_pi, read_lam, read_typed_lam, read_arrow, read_back}
-use Rattle.elaborate.proofs.ExpansionSteps.{bind_same, begun, first_stays, first_behind, same_fault, same_answer}
+use Rattle.elaborate.proofs.ExpansionSteps.{bind_same, first_stays, same_fault, same_answer}
 
 -- ---- the end of an expression
 

@@ -1,13 +1,13 @@
 -- What names stand for behind binders, and what they begin as.
-use Rattle.std.proofs.Common.{◌≡◌, ℕ, zero, suc, ◌+◌, add-one, Bool, true, false, cond, List, [], ◌∷◌, map, reverse, Option, Some, None, Result, Ok, Err, Bor, refl, sym, ap, ◌∙◌, subst}
+use Rattle.std.proofs.Common.{◌≡◌, ℕ, zero, suc, ◌+◌, add-one, Bool, true, false, cond, List, [], ◌∷◌, reverse, Option, Some, None, Result, Ok, Err, Bor, refl, sym, ap, ◌∙◌, subst}
 use Rattle.std.specs.Prelude.{slice_get}
 use Rattle.std.specs.Option.{option_copied, option_map}
 use Rattle.std.proofs.lemmas.Option.{slice_get-map}
 use Rattle.list_laws.proofs.Lists.{map_reversed}
-use Rattle.name_meaning.specs.Names.{Name, Path, same_name}
+use Rattle.name_meaning.specs.Names.{Name, Path}
 use Rattle.lf_meaning.specs.Terms.{Constant, Object, At, Var, Family, Kind}
 use Rattle.lf_meaning.specs.Raising.{raise_family}
-use Rattle.lf_meaning.specs.Signatures.{Class, FamilyClass, KindClass, Value, SameAs, TermValue, FamilyValue, Declaration}
+use Rattle.lf_meaning.specs.Signatures.{Value, SameAs, TermValue, FamilyValue, Declaration}
 use Rattle.translation_meaning.specs.Heads as heads
 use Rattle.translation_meaning.specs.Heads.{head_takes_all}
 use Rattle.library_meaning.specs.Resolution.{Scope, Variables, Resolved, Variable, Declared, Unknown, Ambiguous, resolve, bound_variable, variable_from, is_variable, own_at, qualified, included_at, the_only, or_variable, or_declared}

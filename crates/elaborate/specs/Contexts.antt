@@ -1,5 +1,5 @@
 -- The scope and the variables of a context of the code.
-use Rattle.std.specs.Prelude.{Bool, true, false, [], ◌∷◌, Option, Some, None, Ok}
+use Rattle.std.specs.Prelude.{Bool, false, [], ◌∷◌, Option, Some, None, Ok}
 use Rattle.std.specs.Option.{option_copied}
 use Rattle.name_meaning.specs.Names.{Name, Path, same_name}
 use Rattle.library_meaning.specs.Resolution as resolution

@@ -39,6 +39,14 @@ pub record Stands (own : Head) (head : heads.Head) : Type 0 where
   pub takes : head_takes_all first (read_arguments own.spine) ≡ head
   pub classifies : Classifies own.classifier head
 
+-- There is such a head of the definitions.
+abbrev pub StandsForHead : Head → Type 0
+StandsForHead own = (head : heads.Head) × Stands own head
+
+-- There is one of families.
+abbrev pub StandsForFamily : Head → Type 0
+StandsForFamily own = (binders : ℕ) × (family : Family) × (kind : Kind) × Stands own (heads.FamilyHead binders family kind)
+
 -- The family after an argument: the body of a Π with the argument substituted, an atomic family as it is.
 abbrev pub family_after : Family → Object → Family
 family_after (Pi domain body) argument = substitute_family argument (erase domain) 0 body

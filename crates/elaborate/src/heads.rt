@@ -12,7 +12,7 @@ ghost use Rattle.expansion_meaning.specs.Expansion as expansion;
 ghost use Rattle.term_trees.specs.Readings.{read_arguments, read_declaration, read_family, read_kind, read_object};
 ghost use Rattle.mmt_syntax.specs.Readings.{read_span};
 ghost use Rattle.elaborate.specs.LentValues.{value_of};
-ghost use Rattle.elaborate.specs.HeadStates.{BodyAt, KindAt, Classifies, Stands};
+ghost use Rattle.elaborate.specs.HeadStates.{BodyAt, KindAt, Classifies, Stands, StandsForFamily, StandsForHead};
 ghost use Rattle.elaborate.specs.Answers.{Expands};
 
 use crate::closed::{is_closed_family, is_closed_kind};
@@ -220,13 +220,14 @@ impl<'a> Head<'a> {
 
     /// The family that the head and its arguments are, as `into_object` says it of objects.
     fn into_family(self, alloc: Global) -> Result<Fam, Memory>
+        requires { StandsForFamily self }
         ensures { IfOk result (λ a. (binders : ℕ) (family : terms.Family) (kind : terms.Kind) → Stands self.entry (meant.FamilyHead binders family kind) → read_family a ≡ family) }
     {
         let Head { start, spine, .. } = self;
         match start {
             Start::Constant(decl) => family_of(alloc, decl, spine),
-            // no head of families begins at a variable
-            Start::Variable(_) => Err(Memory),
+            // No head of families begins at a variable.
+            Start::Variable(_) => unreachable!(),
         }
     }
 
@@ -249,6 +250,7 @@ impl<'a> Head<'a> {
 
     /// The family where one is wanted: that of a head whose kind so far is `type`.
     pub(crate) fn family_at_type(self, alloc: Global, span: Span) -> Result<Fam, ElabFault>
+        requires { StandsForHead self }
         ensures { (head : meant.Head) → Stands self.entry head → Expands read_family result (expansion.family_at_type (read_span span) head) }
     {
         match &self.classifier {

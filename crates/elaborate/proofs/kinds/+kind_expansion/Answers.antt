@@ -1,10 +1,10 @@
-use Rattle.std.proofs.Common.{refl, arith}
+use Rattle.std.proofs.Common.{arith}
 use Rattle.term_trees.specs.Readings.{read_kind}
 use Rattle.mmt_syntax.specs.Readings.{read_binder, read_expr}
 use Rattle.elaborate.specs.Contexts.{locals_of, scope_of}
 use Rattle.elaborate.proofs.ExpansionSteps.{is_broken, same_answer}
 use Rattle.elaborate.proofs.KindSteps.{kind_type, kind_pi, kind_arrow, kind_back, kind_name, kind_app, kind_lambda}
-use Rattle.mmt_syntax.proofs.Nodes.{size, pi_size, arrow_size, back_size, read_pi, read_arrow, read_back}
+use Rattle.mmt_syntax.proofs.Nodes.{pi_size, arrow_size, back_size, read_pi, read_arrow, read_back}
 use Rattle.elaborate.proofs.kinds.+kind_expansion.Goals as goal
 
 pub kind-returns-in-Ty : goal.kind-returns-in-Ty

@@ -7,7 +7,8 @@ use Rattle.mmt_syntax.specs.Readings.{read_arguments, read_binder, read_expr, ex
 use Rattle.elaborate.specs.Contexts.{locals_of, scope_of}
 use Rattle.elaborate.specs.HeadStates.{read_level}
 use Rattle.elaborate.proofs.ExpansionSteps.{is_broken, same_fault, object_moved, lambda_mismatch, lambda_domain_fault, lambda_body_fault, lambda_stands, argument_fault, argument_stands, all_taken, same_answer, same_begin, applied_begins, applied_family_begins, object_type, object_pi, object_arrow, object_back, object_name, object_app, head_type, head_pi, head_arrow, head_back, head_lambda, head_name, function_fault, function_begins, family_type, family_lambda, family_pi, family_arrow, family_back, family_name, family_app}
-use Rattle.mmt_syntax.proofs.Nodes.{size, args_size, written_size, app_size, pi_size, arrow_size, back_size, lambda_size, element_below, read_app, read_pi, read_arrow, read_back}
+use Rattle.mmt_syntax.proofs.Nodes.{args_size, app_size, pi_size, arrow_size, back_size, lambda_size, element_below, read_app, read_pi, read_arrow, read_back}
+use Rattle.elaborate.proofs.HeadsStand.{begun}
 use Rattle.elaborate.proofs.terms.+expansion.Goals as goal
 
 pub applied-returns : goal.applied-returns
@@ -17,6 +18,9 @@ applied-returns t c =
 pub applied_family-returns : goal.applied_family-returns
 applied_family-returns t c =
     applied_family_begins (scope_of c.args.context.now) (locals_of c.args.context.now) c.args.expr.now c.in_ok-head.head c.family_at_type.result c.in_ok-head.ensures c.family_at_type.ensures
+
+pub applied_family-family_at_type-requires : goal.applied_family-family_at_type-requires
+applied_family-family_at_type-requires t c = begun c.in_ok-head.head _ c.in_ok-head.ensures
 
 pub object-returns-in-Ty : goal.object-returns-in-Ty
 object-returns-in-Ty t c =

@@ -1,0 +1,3 @@
+pub mod MappedWhole
+pub mod FollowedLinks
+pub mod NextImages
