@@ -5,11 +5,13 @@
 //! constant: of theory `t`, or `T.c` and `T.s.c` of theory T. `#i` is the variable with i binders between it and its own.
 #![tactic(auto)]
 
+mod cases;
 mod declarations;
 mod names;
 mod reader;
 mod terms;
 
+pub use cases::{Case, read_case};
 pub use declarations::{context, map, signature};
 pub use names::constant;
 pub use terms::{class, family, kind, object, simple, spine, value};

@@ -1,4 +1,0 @@
-pub mod Trees
-pub mod Growing
-pub mod Building
-pub mod Passing
