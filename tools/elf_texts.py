@@ -129,6 +129,41 @@ def ends_at(row, sign):
     return next((at for at, token in enumerate(row) if token.text == sign), len(row))
 
 
+def ends_of(module):
+    """The names of the domain and the codomain of a view."""
+    row = module.tokens[: ends_at(module.tokens, b"=")]
+    return [".".join(token.names()) for token in row if token.is_name()] if module.word == b"%view" else []
+
+
+def statements(module):
+    """The declarations or assignments of a module, each as its tokens, without the dot."""
+    depth, found = 0, [[]]
+    for token in module.tokens:
+        depth -= token.text == b"}"
+        if depth > 0 and (depth > 1 or token.text != b"."):
+            found[-1].append(token)
+        elif depth == 1:
+            found.append([])
+        depth += token.text == b"{"
+    return [row for row in found if row]
+
+
+def constants(module):
+    """The constants that a theory declares itself, each with whether it is defined."""
+    rows = [row for row in statements(module) if len(row) > 1 and row[0].is_name() and row[1].text == b":"]
+    return {".".join(row[0].names()): any(token.text == b"=" for token in row) for row in rows}
+
+
+def assigned(module):
+    """The constants that a view assigns."""
+    return {".".join(row[0].names()) for row in statements(module) if len(row) > 1 and row[1].text == b":="}
+
+
+def included(module):
+    """The theories that a theory includes."""
+    return [row[1].names()[0] for row in statements(module) if len(row) > 1 and row[0].text == b"%include" and row[1].is_name()]
+
+
 class Lines:
     """Places of a text as lines and columns, counted from 1, columns in bytes."""
 

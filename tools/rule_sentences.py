@@ -1,4 +1,10 @@
 """A sentence for a refusal: what its rule means (docs/guide/rules.md), with what can be read off the text at its place."""
+import difflib
+
+from elf_texts import assigned, constants, ends_of, included
+
+# So many names are told in a row.
+MOST = 5
 
 # What a rule means, where {name} is what stands at the place, {label} what the program prints as concerned, {module} the module.
 SENTENCES = {
@@ -48,7 +54,7 @@ def sentence(folder, refusal):
             return unclosed
     token = lines.token_at(line, column)
     known = {"module": refusal.module, "label": refusal.label, "name": quoted(token, lines, line, column)}
-    known |= kinds(folder, refusal) | ends(folder, refusal)
+    known |= kinds(folder, refusal) | {"domain": domain_of(folder, refusal)}
     table = SENTENCES if refusal.module else OF_FILES
     text = table.get(refusal.rule, "see docs/guide/rules.md").format(**known)
     return line, column, text + beside(folder, refusal)
@@ -67,26 +73,47 @@ def kinds(folder, refusal):
     return {"kind": kind, "other_kind": {"view": "theory", "theory": "view"}.get(kind, "module of the other kind")}
 
 
-def ends(folder, refusal):
+def domain_of(folder, refusal):
     """The domain of the view that is refused, as its text has it."""
-    module = next((it for it in folder.modules[refusal.file] if it.name == refusal.module), None)
-    names = [token for token in module.tokens[:2] if token.is_name()] if module and module.word == b"%view" else []
-    return {"domain": ".".join(names[0].names()) if names else "of the view"}
+    module = folder.module(refusal.module)
+    return next(iter(ends_of(module) if module else []), "of the view")
 
 
 def beside(folder, refusal):
     """What else the texts tell of a refusal."""
     if refusal.rule == "cycle":
         return f": {', '.join(folder.on_cycle(refusal.module))} name each other"
-    if refusal.rule == "mismatch":
-        return wanted(folder, refusal)
-    return ""
+    tell = {"mismatch": wanted, "missing-assignment": also_missing, "unknown-name": nearest}.get(refusal.rule)
+    return tell(folder, refusal) if tell else ""
+
+
+def also_missing(folder, refusal):
+    """The other constants that the domain declares itself, does not define, and that the view does not assign."""
+    view, domain = folder.module(refusal.module), folder.module(domain_of(folder, refusal))
+    if view is None or domain is None:
+        return ""
+    rest = [name for name, is_defined in constants(domain).items() if not is_defined and name not in assigned(view) | {refusal.label}]
+    return f"; nor is {', '.join(rest[:MOST])}{' and others' if len(rest) > MOST else ''}" if rest else ""
+
+
+def nearest(folder, refusal):
+    """A name that could be meant: one that is like what stands at the place, of this theory, of those that it includes, or of the codomain."""
+    token = folder.lines(refusal.file).token_at(refusal.line, refusal.column)
+    known, waiting, seen = {"type"}, [refusal.module], set()
+    while waiting:
+        name = waiting.pop()
+        module = None if name in seen else folder.module(name)
+        seen.add(name)
+        if module:
+            known |= set(constants(module))
+            waiting += included(module) + ends_of(module)[1:]
+    like = difflib.get_close_matches(".".join(token.names()), known, 1, 0.7) if token and token.is_name() else []
+    return f"; perhaps `{like[0]}` is meant" if like else ""
 
 
 def wanted(folder, refusal):
     """The class that is written for a declared constant, where its whole value is what does not fit."""
-    module = next((it for it in folder.modules[refusal.file] if it.name == refusal.module), None)
-    lines = folder.lines(refusal.file)
+    module, lines = folder.module(refusal.module), folder.lines(refusal.file)
     at = lines.start_of(refusal.line, refusal.column)
     before = [token for token in module.tokens if token.start < at] if module else []
     if not before or before[-1].text != b"=":
