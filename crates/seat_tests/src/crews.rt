@@ -3,11 +3,11 @@ ghost use Rattle.std.specs.Prelude.{◌≡◌, ◌≤◌, length, []};
 ghost use Rattle.turn_meaning.specs.Passes.{IsIdleOf};
 ghost use Rattle.board_meaning.specs.Legal.{IsLegal};
 ghost use Rattle.board_seats.specs.Seats.{Keeps};
-ghost use Rattle.board_tests.specs.Sizes.{sizes};
+ghost use Rattle.seat_tests.specs.Sizes.{sizes};
 ghost use Rattle.worker_crew.specs.Workers.{AreWorkers};
 
 use crate::runs::{Seat, Shared, lead};
-use board_tests::sizes::Sizes;
+use crate::sizes::Sizes;
 use lf_terms::{Memory, Name};
 use mmt_outside::OpenGate;
 use std::alloc::Global;

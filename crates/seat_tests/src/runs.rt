@@ -3,10 +3,10 @@ ghost use Rattle.std.specs.Prelude.{◌≡◌, ◌<◌, []};
 ghost use Rattle.turn_meaning.specs.Passes.{IsIdleOf};
 ghost use Rattle.board_meaning.specs.Legal.{IsLegal};
 ghost use Rattle.board_seats.specs.Seats.{Keeps};
-ghost use Rattle.board_tests.specs.Sizes.{sizes};
+ghost use Rattle.seat_tests.specs.Sizes.{sizes};
 
+use crate::sizes::Sizes;
 use board_seats::{BoardPass, SharedBoard};
-use board_tests::sizes::Sizes;
 use crossbeam_utils::Backoff;
 use edit_log::{Edit, Edited};
 use lf_terms::{Arc, Bytes, Memory, Name, Steps};

@@ -1,12 +1,13 @@
 ghost use Rattle.std.specs.Prelude.{◌≡◌, IfOk, []};
 ghost use Rattle.turn_meaning.specs.Passes.{IsIdleOf};
 ghost use Rattle.board_meaning.specs.Legal.{IsLegal};
-ghost use Rattle.board_tests.specs.Sizes.{sizes};
+ghost use Rattle.seat_tests.specs.Sizes.{sizes};
 
+use crate::answers::are_at_their_places;
 use crate::crews::by_crew;
 use crate::runs::{Seat, Shared, by_three, claim_and_release, empty_module};
+use crate::sizes::{Sizes, is_a_subject};
 use board_seats::SharedBoard;
-use board_tests::sizes::Sizes;
 use edit_log::Edited;
 use lf_terms::{Memory, Name};
 use std::alloc::Global;
@@ -21,6 +22,13 @@ fn shared_board(alloc: Global) -> Result<(Shared, Seat), Memory>
         Ok(made) => Ok(made),
         Err(NewFault::Memory(_)) => Err(Memory),
     }
+}
+
+#[test]
+fn the_subject_and_its_answers(rt: HostRuntime) -> Result<(), Fail> {
+    assert!(rt; is_a_subject(rt.alloc())?);
+    assert!(rt; are_at_their_places(rt.alloc())?);
+    Ok(())
 }
 
 #[test]

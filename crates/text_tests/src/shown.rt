@@ -1,4 +1,4 @@
-//! What texts are read as, in a line.
+//! What texts are read as, as it is told.
 
 use lf_terms::Span;
 use mmt_syntax::{Expr, Module, deps, place_of};
@@ -7,7 +7,7 @@ use std::test::Fail;
 use twelf_print::{print_expr, print_module};
 use twelf_reader::{Pieces, ReadFault, read_judgement, read_module, split};
 
-/// The longest text of these tests.
+/// The longest text that is read.
 const LONG: usize = 100_000;
 
 /// The module of a text as it is printed; or the place and the word of its fault.
@@ -49,6 +49,14 @@ fn placed(alloc: Global, text: &[u8], at: u32, word: &str) -> Result<String, All
     }
     let place = place_of(text, at);
     format!(in alloc; "{}:{} {}", place.line, place.column, word)
+}
+
+/// The line and the column of a place.
+pub(crate) fn placed_at(alloc: Global, text: &[u8], at: &str) -> Result<String, Fail> {
+    match at.parse::<u32>() {
+        Ok(at) => Ok(placed(alloc, text, at, "place")?),
+        Err(_) => Err("no place".into()),
+    }
 }
 
 /// The dependencies of the module of a text, each as the place of its path and its name.

@@ -3,7 +3,7 @@ ghost use Rattle.turn_meaning.specs.Passes.{IsIdleOf};
 ghost use Rattle.turn_meaning.specs.Numbers.{are_of};
 
 use crate::marks::Marks;
-use crate::runs::{Marked, add_one, by_four, by_two, look_on};
+use crate::runs::{Left, Marked, add_one, by_four, by_two, look_on};
 use lf_terms::Memory;
 use std::alloc::Global;
 use std::test::*;
@@ -60,25 +60,30 @@ fn a_split_pass_sees_what_was_added(rt: HostRuntime) -> Result<(), Fail> {
     Ok(())
 }
 
-#[test]
-fn two_threads_joined_in_order(rt: HostRuntime) -> Result<(), Fail> {
-    let (turns, first) = lock_over(rt.alloc(), Marks::new(rt.alloc()))?;
-    let left = by_two(&rt, turns, first, ROUNDS, false)?;
-    assert_eq!(rt; left.made, 3);
-    assert_eq!(rt; left.added, [ROUNDS, ROUNDS, 0, 0]);
-    assert_eq!(rt; left.marks.len(), 20_000);
-    assert_eq!(rt; times(&left.marks, 1), 10_000);
-    assert_eq!(rt; times(&left.marks, 2), 10_000);
-    Ok(())
+/// How many marks two or four threads left, how many of them each added and is told to have added, and how many passes were made.
+type Counts = (usize, [usize; 4], [u32; 4], u32);
+
+fn counts(left: &Left) -> Counts {
+    let marks = left.marks.as_slice();
+    let found = [
+        times(marks, 1),
+        times(marks, 2),
+        times(marks, 3),
+        times(marks, 4),
+    ];
+    (marks.len(), found, left.added, left.made)
 }
 
 #[test]
-fn two_threads_joined_later_first(rt: HostRuntime) -> Result<(), Fail> {
-    let (turns, first) = lock_over(rt.alloc(), Marks::new(rt.alloc()))?;
-    let left = by_two(&rt, turns, first, ROUNDS, true)?;
-    assert_eq!(rt; left.marks.len(), 20_000);
-    assert_eq!(rt; times(&left.marks, 1), 10_000);
-    assert_eq!(rt; times(&left.marks, 2), 10_000);
+fn two_threads(rt: HostRuntime) -> Result<(), Fail> {
+    for later_first in [false, true] {
+        let (turns, first) = lock_over(rt.alloc(), Marks::new(rt.alloc()))?;
+        let left = by_two(&rt, turns, first, ROUNDS, later_first)?;
+        let found = counts(&left);
+        drop(left);
+        let each = [10_000, 10_000, 0, 0];
+        assert_eq!(rt; found, (20_000, each, [ROUNDS, ROUNDS, 0, 0], 3));
+    }
     Ok(())
 }
 
@@ -86,11 +91,8 @@ fn two_threads_joined_later_first(rt: HostRuntime) -> Result<(), Fail> {
 fn four_threads_joined_in_pairs(rt: HostRuntime) -> Result<(), Fail> {
     let (turns, first) = lock_over(rt.alloc(), Marks::new(rt.alloc()))?;
     let left = by_four(&rt, turns, first, ROUNDS)?;
-    assert_eq!(rt; left.made, 5);
-    assert_eq!(rt; left.added, [ROUNDS, ROUNDS, ROUNDS, ROUNDS]);
-    assert_eq!(rt; left.marks.len(), 40_000);
-    for number in 1..5 {
-        assert_eq!(rt; times(&left.marks, number), 10_000);
-    }
+    let found = counts(&left);
+    drop(left);
+    assert_eq!(rt; found, (40_000, [10_000; 4], [ROUNDS; 4], 5));
     Ok(())
 }

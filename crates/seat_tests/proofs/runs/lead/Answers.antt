@@ -1,5 +1,5 @@
 use Rattle.board_laws.proofs.Pointing.{calls_are_seen}
-use Rattle.board_tests.specs.Sizes.{sizes}
+use Rattle.seat_tests.specs.Sizes.{sizes}
 use Rattle.seat_tests.proofs.runs.lead.Goals as goal
 
 pub returns-clause-legal : goal.returns-clause-legal

@@ -1,5 +1,0 @@
-use Rattle.term_tests.proofs.table_tests.steps_take_no_bytes.Given as goal
-
--- The ledger of the blank.
-abbrev pub ghosts-counted : goal.ghosts-counted
-ghosts-counted g a = record { name = a.blank.name; parts = a.blank.parts }
