@@ -18,8 +18,9 @@ use std::sync::Wait;
 use verdict_board::Told;
 use worker_loop::TurnEnd;
 
-/// What is told of a name once its verdict is not to come. While it is to come, turns are taken. Where all workers are at work the front
-/// sleeps for a while in place of a turn; where nothing is ready, another claim is open, and it sleeps until one ends.
+/// What is told of a name once its verdict is not to come. While it is to come, turns are taken, however many workers there are. Where
+/// all of them are at work the front rests for a bounded time before its turn, since it might have no processor for itself. Where
+/// nothing is ready, another claim is open, and it sleeps until one ends.
 pub fn told<R: Wait, G: Gate>(
     rt: &R,
     alloc: Global,
@@ -44,7 +45,6 @@ pub fn told<R: Wait, G: Gate>(
         }
         if board.all_work() {
             board.rest(rt);
-            continue;
         }
         match take_turn(rt, alloc, gate, board, pass)? {
             TurnEnd::Worked { .. } => {}
