@@ -1,14 +1,16 @@
 -- The faces that the answers of a reach give are all that the module knows, and coherent.
-use Rattle.std.proofs.Common.{◌≡◌, ℕ, Bool, true, false, cond, not, ◌||◌, List, [], ◌∷◌, ◌++◌, map, length, Option, Some, None, is_some, refl, sym, ap, ◌∙◌, subst}
-use Rattle.std.specs.Prelude.{option_map}
+use Rattle.std.proofs.Common.{◌≡◌, ℕ, zero, suc, inl, inr, Result, Err, true≢false, Bool, true, false, cond, not, ◌||◌, List, [], ◌∷◌, ◌++◌, map, length, Option, Some, None, is_some, refl, sym, ap, ◌∙◌, subst}
+use Rattle.std.specs.Prelude.{◌↔◌, IfErr, IsErrOf, IsSome, option_map, ⊤}
+use Rattle.std.proofs.lemmas.Bool.{false_from_ne_true}
 use Rattle.std.proofs.Common.{append-nil, append_assoc, slice_get, take, ◌+◌, ◌<◌, add-one, arith, ⊎_elim}
-use Rattle.std.proofs.lemmas.Option.{slice_get_cases}
+use Rattle.std.proofs.lemmas.Option.{slice_get_cases, slice_get-map}
 use Rattle.list_laws.proofs.Places.{take_more}
-use Rattle.list_laws.proofs.Members.{in_filter}
+use Rattle.list_laws.proofs.Members.{Member, in_filter}
 use Rattle.list_laws.proofs.Options.{mapped_none}
 use Rattle.name_meaning.specs.Names.{Name, Text, same_name, is_among}
-use Rattle.name_meaning.specs.Rows.{Rows, row_of}
-use Rattle.name_laws.proofs.Order.{same_sound, same_itself, among_member}
+use Rattle.name_meaning.specs.Rows.{Rows, IsTable, row_names, row_of}
+use Rattle.name_laws.proofs.Order.{same_sound, same_itself, among_member, member_among}
+use Rattle.name_laws.proofs.Rows.{row_among}
 use Rattle.name_laws.proofs.RowLookups.{row_mapped}
 use Rattle.log_meaning.specs.Log.{Library, is_present}
 use Rattle.walk_meaning.specs.Reach.{reach}
@@ -25,9 +27,12 @@ use Rattle.verdict_laws.proofs.Verdicts.{verdict_exactly}
 use Rattle.coherence_laws.proofs.LibrariesHold.{grounded_know_coherent}
 use Rattle.coherence_laws.proofs.SizesHold.{grounded_know_sizes}
 use Rattle.module_graph.specs.Subjects.{IsGiven, read_answers}
-use Rattle.mmt_interface.specs.Readings.{read_verdict, read_faces, environment_of}
+use Rattle.mmt_interface.specs.Readings.{read_verdict, read_faces, environment_of, handed_back}
 use Rattle.mmt_interface.specs.CoherentFaces.{AreCoherent}
+use Rattle.mmt_interface.specs.declared.faces.FaceFault.{FaceFault}
+use Rattle.mmt_interface.specs.declared.faces.FaceFault.TheVariants.{Twice}
 use Rattle.mmt_interface.specs.declared.verdict.Verdict.{Verdict}
+use Rattle.module_check.proofs.JudgingOrder.{ascending_distinct, fresh_at}
 use Rattle.module_check.specs.PresentRows.{present_row, present_rows}
 
 either : {A : Type 0} (b : Bool) (o : Option A) → o ≡ None → cond b o None ≡ o
@@ -77,6 +82,32 @@ row_there {A} rows place l h = ⊎_elim (λ w. none_some w.2 h) (λ w. absurd (o
   where
     none_some : {x : Name × Option A} → slice_get rows place ≡ Some x → slice_get rows place ≡ None → ⊥
     none_some p q = cc
+
+-- Names of what is present among the first rows are names of these rows.
+present_names : (place : ℕ) (rows : Rows (Option Verdict)) (m : Name) → Member m (row_names (present_rows (take place rows))) → Member m (take place (row_names rows))
+present_names zero rows m h = h
+present_names (suc place) [] m h = h
+present_names (suc place) (row ∷ rows) m h = by row.1 (present_names place rows m) h
+  where
+    by : (o : Option Verdict) → (Member m (row_names (present_rows (take place rows))) → Member m (take place (row_names rows))) → Member m (row_names (present_row row.0 o ++ present_rows (take place rows))) → Member m (row.0 ∷ take place (row_names rows))
+    by None rest p = inr (rest p)
+    by (Some verdict) rest (inl e) = inl e
+    by (Some verdict) rest (inr p) = inr (rest p)
+
+-- The next name is not among those before it.
+pub next_absent : (rows : Rows (Option Verdict)) (place : ℕ) (row : Name × Option Verdict) (before : Rows Verdict) → IsTable rows → slice_get rows place ≡ Some row → before ≡ present_rows (take place rows) → is_among (row_names before) row.0 ≡ false
+next_absent rows place row before table here so_far =
+    ap (λ z. is_among (row_names z) row.0) so_far
+    ∙ false_from_ne_true (is_among (row_names (present_rows (take place rows))) row.0)
+    (λ e. true≢false (sym (member_among (take place (row_names rows)) row.0 (present_names place rows row.0 (among_member (row_names (present_rows (take place rows))) row.0 e)))
+    ∙ fresh_at (row_names rows) place row.0 (ascending_distinct (row_names rows) table) (slice_get-map (λ (r : Name × Option Verdict). r.0) rows place ∙ ap (option_map (λ (r : Name × Option Verdict). r.0)) here)))
+
+-- A name that is not there is not refused.
+pub never_twice : (rows : Rows Verdict) (name : Name) (verdict : Verdict) (result : Result ⊤ FaceFault) (n : Name) (v : Verdict) → result ≡ Err (Twice n v) → IfErr result (λ fault. handed_back fault ≡ (name, verdict))
+    → (IsErrOf result (Twice name verdict) ↔ IsSome (row_of rows name)) → is_among (row_names rows) name ≡ false → ⊥
+never_twice rows name verdict result n v is back twice new =
+    let b : (n, v) ≡ (name, verdict) = subst (λ r. IfErr r (λ fault. handed_back fault ≡ (name, verdict))) is back in
+    true≢false (sym (twice.0 (is ∙ ap (λ (p : Name × Verdict). Err (Twice p.0 p.1)) b)) ∙ row_among rows name ∙ new)
 
 told_if : (a b : Bool) (o : Option verdicts.Verdict) → is_some o ≡ b → known_or_absent (option_map known_by (cond a (cond b o None) None)) ≡ cond a (known_if o) IsAbsent
 told_if false b o h = refl

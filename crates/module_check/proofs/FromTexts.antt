@@ -2,10 +2,12 @@
 use Rattle.std.proofs.Common.{◌≡◌, ℕ, true, false, cond, List, [], ◌∷◌, ◌++◌, Option, Some, None, is_some, suc, take, inl, inr, refl, sym, ap, ◌∙◌, subst, true≢false, slice_get, ⊎_elim}
 use Rattle.std.specs.Prelude.{option_map}
 use Rattle.std.proofs.lemmas.List.{map-append}
-use Rattle.name_meaning.specs.Names.{Name, Text}
+use Rattle.name_meaning.specs.Names.{Name, Text, is_among}
 use Rattle.name_meaning.specs.Rows.{Rows, row_names, row_of}
 use Rattle.name_laws.proofs.Order.{among_member, member_among}
+use Rattle.name_laws.proofs.Rows.{row_among}
 use Rattle.name_laws.proofs.RowLookups.{row_mapped}
+use Rattle.list_laws.proofs.Options.{some_mapped}
 use Rattle.log_meaning.specs.Log.{Log, Library, library_of, is_present, names_of, text_of}
 use Rattle.log_laws.proofs.Libraries.{present_among, library_ascending}
 use Rattle.list_laws.proofs.Members.{Member, in_filter, in_append, place_member}
@@ -22,21 +24,12 @@ use Rattle.mmt_interface.specs.Readings.{read_verdict, read_faces}
 use Rattle.mmt_interface.specs.declared.verdict.Verdict.{Verdict}
 use Rattle.module_graph.specs.Subjects.{IsGiven, IsCyclic, read_answers}
 use Rattle.verdict_board.proofs.EditSteps.{row_last}
-use Rattle.module_check.specs.Known.{AreVerdicts, HasEach}
+use Rattle.module_check.specs.JudgingOrders.{HaveAll}
+use Rattle.module_check.specs.Known.{AreVerdicts}
 
 -- The text at hand is a text of a present name.
 pub text_there : (library : Library) (name : Name) (o : Option Text) → o ≡ text_of library name → is_present library name ≡ true → o ≡ None → ⊥
 text_there library name o e p h = true≢false (sym p ∙ ap is_some (sym e ∙ h))
-
--- One name more has a verdict.
-pub next_there : (faces : Rows Verdict) (names : List Name) (place : ℕ) (n : Name) → slice_get names place ≡ Some n → is_some (row_of faces n) ≡ true
-    → ((name : Name) → Member name (take place names) → is_some (row_of faces name) ≡ true) → (name : Name) → Member name (take (suc place) names) → is_some (row_of faces name) ≡ true
-next_there faces names place n here there before name m =
-    ⊎_elim (λ q. before name q) (λ q. ap (λ z. is_some (row_of faces z)) (only q) ∙ there) (in_append (take place names) (n ∷ []) name (subst (Member name) (take_more names place n here) m))
-  where
-    only : Member name (n ∷ []) → name ≡ n
-    only (inl e) = e
-    only (inr e) = absurd e
 
 module _ (library : Library) where
   pub no_verdicts : AreVerdicts library []
@@ -58,31 +51,24 @@ module _ (library : Library) where
       let present : is_present library n ≡ true = sym (verdict_exactly library n) ∙ ap is_some told in
       sym (ap (λ b. cond b (verdict_of library n) None) present ∙ told)
 
+  -- A present name whose verdict is due has one.
+  pub answer_due : (faces : Rows Verdict) (n : Name) (text : Text) → (is_present library n ≡ true → is_among (row_names faces) n ≡ true) → row_of faces n ≡ None → Some text ≡ text_of library n → ⊥
+  answer_due faces n text there none has = true≢false (sym (row_among faces n ∙ there (ap is_some (sym has))) ∙ ap is_some none)
+
   pub answer_absent : (n : Name) → text_of library n ≡ None → None ≡ present_answer modules library n
   answer_absent n h = sym (ap (λ b. cond b (verdict_of library n) None) (ap is_some h))
 
-  module _ (graph : Graph) (holds : HoldsDependencies graph dependencies library) where
-    -- Verdicts on all names are the library's.
-    pub all_verdicts : (faces : Rows Verdict) → AreVerdicts library faces → HasEach graph faces → (name : Name) → row_of (read_faces faces) name ≡ verdict_of library name
-    all_verdicts faces known each name = by (row_of (read_faces faces) name) (verdict_of library name) refl refl
-      where
-        some_alike : (o : Option Verdict) → is_some o ≡ is_some (option_map read_verdict o)
-        some_alike None = refl
-        some_alike (Some v) = refl
-
-        by : (a b : Option meaning.Verdict) → row_of (read_faces faces) name ≡ a → verdict_of library name ≡ b → a ≡ b
-        by (Some v) b g h = sym (known name v g) ∙ h
-        by None None g h = refl
-        by None (Some w) g h =
-            let present : is_present library name ≡ true = sym (verdict_exactly library name) ∙ ap is_some h in
-            let member : Member name (row_names graph) = subst (Member name) (sym holds.names) (among_member (names_of library) name (sym (present_among library name) ∙ present)) in
-            let mapped : is_some (option_map read_verdict (row_of faces name)) ≡ false = ap is_some (sym (row_mapped read_verdict faces name) ∙ g) in
-            absurd (true≢false (sym (each name member) ∙ some_alike (row_of faces name) ∙ mapped))
-
-    -- A name among the grounded ones.
-    pub known_grounded : (known : List Name) (place : ℕ) (n : Name) → known ≡ graph_grounded graph → slice_get known place ≡ Some n → is_grounded dependencies library n ≡ true
-    known_grounded known place n e here =
-        (in_filter (is_grounded dependencies library) (names_of library) n (subst (Member n) (e ∙ graph_grounds graph dependencies library holds) (place_member known place n here))).1
+  -- Verdicts on all present names are the library's.
+  pub all_verdicts : (faces : Rows Verdict) → AreVerdicts library faces → HaveAll library (row_names faces) → (name : Name) → row_of (read_faces faces) name ≡ verdict_of library name
+  all_verdicts faces known all name = by (row_of (read_faces faces) name) (verdict_of library name) refl refl
+    where
+      by : (a b : Option meaning.Verdict) → row_of (read_faces faces) name ≡ a → verdict_of library name ≡ b → a ≡ b
+      by (Some v) b g h = sym (known name v g) ∙ h
+      by None None g h = refl
+      by None (Some w) g h =
+          let present : is_present library name ≡ true = sym (verdict_exactly library name) ∙ ap is_some h in
+          let there : is_some (row_of (read_faces faces) name) ≡ true = ap is_some (row_mapped read_verdict faces name) ∙ some_mapped read_verdict (row_of faces name) ∙ row_among faces name ∙ all name present in
+          absurd (true≢false (sym there ∙ ap is_some g))
 
   -- A name among the ungrounded ones.
   pub bad_ungrounded : (bad : List Name) (place : ℕ) (n : Name) → bad ≡ ungrounded_names dependencies library → slice_get bad place ≡ Some n → is_ungrounded dependencies library n ≡ true

@@ -6,5 +6,6 @@ pub mod NamesLeft
 pub mod Cyclic
 pub mod LibraryGraph
 pub mod FromTexts
-pub mod LibraryFaces
+pub mod JudgingOrder
+pub mod OneLibrary
 mod VerdictsTyped

@@ -1,10 +1,8 @@
 -- Faces of a library that is judged from its texts (this profile).
-use Rattle.std.specs.Prelude.{◌≡◌, true, Some, is_some}
+use Rattle.std.specs.Prelude.{◌≡◌, Some}
 use Rattle.name_meaning.specs.Names.{Name}
-use Rattle.name_meaning.specs.Rows.{Rows, row_names, row_of}
+use Rattle.name_meaning.specs.Rows.{Rows, row_of}
 use Rattle.log_meaning.specs.Log.{Library}
-use Rattle.walk_meaning.specs.Graphs.{Graph}
-use Rattle.list_laws.proofs.Members.{Member}
 use Rattle.verdict_meaning.specs.Verdicts as meaning
 use Rattle.verdict_meaning.specs.Rounds.{verdict_of}
 use Rattle.mmt_interface.specs.Readings.{read_faces}
@@ -13,7 +11,3 @@ use Rattle.mmt_interface.specs.declared.verdict.Verdict.{Verdict}
 -- Each of these verdicts is the library's.
 abbrev pub AreVerdicts : Library → Rows Verdict → Type 0
 AreVerdicts library faces = (name : Name) (verdict : meaning.Verdict) → row_of (read_faces faces) name ≡ Some verdict → verdict_of library name ≡ Some verdict
-
--- Each name of the graph has a verdict.
-abbrev pub HasEach : Graph → Rows Verdict → Type 0
-HasEach graph faces = (name : Name) → Member name (row_names graph) → is_some (row_of faces name) ≡ true

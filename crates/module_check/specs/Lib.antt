@@ -5,3 +5,5 @@ pub mod Mentions
 pub mod Lawful
 pub mod Known
 pub mod TypedVerdicts
+pub mod JudgingOrders
+pub mod OneLibrary

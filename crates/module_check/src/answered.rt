@@ -1,10 +1,12 @@
 //! The faces that a job's answers give.
-ghost use Rattle.std.specs.Prelude.{◌≡◌, ◌∷◌, ◌++◌, [], IfOk, OnOk};
+ghost use Rattle.std.specs.Prelude.{◌≡◌, ◌∷◌, ◌++◌, [], None, false, IfOk, OnOk};
 ghost use Rattle.std.specs.Option.{option_copied};
+ghost use Rattle.name_meaning.specs.Names.{is_among};
+ghost use Rattle.name_meaning.specs.Rows.{row_names, row_of};
 ghost use Rattle.module_check.specs.PresentRows.{present_row, present_rows};
 
 use lf_terms::{Memory, Name};
-use mmt_interface::{Faces, Verdict};
+use mmt_interface::{FaceFault, Faces, Verdict};
 use module_graph::Answers;
 use std::alloc::Global;
 
@@ -21,13 +23,14 @@ pub(crate) fn faces_of(alloc: Global, answers: &Answers<Verdict>) -> Result<Face
     Ok(faces)
 }
 
-/// The same with the verdict on the module itself behind them.
+/// The same with the verdict on the module itself behind them, which is not among them.
 pub fn faces_with(
     alloc: Global,
     answers: &Answers<Verdict>,
     name: &Name,
     verdict: &Verdict,
 ) -> Result<Faces, Memory>
+    requires { row_of (present_rows answers.now) name.now ≡ None }
     ensures { IfOk result (λ faces. faces ≡ present_rows answers.now ++ (name.now, verdict.now) ∷ []) }
 {
     let mut faces = faces_of(alloc, answers)?;
@@ -42,6 +45,7 @@ fn add_present(
     name: &Name,
     verdict: Option<&Verdict>,
 ) -> Result<(), Memory>
+    requires { is_among (row_names faces.old) name.now ≡ false }
     ensures { OnOk result (faces.new ≡ faces.old ++ present_row name.now (option_copied verdict.entry)) }
 {
     match verdict {
@@ -50,15 +54,18 @@ fn add_present(
     }
 }
 
-/// Adds a verdict. Names of answers differ, so that only memory can lack.
+/// Adds the verdict of a name that has none.
 pub(crate) fn add(faces: &mut Faces, name: Name, verdict: Verdict) -> Result<(), Memory>
+    requires { is_among (row_names faces.old) name ≡ false }
     ensures { OnOk result (faces.new ≡ faces.old ++ (name, verdict) ∷ []) }
 {
     match faces.push(name, verdict) {
         Ok(()) => Ok(()),
-        Err(fault) => {
-            drop(fault);
+        Err(FaceFault::Memory(name, verdict)) => {
+            drop(name);
+            drop(verdict);
             Err(Memory)
         }
+        Err(FaceFault::Twice(_, _)) => unreachable!(),
     }
 }

@@ -1,6 +1,7 @@
 //! The verdicts of a library, from its texts alone.
-ghost use Rattle.std.specs.Prelude.{◌≡◌, List, ℕ, true, IfOk, OnOk};
-ghost use Rattle.name_meaning.specs.Rows.{row_of};
+ghost use Rattle.std.specs.Prelude.{◌≡◌, ◌∷◌, ◌++◌, [], List, ℕ, true, false, IfOk, OnOk};
+ghost use Rattle.name_meaning.specs.Names.{is_among};
+ghost use Rattle.name_meaning.specs.Rows.{row_names, row_of};
 ghost use Rattle.log_meaning.specs.Log.{library_of};
 ghost use Rattle.text_meaning.specs.Dependencies.{dependencies};
 ghost use Rattle.walk_meaning.specs.Graphs.{HoldsDependencies, graph_grounded};
@@ -8,18 +9,20 @@ ghost use Rattle.walk_meaning.specs.Walks.{is_grounded, is_ungrounded, ungrounde
 ghost use Rattle.verdict_meaning.specs.Rounds.{verdict_of};
 ghost use Rattle.mmt_interface.specs.CoherentFaces.{AreCoherent};
 ghost use Rattle.mmt_interface.specs.Readings.{read_faces};
-ghost use Rattle.module_check.specs.Known.{AreVerdicts, HasEach};
+ghost use Rattle.module_check.specs.JudgingOrders.{HasReachOf, HaveAll};
+ghost use Rattle.module_check.specs.Known.{AreVerdicts};
 
 use crate::answered::add;
 use crate::cycles::cyclic;
 use crate::judging::judged;
+use crate::judging_order::by_reach;
 use crate::known_answers::known_answers;
 use crate::library_graph::graph_of;
 use crate::ungrounded::others;
 use edit_log::Log;
 use lf_terms::{Memory, Name, Names};
 use mmt_interface::Faces;
-use module_graph::{Graph, grounded, reach};
+use module_graph::{Graph, grounded};
 use std::alloc::Global;
 
 /// The verdict on each module of a log's library, from the texts alone. First come the ungrounded modules, then the grounded
@@ -34,13 +37,10 @@ pub fn scratch(alloc: Global, log: &Log) -> Result<Faces, Memory>
     let mut faces = Faces::new(alloc);
     add_ungrounded(alloc, log, &graph, &known, &mut faces)?;
     add_grounded(alloc, log, &graph, &known, &mut faces)?;
-    if !has_each(&graph, &faces) {
-        return Err(Memory);
-    }
     Ok(faces)
 }
 
-/// Adds the verdicts on the ungrounded modules, where these are the grounded names.
+/// Adds the verdicts on the ungrounded modules, where the grounded names are these and there is no verdict yet.
 fn add_ungrounded(
     alloc: Global,
     log: &Log,
@@ -50,8 +50,9 @@ fn add_ungrounded(
 ) -> Result<(), Memory>
     requires holds { HoldsDependencies graph.now dependencies (library_of log.now) }
     requires grounded { known.now ≡ graph_grounded graph.now }
-    requires verdicts { AreVerdicts (library_of log.now) faces.old }
-    ensures { OnOk result (AreVerdicts (library_of log.now) faces.new) }
+    requires nothing { faces.old ≡ [] }
+    ensures verdicts { OnOk result (AreVerdicts (library_of log.now) faces.new) }
+    ensures names { OnOk result (row_names faces.new ≡ ungrounded_names dependencies (library_of log.now)) }
 {
     let bad = others(alloc, graph, known)?;
     for name in bad.as_slice() {
@@ -71,7 +72,9 @@ fn add_cyclic(
     requires ungrounded { is_ungrounded dependencies (library_of log.now) name.now ≡ true }
     requires others { bad.now ≡ ungrounded_names dependencies (library_of log.now) }
     requires verdicts { AreVerdicts (library_of log.now) faces.old }
-    ensures { OnOk result (AreVerdicts (library_of log.now) faces.new) }
+    requires new { is_among (row_names faces.old) name.now ≡ false }
+    ensures verdicts { OnOk result (AreVerdicts (library_of log.now) faces.new) }
+    ensures names { OnOk result (row_names faces.new ≡ row_names faces.old ++ name.now ∷ []) }
 {
     let Some(text) = log.text(name) else {
         unreachable!();
@@ -80,7 +83,7 @@ fn add_cyclic(
     add(faces, name.copy(alloc)?, verdict)
 }
 
-/// Adds the verdicts on the grounded modules, whose names these are.
+/// Adds the verdicts on the grounded modules, whose names these are, where those on the ungrounded ones are there.
 fn add_grounded(
     alloc: Global,
     log: &Log,
@@ -91,28 +94,18 @@ fn add_grounded(
     requires holds { HoldsDependencies graph.now dependencies (library_of log.now) }
     requires grounded { known.now ≡ graph_grounded graph.now }
     requires verdicts { AreVerdicts (library_of log.now) faces.old }
-    ensures { OnOk result (AreVerdicts (library_of log.now) faces.new) }
+    requires names { row_names faces.old ≡ ungrounded_names dependencies (library_of log.now) }
+    ensures verdicts { OnOk result (AreVerdicts (library_of log.now) faces.new) }
+    ensures all { OnOk result (HaveAll (library_of log.now) (row_names faces.new)) }
 {
-    for (_, place) in by_reach(alloc, graph, known)?.as_slice() {
-        if let Some(name) = known.as_slice().get(*place) {
-            add_judged(alloc, log, graph, name, faces)?;
-        }
+    let order = by_reach(alloc, graph, known)?;
+    for name in order.as_slice() {
+        add_judged(alloc, log, graph, name, faces)?;
     }
     Ok(())
 }
 
-/// The places of the names, counted from 0, each behind the number of names that its name reaches, the smallest number
-/// first. A grounded name reaches more names than each of the others that it reaches.
-fn by_reach(alloc: Global, graph: &Graph, names: &Names) -> Result<Vec<(usize, usize)>, Memory> {
-    let mut places = Vec::with_capacity(alloc, names.len())?;
-    for (place, name) in names.as_slice().iter().enumerate() {
-        places.push((reach(alloc, graph, name)?.len(), place))?;
-    }
-    places.sort_unstable();
-    Ok(places)
-}
-
-/// Adds the verdict on a grounded module.
+/// Adds the verdict on a grounded module, where those on what it reaches are there.
 fn add_judged(
     alloc: Global,
     log: &Log,
@@ -123,7 +116,10 @@ fn add_judged(
     requires holds { HoldsDependencies graph.now dependencies (library_of log.now) }
     requires grounded { is_grounded dependencies (library_of log.now) name.now ≡ true }
     requires verdicts { AreVerdicts (library_of log.now) faces.old }
-    ensures { OnOk result (AreVerdicts (library_of log.now) faces.new) }
+    requires reach { HasReachOf (library_of log.now) (row_names faces.old) name.now }
+    requires new { is_among (row_names faces.old) name.now ≡ false }
+    ensures verdicts { OnOk result (AreVerdicts (library_of log.now) faces.new) }
+    ensures names { OnOk result (row_names faces.new ≡ row_names faces.old ++ name.now ∷ []) }
 {
     let Some(text) = log.text(name) else {
         unreachable!();
@@ -131,16 +127,4 @@ fn add_judged(
     let answers = known_answers(alloc, log, graph, faces, name)?;
     let verdict = judged(alloc, name, text, &answers)?;
     add(faces, name.copy(alloc)?, verdict)
-}
-
-/// Whether there is a verdict on each name of a graph.
-fn has_each(graph: &Graph, faces: &Faces) -> bool
-    ensures { result ≡ true → HasEach graph.now faces.now }
-{
-    for place in 0..graph.len() {
-        if faces.get(graph.name_at(place)).is_none() {
-            return false;
-        }
-    }
-    true
 }

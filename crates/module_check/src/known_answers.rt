@@ -1,13 +1,16 @@
 //! The answers of a name's reach, where they are known.
-ghost use Rattle.std.specs.Prelude.{◌≡◌, IfOk};
+ghost use Rattle.std.specs.Prelude.{◌≡◌, true, IfOk};
 ghost use Rattle.std.specs.Option.{option_map};
-ghost use Rattle.log_meaning.specs.Log.{library_of};
+ghost use Rattle.name_meaning.specs.Names.{is_among};
+ghost use Rattle.name_meaning.specs.Rows.{row_names};
+ghost use Rattle.log_meaning.specs.Log.{is_present, library_of};
 ghost use Rattle.text_meaning.specs.Dependencies.{dependencies};
 ghost use Rattle.walk_meaning.specs.Graphs.{HoldsDependencies};
 ghost use Rattle.walk_meaning.specs.Subject.{answers_of, present_answer};
 ghost use Rattle.verdict_meaning.specs.Rounds.{modules};
 ghost use Rattle.mmt_interface.specs.Readings.{read_verdict};
 ghost use Rattle.module_graph.specs.Subjects.{read_answers};
+ghost use Rattle.module_check.specs.JudgingOrders.{HasReachOf};
 ghost use Rattle.module_check.specs.Known.{AreVerdicts};
 
 use edit_log::Log;
@@ -16,7 +19,7 @@ use mmt_interface::{Faces, Verdict};
 use module_graph::{Answers, Graph, reach};
 use std::alloc::Global;
 
-/// The verdicts of what a name reaches, itself left out, in byte order.
+/// The verdicts of what a name reaches, itself left out, in byte order. Those on all present names of it are at hand.
 pub(crate) fn known_answers(
     alloc: Global,
     log: &Log,
@@ -26,6 +29,7 @@ pub(crate) fn known_answers(
 ) -> Result<Answers<Verdict>, Memory>
     requires holds { HoldsDependencies graph.now dependencies (library_of log.now) }
     requires verdicts { AreVerdicts (library_of log.now) faces.now }
+    requires reach { HasReachOf (library_of log.now) (row_names faces.now) name.now }
     ensures { IfOk result (λ answers. read_answers read_verdict answers ≡ answers_of modules (library_of log.now) name.now) }
 {
     let mut answers = Answers::new(alloc);
@@ -43,15 +47,17 @@ pub(crate) fn known_answers(
     Ok(answers)
 }
 
-/// The verdict of a name; none of an absent name. The verdicts on present names come in such an order that each is known
-/// here.
+/// The verdict of a name; none of an absent name.
 fn known_answer(log: &Log, faces: &Faces, name: &Name) -> Result<Option<Verdict>, Memory>
-    requires { AreVerdicts (library_of log.now) faces.now }
+    requires verdicts { AreVerdicts (library_of log.now) faces.now }
+    requires there { is_present (library_of log.now) name.now ≡ true → is_among (row_names faces.now) name.now ≡ true }
     ensures { IfOk result (λ answer. option_map read_verdict answer ≡ present_answer modules (library_of log.now) name.now) }
 {
     match faces.get(name) {
         Some(verdict) => Ok(Some(verdict.share()?)),
-        None if log.text(name).is_none() => Ok(None),
-        None => Err(Memory),
+        None => match log.text(name) {
+            Some(_) => unreachable!(),
+            None => Ok(None),
+        },
     }
 }

@@ -4,8 +4,10 @@
 mod answered;
 mod cycles;
 mod dependencies;
+pub mod face_laws;
 mod from_scratch;
 mod judging;
+mod judging_order;
 mod known_answers;
 mod library_graph;
 mod mentions;

@@ -4,6 +4,10 @@ use Rattle.std.specs.Option.{option_copied}
 use Rattle.log_meaning.specs.Log.{library_of}
 use Rattle.text_meaning.specs.Dependencies.{dependencies}
 use Rattle.verdict_board.proofs.EditSteps.{ungrounded_present}
+use Rattle.list_laws.proofs.Lists.{map_last}
+use Rattle.name_meaning.specs.Names.{Name, is_among}
+use Rattle.name_meaning.specs.Rows.{row_names}
+use Rattle.mmt_interface.specs.declared.verdict.Verdict.{Verdict}
 use Rattle.module_check.specs.Known.{AreVerdicts}
 use Rattle.module_check.proofs.FromTexts.{text_there, cyclic_here, verdicts_more}
 use Rattle.module_check.proofs.from_scratch.add_cyclic.Goals as goal
@@ -17,10 +21,19 @@ pub cyclic-requires-clause-given : goal.cyclic-requires-clause-given
 cyclic-requires-clause-given c =
     (library_of c.args.log.now, cyclic_here c.args.log.now c.args.name.now c.in-Some.text.now c.args.bad.now c.in-Some.ensures.text c.requires.ungrounded c.requires.others)
 
-pub returns : goal.returns
-returns c =
+pub returns-clause-verdicts : goal.returns-clause-verdicts
+returns-clause-verdicts c =
     let L = library_of c.args.log.now in
     let here = cyclic_here c.args.log.now c.args.name.now c.in-Some.text.now c.args.bad.now c.in-Some.ensures.text c.requires.ungrounded c.requires.others in
     OnOk-map c.add.result _ _
     (λ h. subst (AreVerdicts L) (sym (h ∙ ap (λ n. c.args.faces.now ++ (n, c.in_ok-verdict.verdict) ∷ []) c.in_ok-copy.ensures)) (verdicts_more L c.args.faces.now c.args.name.now c.in_ok-verdict.verdict c.requires.verdicts (c.in_ok-verdict.ensures L here)))
     c.add.ensures
+
+pub returns-clause-names : goal.returns-clause-names
+returns-clause-names c =
+    OnOk-map c.add.result _ _
+    (λ h. ap row_names (h ∙ ap (λ n. c.args.faces.now ++ (n, c.in_ok-verdict.verdict) ∷ []) c.in_ok-copy.ensures) ∙ map_last (λ (row : Name × Verdict). row.0) c.args.faces.now (c.args.name.now, c.in_ok-verdict.verdict))
+    c.add.ensures
+
+pub add-requires : goal.add-requires
+add-requires c = ap (is_among (row_names c.args.faces.now)) c.in_ok-copy.ensures ∙ c.requires.new

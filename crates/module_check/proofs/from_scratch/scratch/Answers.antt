@@ -1,18 +1,14 @@
-use Rattle.std.proofs.Common.{sym, subst}
+use Rattle.std.proofs.Common.{sym, ◌∙◌}
 use Rattle.log_meaning.specs.Log.{library_of}
-use Rattle.module_check.specs.Known.{AreVerdicts}
-use Rattle.module_check.proofs.FromTexts.{no_verdicts, all_verdicts}
-use Rattle.module_check.proofs.LibraryFaces.{all_coherent}
+use Rattle.module_check.proofs.FromTexts.{all_verdicts}
+use Rattle.module_check.proofs.OneLibrary.{coherent_together}
 use Rattle.module_check.proofs.from_scratch.scratch.Goals as goal
-
-pub add_ungrounded-requires-clause-verdicts : goal.add_ungrounded-requires-clause-verdicts
-add_ungrounded-requires-clause-verdicts c = subst (AreVerdicts (library_of c.args.log.now)) (sym c.new-faces.ensures) (no_verdicts (library_of c.args.log.now))
 
 pub returns-clause-verdicts : goal.returns-clause-verdicts
 returns-clause-verdicts c =
-    all_verdicts (library_of c.args.log.now) c.in_ok-graph.graph c.in_ok-graph.ensures c.add_grounded.new.faces c.in_ok-add_grounded.ensures (c.has_each.ensures c.if-not-has_each.false)
+    all_verdicts (library_of c.args.log.now) c.add_grounded.new.faces c.in_ok-add_grounded.ensures.verdicts c.in_ok-add_grounded.ensures.all
 
 pub returns-clause-coherent : goal.returns-clause-coherent
 returns-clause-coherent c =
-    all_coherent (library_of c.args.log.now) c.add_grounded.new.faces
-    (all_verdicts (library_of c.args.log.now) c.in_ok-graph.graph c.in_ok-graph.ensures c.add_grounded.new.faces c.in_ok-add_grounded.ensures (c.has_each.ensures c.if-not-has_each.false))
+    coherent_together c.add_grounded.new.faces (library_of c.args.log.now)
+    (record { verdicts = c.in_ok-add_grounded.ensures.verdicts; reach = λ name other there reached present. c.in_ok-add_grounded.ensures.all other present })

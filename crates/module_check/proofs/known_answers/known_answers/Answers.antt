@@ -1,7 +1,9 @@
-use Rattle.std.proofs.Common.{◌≡◌, ◌+◌, suc, not, List, Some, filter, map, slice_get, sym, ap, ◌∙◌, arith}
+use Rattle.std.proofs.Common.{◌≡◌, ◌+◌, suc, not, List, Some, filter, map, slice_get, sym, ap, ◌∙◌, subst, arith}
 use Rattle.std.proofs.lemmas.List.{take_all}
 use Rattle.std.proofs.lemmas.Option.{slice_get-get_or}
+use Rattle.list_laws.proofs.Members.{Member, place_member}
 use Rattle.name_meaning.specs.Names.{Name, same_name, is_ascending}
+use Rattle.coherence_laws.proofs.LibrariesHold.{in_reach}
 use Rattle.log_meaning.specs.Log.{library_of}
 use Rattle.walk_laws.proofs.Graphs.{graph_reaches}
 use Rattle.walk_laws.proofs.Reaching.{reach_ascending}
@@ -11,6 +13,15 @@ use Rattle.verdict_meaning.specs.Rounds.{modules}
 use Rattle.mmt_interface.specs.Readings.{read_verdict}
 use Rattle.verdict_board.proofs.Reports.{answers_more, answers_table}
 use Rattle.module_check.proofs.known_answers.known_answers.Goals as goal
+
+pub known_answer-requires-clause-there : goal.known_answer-requires-clause-there
+known_answer-requires-clause-there c =
+    let L = library_of c.args.log.now in
+    let xs = c.as_slice-other-items.result.now in
+    let other = c.other-item.result in
+    let here : slice_get xs c.loop-other.other-index ≡ Some other = slice_get-get_or xs c.loop-other.other-index other c.loop-other-test.true ∙ ap Some (sym c.other-item.is) in
+    let reached = c.as_slice-other-items.ensures ∙ c.in_ok-reached.ensures ∙ graph_reaches c.args.graph.now dependencies L c.requires.holds c.args.name.now in
+    c.requires.reach other (in_reach L c.args.name.now other (subst (Member other) reached (place_member xs c.loop-other.other-index other here)) (sym c.eq.ensures ∙ c.if-eq.false))
 
 pub push-requires : goal.push-requires
 push-requires c =
