@@ -2,7 +2,7 @@
 use Rattle.std.proofs.Common.{◌≡◌, Bool, true, false, cond, not, ◌&&◌, List, [], ◌∷◌, ◌++◌, Option, Some, None, is_some, IfOk, OnOk, Result, Ok, Err, refl, sym, subst, true≢false}
 use Rattle.std.proofs.lemmas.Bool.{and_parts}
 use Rattle.name_meaning.specs.Names.{Name, Text}
-use Rattle.name_meaning.specs.Rows.{Rows}
+use Rattle.name_meaning.specs.Rows.{Rows, row_of}
 use Rattle.log_meaning.specs.Log.{Log, Library, library_of, text_of, is_present}
 use Rattle.log_laws.proofs.Libraries.{library_ascending}
 use Rattle.walk_meaning.specs.Subject.{answers_of}
@@ -11,11 +11,12 @@ use Rattle.text_meaning.specs.Dependencies.{dependencies}
 use Rattle.board_meaning.specs.Events.{History, log_of, library_after}
 use Rattle.board_meaning.specs.Standing.{stands}
 use Rattle.board_meaning.specs.Machine.{answers_reply}
-use Rattle.module_graph.specs.Subjects.{read_answers}
+use Rattle.module_graph.specs.Subjects.{IsGiven, read_answers}
 use Rattle.verdict_meaning.specs.Rounds.{modules, verdict_of}
 use Rattle.mmt_interface.specs.Readings.{read_verdict}
 use Rattle.mmt_interface.specs.declared.verdict.Verdict.{Verdict}
 use Rattle.module_check.specs.PresentRows.{present_rows}
+use Rattle.module_check.proofs.AnsweredFaces.{itself_absent}
 use Rattle.board_front.specs.Faces.{AreFacesOf}
 use Rattle.board_front.specs.Staying.{Stays}
 use Rattle.board_front.proofs.ReachedFaces.{faces_of_reach}
@@ -54,20 +55,25 @@ grounded_text library name g = by (text_of library name) refl (and_parts (is_pre
     by (Some text) e h = (text, e)
     by None e h = absurd (true≢false (sym h))
 
+-- What it answers is what judging the module takes.
+given : (after : History) (name : Name) (rows : Rows (Option Verdict)) → Some (read_answers read_verdict rows) ≡ answers_reply modules after name
+    → (text : Text) × IsGiven modules name text (read_answers read_verdict rows) (library_after after)
+given after name rows h =
+    let reply = reply_given after name (read_answers read_verdict rows) h in
+    let text = grounded_text (library_after after) name reply.0 in
+    (text.0, record { is_library = library_ascending (log_of after); has = text.1; grounded = reply.0; reached = reply.1 })
+
+-- The module itself is left out.
+pub itself_left_out : (after : History) (name : Name) (rows : Rows (Option Verdict)) → Some (read_answers read_verdict rows) ≡ answers_reply modules after name → row_of (present_rows rows) name ≡ None
+itself_left_out after name rows h = let g = given after name rows h in itself_absent (library_after after) name g.0 rows g.1
+
 -- What it answers gives the faces of the reach.
 pub faces_given : (before after : History) (name : Name) (verdict : Verdict) (rows : Rows (Option Verdict)) → Stays before after → verdict_of (library_after before) name ≡ Some (read_verdict verdict)
     → Some (read_answers read_verdict rows) ≡ answers_reply modules after name → AreFacesOf (library_after before) name verdict (present_rows rows ++ (name, verdict) ∷ [])
 faces_given before after name verdict rows stays own h =
+    let g = given after name rows h in
     subst (λ (l : Log). AreFacesOf (library_of l) name verdict (present_rows rows ++ (name, verdict) ∷ [])) stays.logged
-    (faces_of_reach (library_after after) name text.0 rows
-    (record { is_library = library_ascending (log_of after); has = text.1; grounded = reply.0; reached = reply.1 })
-    verdict (subst (λ (l : Log). verdict_of (library_of l) name ≡ Some (read_verdict verdict)) (sym stays.logged) own))
-  where
-    reply : (is_grounded dependencies (library_after after) name ≡ true) × (answers_of modules (library_after after) name ≡ read_answers read_verdict rows)
-    reply = reply_given after name (read_answers read_verdict rows) h
-
-    text : (own : Text) × (text_of (library_after after) name ≡ Some own)
-    text = grounded_text (library_after after) name reply.0
+    (faces_of_reach (library_after after) name g.0 rows g.1 verdict (subst (λ (l : Log). verdict_of (library_of l) name ≡ Some (read_verdict verdict)) (sym stays.logged) own))
 
 pub ok_same : {A E : Type 0} (P : A → Type 0) (x : A) (result : Result A E) → IfOk result (λ y. y ≡ x) → P x → IfOk result P
 ok_same P x (Ok y) e p = subst P (sym e) p

@@ -10,7 +10,7 @@ use Rattle.mmt_interface.specs.Readings.{read_verdict}
 use Rattle.mmt_interface.specs.declared.verdict.Verdict.{Verdict}
 use Rattle.module_check.specs.PresentRows.{present_rows}
 use Rattle.board_front.specs.Faces.{AreFacesOf}
-use Rattle.board_front.proofs.Asked.{asked_told, faces_given, ok_same}
+use Rattle.board_front.proofs.Asked.{asked_told, faces_given, itself_left_out, ok_same}
 use Rattle.board_front.proofs.flats.faces_of.Goals as goal
 
 pub unreachable-requires : goal.unreachable-requires
@@ -25,3 +25,9 @@ returns-clause-faces g c =
     (faces_given c.args.pass.now.seen c.answers.new.pass.seen c.args.name.now c.args.verdict.now c.in-Some.answers c.answers.ensures.stays c.requires.told
     (subst (λ (r : Result (Option (Rows (Option Verdict))) Memory). IfOk r (λ answers. option_map (read_answers read_verdict) answers ≡ answers_reply modules c.answers.new.pass.seen c.args.name.now))
     (c.in_ok-answers.was ∙ ap Ok c.in-Some.is) c.answers.ensures.answers))
+
+pub faces_with-requires : goal.faces_with-requires
+faces_with-requires g c =
+    itself_left_out c.answers.new.pass.seen c.args.name.now c.in-Some.answers
+    (subst (λ (r : Result (Option (Rows (Option Verdict))) Memory). IfOk r (λ answers. option_map (read_answers read_verdict) answers ≡ answers_reply modules c.answers.new.pass.seen c.args.name.now))
+    (c.in_ok-answers.was ∙ ap Ok c.in-Some.is) c.answers.ensures.answers)
