@@ -1,3 +1,3 @@
 pub mod Below
-mod Adding
+pub mod Adding
 mod TypedStructures

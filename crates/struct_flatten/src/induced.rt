@@ -7,15 +7,17 @@ ghost use Rattle.library_meaning.specs.Faces.{own_part};
 ghost use Rattle.term_trees.specs.Readings.{read_class, read_constant, read_declaration, read_image, read_map, read_signature, read_value};
 ghost use Rattle.mmt_interface.specs.Readings.{environment_of};
 ghost use Rattle.link_meaning.specs.Induced as meant;
+ghost use Rattle.lf_meaning.specs.Signatures.{declaration_of};
+ghost use Rattle.link_laws.proofs.Onces.{Once};
 ghost use Rattle.struct_flatten.specs.Steps.{induced_into};
 
-use lf_terms::{Class, FlatDecl, FlatSig, Image, Memory, Name, Path, QName, Value};
+use lf_terms::{Class, FlatDecl, FlatSig, Image, Memory, Name, Path, PushFault, QName, Value};
 use link_passes::induced_constant;
 use mmt_interface::{Faces, StructFace};
 use std::alloc::Global;
 
 /// Adds the constants that a structure of the theory with this name induces: one for each own constant of its domain that
-/// has an image, in order. For want of memory some of them may have been added.
+/// has an image, in order. None of them is there yet. For want of memory some of them may have been added.
 pub(crate) fn add_induced(
     alloc: Global,
     faces: &Faces,
@@ -23,6 +25,7 @@ pub(crate) fn add_induced(
     face: &StructFace,
     own: &mut FlatSig,
 ) -> Result<(), Memory>
+    requires { Once (read_signature own.old ++ induced_into here.now face.now.name (read_map face.now.map) (own_part (environment_of faces.now) face.now.domain)) }
     ensures ok { OnOk result (read_signature own.new ≡ read_signature own.old ++ induced_into here.now face.now.name (read_map face.now.map) (own_part (environment_of faces.now) face.now.domain)) }
     ensures front { take (length own.old) own.new ≡ own.old }
 {
@@ -43,6 +46,7 @@ fn add_all(
     declarations: &FlatSig,
     own: &mut FlatSig,
 ) -> Result<(), Memory>
+    requires { Once (read_signature own.old ++ induced_into here.now face.now.name (read_map face.now.map) (read_signature declarations.now)) }
     ensures ok { OnOk result (read_signature own.new ≡ read_signature own.old ++ induced_into here.now face.now.name (read_map face.now.map) (read_signature declarations.now)) }
     ensures front { take (length own.old) own.new ≡ own.old }
 {
@@ -62,6 +66,7 @@ fn add_one(
     decl: &FlatDecl,
     own: &mut FlatSig,
 ) -> Result<(), Memory>
+    requires { Once (read_signature own.old ++ induced_into here.now face.now.name (read_map face.now.map) (read_declaration decl.now ∷ [])) }
     ensures ok { OnOk result (read_signature own.new ≡ read_signature own.old ++ induced_into here.now face.now.name (read_map face.now.map) (read_declaration decl.now ∷ [])) }
     ensures front { take (length own.old) own.new ≡ own.old }
 {
@@ -163,17 +168,18 @@ fn defined_by(alloc: Global, constant: &QName, value: &Value) -> Result<Option<V
     }
 }
 
-/// Adds a declaration.
+/// Adds a declaration of a new name.
 fn add(own: &mut FlatSig, decl: FlatDecl) -> Result<(), Memory>
+    requires { declaration_of (read_signature own.old) (read_declaration decl).name ≡ None }
     ensures ok { OnOk result (read_signature own.new ≡ read_signature own.old ++ read_declaration decl ∷ []) }
     ensures front { take (length own.old) own.new ≡ own.old }
 {
     match own.push(decl) {
         Ok(()) => Ok(()),
-        // The name of the structure is new, and the constants of its domain differ, so this is want of memory.
-        Err(fault) => {
-            drop(fault);
+        Err(PushFault::Memory(decl)) => {
+            drop(decl);
             Err(Memory)
         }
+        Err(PushFault::Twice(_)) => unreachable!(),
     }
 }

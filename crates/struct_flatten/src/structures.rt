@@ -1,18 +1,19 @@
 //! A structure, flattened.
-ghost use Rattle.std.specs.Prelude.{◌≡◌, false, IfOk, IsSome, OnErr, OnOk};
+ghost use Rattle.std.specs.Prelude.{◌≡◌, ◌++◌, false, IfOk, IsSome, OnErr, OnOk};
 ghost use Rattle.lf_meaning.specs.HeadMaps.{HeadMap as MeantMap};
 ghost use Rattle.text_meaning.specs.Trees.{first_name};
-ghost use Rattle.library_meaning.specs.Faces.{theory_of};
+ghost use Rattle.library_meaning.specs.Faces.{own_part, theory_of};
+ghost use Rattle.link_laws.proofs.Onces.{Once};
 ghost use Rattle.link_meaning.specs.LinkMaps.{IsMapOfLink};
 ghost use Rattle.link_meaning.specs.Passes as passes;
 ghost use Rattle.verdict_meaning.specs.Modules.{is_used};
-ghost use Rattle.term_trees.specs.Readings.{read_map};
+ghost use Rattle.term_trees.specs.Readings.{read_map, read_signature};
 ghost use Rattle.mmt_syntax.specs.Readings.{read_assigns};
 ghost use Rattle.mmt_interface.specs.CoherentFaces.{AreCoherent, IsCoherentHere};
 ghost use Rattle.mmt_interface.specs.Readings.{environment_of, read_structure, read_theory};
 ghost use Rattle.link_passes.specs.Below.Answers.{Links, RefusesNothing};
 ghost use Rattle.struct_flatten.specs.Answers.{setting_of, Flattens, HasStructure, KeepsTyped};
-ghost use Rattle.struct_flatten.specs.Steps.{with_face, IsBegunFrom};
+ghost use Rattle.struct_flatten.specs.Steps.{induced_into, with_face, IsBegunFrom};
 
 use crate::induced::add_induced;
 use lf_terms::{HeadMap, Memory};
@@ -90,13 +91,15 @@ fn face_with(alloc: Global, decl: &StructDecl, map: HeadMap) -> Result<StructFac
     Ok(StructFace { name, domain, map })
 }
 
-/// Adds what a structure with this face induces, and then the face. For want of memory the theory stays as it is.
+/// Adds what a structure with this face induces, none of which is there yet, and then the face. For want of memory the theory stays
+/// as it is.
 fn add_structure(
     alloc: Global,
     faces: &Faces,
     here: &mut TheoryFace,
     face: StructFace,
 ) -> Result<(), Memory>
+    requires { Once (read_signature here.old.own ++ induced_into here.old.name face.name (read_map face.map) (own_part (environment_of faces.now) face.domain)) }
     ensures ok { OnOk result (read_theory here.new ≡ with_face (environment_of faces.now) (read_theory here.old) (read_structure face)) }
     ensures err { OnErr result (here.new ≡ here.old) }
 {
@@ -118,6 +121,7 @@ fn add_parts(
     here: &mut TheoryFace,
     face: StructFace,
 ) -> Result<(), Memory>
+    requires { Once (read_signature here.old.own ++ induced_into here.old.name face.name (read_map face.map) (own_part (environment_of faces.now) face.domain)) }
     ensures ok { OnOk result (read_theory here.new ≡ with_face (environment_of faces.now) (read_theory here.old) (read_structure face)) }
     ensures err { OnErr result (IsBegunFrom here.old here.new) }
 {

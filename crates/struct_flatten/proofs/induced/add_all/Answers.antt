@@ -4,7 +4,7 @@ use Rattle.std.proofs.lemmas.List.{length-map, take_all, append-nil}
 use Rattle.std.proofs.Math.Seq.{take-length}
 use Rattle.term_trees.specs.Readings.{read_declaration, read_map, read_signature}
 use Rattle.struct_flatten.specs.Steps.{induced_into}
-use Rattle.struct_flatten.proofs.Adding.{front_of_front, one_more}
+use Rattle.struct_flatten.proofs.Adding.{front_of_front, once_so_far, one_more}
 use Rattle.struct_flatten.proofs.induced.add_all.Goals as goal
 use Rattle.struct_flatten.proofs.induced.add_all.Goals.{in-Some+in_ok-add_one, in_default}
 
@@ -39,3 +39,8 @@ returns-clause-ok c =
     let declarations = read_signature c.args.declarations.now in
     let past : length declarations ≤ c.loop-index.index = omega (arith, length-map c.args.declarations.now read_declaration, c.len-index-end.ensures.len) in
     c.loop-index.invariant.0 ∙ ap (λ ds. read_signature c.args.own.now ++ induced_into c.args.here.now c.args.face.now.name (read_map c.args.face.now.map) ds) (take_all c.loop-index.index declarations past)
+
+pub add_one-requires : goal.add_one-requires
+add_one-requires c =
+    once_so_far c.args.here.now c.args.face.now.name (read_map c.args.face.now.map) (read_signature c.args.own.now) (read_signature c.loop-index.own) (read_signature c.args.declarations.now) c.loop-index.index (read_declaration c.in-Some.decl.now)
+    (sym c.in-Some.ensures.meaning) c.loop-index.invariant.0 c.requires
