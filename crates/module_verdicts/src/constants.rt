@@ -1,6 +1,7 @@
 //! Declared constants.
-ghost use Rattle.std.specs.Prelude.{◌≡◌, OnOk};
+ghost use Rattle.std.specs.Prelude.{◌≡◌, None, OnOk};
 ghost use Rattle.std.specs.Option.{option_map};
+ghost use Rattle.lf_meaning.specs.Signatures.{declaration_of};
 ghost use Rattle.expansion_meaning.specs.Values.{expand_class, expand_value};
 ghost use Rattle.link_meaning.specs.Refusals as refusals;
 ghost use Rattle.verdict_meaning.specs.Modules as modules;
@@ -14,7 +15,7 @@ ghost use Rattle.module_verdicts.specs.Steps.{constant_answer, with_declaration}
 use crate::fault::labelled;
 use crate::used::own_name;
 use elaborate::{elab_class, elab_value};
-use lf_terms::{Class, FlatDecl, Memory, Name, Path, Value};
+use lf_terms::{Class, FlatDecl, Memory, Name, Path, PushFault, Value};
 use mmt_interface::TheoryFace;
 use mmt_syntax::{Expr, Written, first_name};
 use morphism::LinkFault;
@@ -81,15 +82,17 @@ fn declared_value(
     }
 }
 
-/// Adds a constant to the theory. Its name is unused; were it not, the answer would be want of memory.
+/// Adds a constant of an unused name to the theory.
 pub(crate) fn add(here: &mut TheoryFace, decl: FlatDecl) -> Result<(), Memory>
+    requires { declaration_of (read_theory here.old).own (read_declaration decl).name ≡ None }
     ensures { OnOk result (read_theory here.new ≡ with_declaration (read_theory here.old) (read_declaration decl)) }
 {
     match here.own.push(decl) {
         Ok(()) => Ok(()),
-        Err(fault) => {
-            drop(fault);
+        Err(PushFault::Memory(decl)) => {
+            drop(decl);
             Err(Memory)
         }
+        Err(PushFault::Twice(_)) => unreachable!(),
     }
 }
