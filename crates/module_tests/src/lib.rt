@@ -1,4 +1,4 @@
-//! Boards of modules, call by call, through several passes; and a library that is judged from its texts alone.
+//! Boards of modules, call by call, through several passes; a library that is judged from its texts alone, and counted steps.
 #![tactic(auto)]
 
 #[cfg(test)]
@@ -11,3 +11,5 @@ mod claims;
 mod edits;
 #[cfg(test)]
 mod scratch;
+#[cfg(test)]
+mod steps;

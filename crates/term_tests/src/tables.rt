@@ -1,13 +1,9 @@
-//! Tables, shared values and counted steps: calls over values in memory.
-ghost use Rattle.std.specs.Prelude.{◌≡◌, ◌<◌};
-
+//! Tables and shared values: calls over values in memory.
 use lf_terms::{
     Arc, FlatSig, HeadMap, Image, MapFault, MapPart, Name, Obj, PushFault, QName, Simple, Spine,
-    Steps, same_class, same_obj, same_value,
+    same_class, same_obj, same_value,
 };
 use std::alloc::Global;
-use std::marker::Brand;
-use std::sync::ledger::{Blank, Ledger};
 use std::test::Fail;
 use test_texts::{constant, map, object, signature, simple};
 
@@ -26,8 +22,7 @@ pub(crate) fn table_call(alloc: Global, line: &str) -> Result<bool, Fail> {
         "a part behind pairs is copied" => is_part_copied(alloc),
         "a value is shared" => is_shared(alloc),
         "arguments grow at their end" => do_arguments_grow(alloc),
-        "families erase to simple types" => do_families_erase(alloc),
-        _ => Ok(steps_take_no_bytes()),
+        _ => do_families_erase(alloc),
     }
 }
 
@@ -276,20 +271,4 @@ fn write_simple(simple: &Simple, out: &mut String) -> Result<(), Fail> {
         }
     }
     Ok(())
-}
-
-/// Two steps, and how many bytes the counter takes.
-fn counted<L: Ledger>(blank: Blank) -> usize
-    requires name { blank.name ≡ L.name }
-    requires parts { blank.parts ≡ L.parts }
-    requires some { 0 < blank.parts }
-{
-    let mut steps = Steps::<L>::new(blank);
-    steps.tick();
-    steps.tick();
-    size_of_val(&steps)
-}
-
-fn steps_take_no_bytes() -> bool {
-    counted::<Brand>(Blank::new(1)) == 0
 }

@@ -1,4 +1,4 @@
-use Rattle.term_tests.proofs.tables.steps_take_no_bytes.Given as goal
+use Rattle.module_tests.proofs.steps.steps_take_no_bytes.Given as goal
 
 -- The ledger of the blank.
 abbrev pub ghosts-counted : goal.ghosts-counted
