@@ -4,4 +4,5 @@ pub mod SharedPairs
 pub mod FirstPlaces
 pub mod FlatTables
 pub mod Lookup
+pub mod EarlierConstants
 pub mod OneTheory

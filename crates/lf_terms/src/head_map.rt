@@ -1,5 +1,5 @@
 //! Maps from constants to their images, in order.
-ghost use Rattle.std.specs.Prelude.{◌≡◌, ◌↔◌, ◌≤◌, ◌∷◌, ◌++◌, [], length, slice_get, IfErr, IfOk, IsErrOf, IsNone, IsSome, OnErr, OnOk, if◌then◌else◌};
+ghost use Rattle.std.specs.Prelude.{◌≡◌, ◌↔◌, ◌≤◌, ◌∷◌, ◌++◌, [], length, slice_get, IfErr, IfOk, IsErrOf, IsNone, IsSome, None, OnErr, OnOk, if◌then◌else◌};
 ghost use Rattle.std.specs.Option.{option_copied, option_map};
 ghost use Rattle.lf_meaning.specs.HeadMaps as meant;
 ghost use Rattle.term_trees.specs.Readings.{read_constant, read_image, read_map, read_mapping};
@@ -107,21 +107,28 @@ impl HeadMap {
         }
     }
 
-    /// Adds the pairs of a part at the end. Where all pairs before it stand in parts, and none of these is of its theory, the part
-    /// is shared, which takes no memory for its pairs; else they are copied. Want of memory too where a constant of it has an
-    /// image already.
-    pub fn push_part(&mut self, alloc: Global, part: &Arc<MapPart>) -> Result<(), Memory>
-        ensures { OnOk result (read_map self.new ≡ read_map self.old ++ read_map part.now) }
+    /// Adds a constant that has no image yet, with its image, at the end.
+    pub fn push_new(&mut self, name: QName, image: Image) -> Result<(), Memory>
+        requires { image_of self.old name ≡ None }
+        ensures ok { OnOk result (self.new ≡ self.old ++ (name, image) ∷ []) }
+        ensures err { OnErr result (self.new ≡ self.old) }
     {
-        if self.share(alloc, part)? {
-            return Ok(());
+        match self.push(name, image) {
+            Ok(()) => Ok(()),
+            Err(MapFault::Memory(name, image)) => {
+                drop(name);
+                drop(image);
+                Err(Memory)
+            }
+            Err(MapFault::Twice(..)) => unreachable!(),
         }
-        self.push_copies(alloc, part.get())
     }
 
-    /// Adds the pairs of a part at the end by sharing it, and says so, where that can be done.
-    fn share(&mut self, alloc: Global, part: &Arc<MapPart>) -> Result<bool, Memory>
-        ensures { IfOk result (λ shared. self.new ≡ (if shared then self.old ++ part.now else self.old)) }
+    /// Adds the pairs of a part at the end by sharing it, which takes no memory for them, and says so. That can be done where all pairs
+    /// so far stand in parts too, none of which is of its theory; elsewhere nothing is added, and whoever calls adds copies.
+    pub fn share_part(&mut self, alloc: Global, part: &Arc<MapPart>) -> Result<bool, Memory>
+        ensures ok { IfOk result (λ shared. self.new ≡ (if shared then self.old ++ part.now else self.old)) }
+        ensures err { OnErr result (self.new ≡ self.old) }
     {
         let pairs = part.get();
         let Some(count) = self.count.checked_add(pairs.len()) else {
@@ -137,18 +144,6 @@ impl HeadMap {
         drop(previous);
         self.count = count;
         Ok(true)
-    }
-
-    /// Adds copies of the pairs of a part.
-    fn push_copies(&mut self, alloc: Global, part: &MapPart) -> Result<(), Memory>
-        ensures { OnOk result (read_map self.new ≡ read_map self.old ++ read_map part.now) }
-    {
-        for i in 0..part.len() {
-            if let Some((name, image)) = part.at(i) {
-                self.push_copy(alloc, name, image)?;
-            }
-        }
-        Ok(())
     }
 
     /// The image of a constant. None exactly where the name is not there. It takes expected constant time, by a hash
@@ -196,20 +191,15 @@ impl HeadMap {
         Ok(copied)
     }
 
-    /// Adds copies of a constant and its image.
+    /// Adds copies of a constant that has no image yet and of its image.
     fn push_copy(&mut self, alloc: Global, name: &QName, image: &Image) -> Result<(), Memory>
+        requires { image_of self.old name.now ≡ None }
         ensures { OnOk result (read_map self.new ≡ read_map self.old ++ read_mapping (name.now, image.now) ∷ []) }
     {
         let name = name.copy(alloc)?;
         let image = image.copy(alloc)?;
-        match self.push(name, image) {
-            Ok(()) => Ok(()),
-            // The names of a map differ, so this is want of memory.
-            Err(fault) => {
-                drop(fault);
-                Err(Memory)
-            }
-        }
+        self.push_new(name, image)?;
+        Ok(())
     }
 
     /// The number of constants.

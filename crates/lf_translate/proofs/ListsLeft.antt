@@ -1,8 +1,8 @@
 -- What is left of a list that is gone through.
-use Rattle.std.proofs.Common.{◌≡◌, ℕ, suc, ◌+◌, ◌<◌, ◌≤◌, List, [], ◌∷◌, ◌++◌, length, take, drop, Some, None, cond, false, true, refl, sym, ap, ◌∙◌, arith, add-one}
+use Rattle.std.proofs.Common.{◌≡◌, ℕ, suc, ◌+◌, ◌<◌, ◌≤◌, List, [], ◌∷◌, ◌++◌, length, map, take, drop, Some, None, cond, false, true, refl, sym, ap, ◌∙◌, arith, add-one}
 use Rattle.std.specs.Prelude.{slice_get}
 use Rattle.std.proofs.Math.Seq.{drop-cons}
-use Rattle.std.proofs.lemmas.List.{take_more, map-append, drop_all, take_all}
+use Rattle.std.proofs.lemmas.List.{take_more, take-map, map-append, drop_all, take_all}
 use Rattle.std.proofs.lemmas.Option.{slice_get_within, get_or_from_slice_get}
 use Rattle.lf_meaning.specs.HeadMaps.{Mapping, HeadMap}
 use Rattle.lf_meaning.specs.Signatures.{Declaration, Signature}
@@ -31,6 +31,15 @@ module _ (along first : HeadMap) (i : ℕ) (m : Mapping) (there : slice_get firs
 pub nothing_missing : (along first : HeadMap) (i : ℕ) → length first ≤ i → unmapped_map along (drop i first) ≡ None
 unfolding unmapped_map
 nothing_missing along first i past = ap (unmapped_map along) (drop_all i first past)
+
+names_stay : (along first : HeadMap) → map (λ (m : Mapping). m.name) (compose first along) ≡ map (λ (m : Mapping). m.name) first
+unfolding compose
+names_stay along [] = refl
+names_stay along (m ∷ first) = ap (λ names. m.name ∷ names) (names_stay along first)
+
+-- The constants so far are those of the first map.
+pub composed_names : (along first : HeadMap) (i : ℕ) → map (λ (m : Mapping). m.name) (compose (take i first) along) ≡ take i (map (λ (m : Mapping). m.name) first)
+composed_names along first i = names_stay along (take i first) ∙ sym (take-map (λ (m : Mapping). m.name) i first)
 
 pub composed_none : (along : HeadMap) → [] ≡ compose [] along
 unfolding compose

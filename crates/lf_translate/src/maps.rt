@@ -1,9 +1,10 @@
 //! Composed maps, and where two maps differ.
-ghost use Rattle.std.specs.Prelude.{◌≡◌, ◌∷◌, ◌++◌, []};
+ghost use Rattle.std.specs.Prelude.{◌≡◌, ◌∷◌, ◌++◌, [], None};
 ghost use Rattle.translation_meaning.specs.Differ as differing;
 ghost use Rattle.translation_meaning.specs.Translation as meant;
 ghost use Rattle.translation_meaning.specs.Unmapped.{unmapped_map};
 ghost use Rattle.term_trees.specs.Readings.{read_constant, read_declaration, read_image, read_map, read_signature};
+ghost use Rattle.lf_terms.specs.Tables.{image_of};
 ghost use Rattle.lf_translate.specs.Answers.{Answers};
 ghost use Rattle.lf_translate.specs.Images.{unmapped_image};
 
@@ -34,6 +35,7 @@ fn add_translated(
     name: &QName,
     image: &Image,
 ) -> Result<(), TranslateFault>
+    requires { image_of composed.old name.now ≡ None }
     ensures { Answers (λ _. read_map composed.new) result (unmapped_image (read_map map.now) (read_image image.now)) (read_map composed.old ++ record { name = read_constant name.now; image = meant.translate_image (read_map map.now) (read_image image.now) } ∷ []) }
 {
     let image = translate_image(alloc, map, image)?;
@@ -41,14 +43,8 @@ fn add_translated(
         drop(image);
         return Err(TranslateFault::Memory);
     };
-    match composed.push(name, image) {
-        Ok(()) => Ok(()),
-        // The names of a map differ, so this is want of memory.
-        Err(fault) => {
-            drop(fault);
-            Err(TranslateFault::Memory)
-        }
-    }
+    composed.push_new(name, image)?;
+    Ok(())
 }
 
 fn translate_image(alloc: Global, map: &HeadMap, image: &Image) -> Result<Image, TranslateFault>

@@ -19,7 +19,7 @@ pub(crate) fn table_call(alloc: Global, line: &str) -> Result<bool, Fail> {
         "declarations are found by path" => are_found_by_path(alloc),
         "images are found by name" => are_images_found(alloc),
         "maps share the images of the identity" => do_maps_share(alloc),
-        "a part behind pairs is copied" => is_part_copied(alloc),
+        "a part behind pairs is not shared" => is_part_left(alloc),
         "a value is shared" => is_shared(alloc),
         "arguments grow at their end" => do_arguments_grow(alloc),
         _ => do_families_erase(alloc),
@@ -165,13 +165,6 @@ d : a = same c";
 
 const MAPPED_FIRST: &str = "f : a = same d";
 
-/// These constants behind another one.
-const BEHIND: &str = "\
-f : a = same d
-a : type = same a
-c : a = same c
-d : a = same c";
-
 /// Whether the maps have the same constants with the same images, in the same order.
 fn is_same_map(map: &HeadMap, wanted: &HeadMap) -> bool {
     for i in 0..wanted.len() {
@@ -197,11 +190,11 @@ fn is_same_pair(pair: Option<(&QName, &Image)>, wanted: Option<(&QName, &Image)>
 fn shares(alloc: Global, part: &Arc<MapPart>, text: &str) -> Result<bool, Fail> {
     let wanted = map(alloc, text)?;
     let mut shared = HeadMap::new(alloc);
-    shared.push_part(alloc, part)?;
-    let twice = shared.push_part(alloc, part).is_err();
+    let first = shared.share_part(alloc, part)?;
+    let twice = shared.share_part(alloc, part)?;
     let same = is_same_map(&shared, &wanted);
     let copied = shared.copy(alloc)?;
-    Ok(twice && same && is_same_map(&copied, &wanted))
+    Ok(first && !twice && same && is_same_map(&copied, &wanted))
 }
 
 fn do_maps_share(alloc: Global) -> Result<bool, Fail> {
@@ -212,14 +205,14 @@ fn do_maps_share(alloc: Global) -> Result<bool, Fail> {
     Ok(unfinished && shared)
 }
 
-/// Whether a map that takes in a part behind its pairs copies it.
-fn is_part_copied(alloc: Global) -> Result<bool, Fail> {
+/// Whether a map with a pair of its own takes in no part, and stays as it was.
+fn is_part_left(alloc: Global) -> Result<bool, Fail> {
     let mut sig = signature(alloc, DECLARED)?;
     sig.finish(alloc)?;
-    let wanted = map(alloc, BEHIND)?;
+    let wanted = map(alloc, MAPPED_FIRST)?;
     let mut behind = map(alloc, MAPPED_FIRST)?;
-    behind.push_part(alloc, sig.identity().ok_or("no identity")?)?;
-    Ok(is_same_map(&behind, &wanted))
+    let shared = behind.share_part(alloc, sig.identity().ok_or("no identity")?)?;
+    Ok(!shared && is_same_map(&behind, &wanted))
 }
 
 fn is_shared(alloc: Global) -> Result<bool, Fail> {

@@ -1,13 +1,15 @@
-use Rattle.std.proofs.Common.{◌≡◌, ◌≤◌, ◌+◌, [], ◌∷◌, ◌++◌, length, drop, Some, refl, ap, sym, ◌∙◌, arith}
+use Rattle.std.proofs.Common.{◌≡◌, ◌≤◌, ◌+◌, [], ◌∷◌, ◌++◌, length, map, drop, Some, refl, ap, sym, ◌∙◌, arith}
 use Rattle.std.specs.Prelude.{slice_get}
 use Rattle.std.proofs.lemmas.List.{length-map}
 use Rattle.std.proofs.lemmas.Result.{err_from_is_err_and}
+use Rattle.lf_meaning.specs.HeadMaps.{Mapping}
 use Rattle.translation_meaning.specs.Translation.{translate_image}
 use Rattle.translation_meaning.specs.Unmapped.{unmapped_map}
 use Rattle.term_trees.specs.Readings.{read_map, read_mapping}
+use Rattle.lf_terms.proofs.EarlierConstants.{new_behind}
 use Rattle.lf_translate.specs.Images.{unmapped_image}
 use Rattle.lf_translate.proofs.Faults.{names_first, rest_after}
-use Rattle.lf_translate.proofs.ListsLeft.{missing_left, composed_more, composed_none, nothing_missing, composed_all}
+use Rattle.lf_translate.proofs.ListsLeft.{missing_left, composed_more, composed_none, nothing_missing, composed_all, composed_names}
 use Rattle.lf_translate.proofs.maps.compose.Goals as goal
 use Rattle.lf_translate.proofs.maps.compose.Goals.{in-Some+in_ok-add_translated, in_default}
 
@@ -24,6 +26,11 @@ returns-in_err-add_translated c =
     let there : slice_get first i ≡ Some mapping = sym c.in-Some.ensures.meaning in
     let whole = missing_left second first i mapping there ∙ c.loop-i.invariant.missing in
     rw (p.1, p.2) (names_first c.in_err-add_translated.field-0.0 (unmapped_image second mapping.image) (unmapped_map second (drop (i + 1) first)) (unmapped_map second first) whole c.in_err-add_translated.ensures)
+
+pub add_translated-requires : goal.add_translated-requires
+add_translated-requires c =
+    new_behind c.args.first.now c.loop-i.composed c.loop-i.i (c.in-Some.name.now, c.in-Some.image.now) c.len-i-end.ensures.distinct
+    (ap (map (λ (m : Mapping). m.name)) c.loop-i.invariant.translated ∙ composed_names (read_map c.args.second.now) (read_map c.args.first.now) c.loop-i.i) (sym c.in-Some.ensures.item)
 
 pub loop-i-preserved : goal.loop-i-preserved
 loop-i-preserved c =

@@ -2,11 +2,16 @@ use Rattle.std.proofs.Common.{◌≡◌, ◌∙◌, suc, ◌+◌, [], ◌∷◌,
 use Rattle.std.proofs.lemmas.List.{length-map}
 use Rattle.list_laws.proofs.Places.{take_more, take_length}
 use Rattle.term_trees.specs.Readings.{read_map, read_mapping}
+use Rattle.lf_terms.proofs.EarlierConstants.{new_behind_copies}
 use Rattle.lf_terms.proofs.head_map.HeadMap.copy.Goals as goal
 use Rattle.lf_terms.proofs.head_map.HeadMap.copy.Goals.{in-Some+in_ok-push_copy, in_default}
 
 pub loop-i-init : goal.loop-i-init
 loop-i-init c = ap read_map c.new-copied.ensures
+
+pub push_copy-requires : goal.push_copy-requires
+push_copy-requires c =
+    new_behind_copies c.args.self.now c.loop-i.copied c.loop-i.i (c.in-Some.name.now, c.in-Some.image.now) c.len-i-end.ensures.distinct c.loop-i.invariant (sym c.in-Some.ensures.item)
 
 pub loop-i-preserved : goal.loop-i-preserved
 loop-i-preserved c =

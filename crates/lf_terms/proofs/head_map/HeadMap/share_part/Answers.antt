@@ -7,7 +7,7 @@ use Rattle.list_laws.proofs.Options.{none_of}
 use Rattle.lf_terms.specs.Tables.{HasDistinctHeads}
 use Rattle.lf_terms.specs.Parts.{pairs_of, AreOfTheory, HasParts, Parts}
 use Rattle.lf_terms.proofs.SharedPairs.{part_pushed, seen_more}
-use Rattle.lf_terms.proofs.head_map.HeadMap.share.Goals as goal
+use Rattle.lf_terms.proofs.head_map.HeadMap.share_part.Goals as goal
 
 record Shares (c : goal.After-self-1) : Type 0 where
   none : c.self.inside.own.entries ≡ []
@@ -44,8 +44,8 @@ invariant_of-self-2 c =
     subst (λ n. HasParts c.insert.new.self.entries own n) s.counted
     (subst (λ (p : Parts). HasParts p own (c.self.inside.count + length es)) (sym s.parts) (part_pushed parts own c.self.inside.count c.self.invariant s.none theory es s.named s.new s.distinct))
 
-pub returns : goal.returns
-returns c =
+pub returns-clause-ok : goal.returns-clause-ok
+returns-clause-ok c =
     let s = shares c in
     let parts = c.self.inside.parts.entries in
     let own = c.self.inside.own.entries in
