@@ -3,3 +3,4 @@ mod Reaching
 mod Imaging
 mod SharedParts
 mod Spans
+pub mod SharedImages

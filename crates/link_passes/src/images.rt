@@ -1,9 +1,11 @@
 //! The third pass: the images of the domain's own constants.
-ghost use Rattle.std.specs.Prelude.{◌≡◌, ◌∷◌, ◌++◌, [], OnOk};
+ghost use Rattle.std.specs.Prelude.{◌≡◌, ◌∷◌, ◌++◌, [], None, OnOk};
+ghost use Rattle.lf_meaning.specs.HeadMaps.{image_of};
 ghost use Rattle.library_meaning.specs.Faces.{own_part};
+ghost use Rattle.mapping_laws.specs.NextImages.{IsNext, StandsBefore};
 ghost use Rattle.link_meaning.specs.LinkMaps.{IsSettled};
 ghost use Rattle.link_meaning.specs.Passes as passes;
-ghost use Rattle.term_trees.specs.Readings.{read_declaration, read_image, read_map, read_mapping, read_signature};
+ghost use Rattle.term_trees.specs.Readings.{read_constant, read_declaration, read_image, read_map, read_mapping, read_signature};
 ghost use Rattle.morphism.specs.Readings.{read_all_assigned, read_setting};
 ghost use Rattle.morphism.specs.Answers.{Links};
 ghost use Rattle.link_passes.specs.Steps.{AreOwn, image_over, with_own_image};
@@ -11,7 +13,7 @@ ghost use Rattle.link_passes.specs.Steps.{AreOwn, image_over, with_own_image};
 use crate::reached::reached_by;
 use crate::translated::translated_class;
 use crate::values::own_value;
-use lf_terms::{FlatDecl, FlatSig, HeadMap, Image, Memory, QName};
+use lf_terms::{FlatDecl, FlatSig, HeadMap, Image, MapFault, Memory, QName};
 use morphism::{Assigned, LinkFault, Setting};
 use std::alloc::Global;
 
@@ -22,7 +24,8 @@ pub(crate) fn add_own_images(
     assigned: &[Assigned<'_>],
     along: &mut HeadMap,
 ) -> Result<(), LinkFault>
-    requires { IsSettled (read_setting setting.now) }
+    requires settled { IsSettled (read_setting setting.now) }
+    requires before { StandsBefore (read_map along.old) (own_part (read_setting setting.now).environment (read_setting setting.now).domain) }
     ensures { Links (λ _. read_map along.new) result (passes.map_all (read_setting setting.now) (read_all_assigned assigned.now) (read_map along.old) (own_part (read_setting setting.now).environment (read_setting setting.now).domain)) }
 {
     match setting.scope.faces.theory(setting.domain) {
@@ -42,7 +45,8 @@ fn add_images(
     along: &mut HeadMap,
     own: &FlatSig,
 ) -> Result<(), LinkFault>
-    requires { AreOwn (read_setting setting.now) (read_signature own.now) }
+    requires own { AreOwn (read_setting setting.now) (read_signature own.now) }
+    requires before { StandsBefore (read_map along.old) (read_signature own.now) }
     ensures { Links (λ _. read_map along.new) result (passes.map_all (read_setting setting.now) (read_all_assigned assigned.now) (read_map along.old) (read_signature own.now)) }
 {
     for index in 0..own.len() {
@@ -61,6 +65,7 @@ fn add_image(
     along: &mut HeadMap,
     decl: &FlatDecl,
 ) -> Result<(), LinkFault>
+    requires { IsNext (read_map along.old) (read_declaration decl.now) }
     ensures { Links (λ _. read_map along.new) result (with_own_image (read_setting setting.now) (read_all_assigned assigned.now) (read_map along.old) (read_declaration decl.now)) }
 {
     let name = decl.name.copy(alloc)?;
@@ -76,6 +81,7 @@ fn image_over(
     along: &HeadMap,
     decl: &FlatDecl,
 ) -> Result<Image, LinkFault>
+    requires { IsNext (read_map along.now) (read_declaration decl.now) }
     ensures { Links read_image result (image_over (read_setting setting.now) (read_all_assigned assigned.now) (read_map along.now) (read_declaration decl.now)) }
 {
     let class = translated_class(alloc, along, &decl.class)?;
@@ -89,16 +95,18 @@ fn image_over(
     }
 }
 
-/// Adds a constant with its image.
+/// Adds a constant that has no image yet, with its image.
 fn add(along: &mut HeadMap, name: QName, image: Image) -> Result<(), Memory>
+    requires { image_of (read_map along.old) (read_constant name) ≡ None }
     ensures { OnOk result (read_map along.new ≡ read_map along.old ++ read_mapping (name, image) ∷ []) }
 {
     match along.push(name, image) {
         Ok(()) => Ok(()),
-        // The constants of a coherent theory differ, and so do their theories, so this is want of memory.
-        Err(fault) => {
-            drop(fault);
+        Err(MapFault::Memory(name, image)) => {
+            drop(name);
+            drop(image);
             Err(Memory)
         }
+        Err(MapFault::Twice(_, _)) => unreachable!(),
     }
 }

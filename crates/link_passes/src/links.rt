@@ -1,27 +1,33 @@
 //! The map of a link.
+ghost use Rattle.std.specs.Prelude.{◌≡◌};
+ghost use Rattle.library_meaning.specs.Coherence.{declared_names, mapped_names};
+ghost use Rattle.link_meaning.specs.CoveringMaps.{included_part};
 ghost use Rattle.link_meaning.specs.LinkMaps.{IsSettled};
 ghost use Rattle.link_meaning.specs.Passes as passes;
 ghost use Rattle.link_laws.specs.CoveringLaws as laws;
+ghost use Rattle.link_laws.specs.LinkTargets.{HereHolds};
 ghost use Rattle.term_trees.specs.Readings.{read_map};
 ghost use Rattle.mmt_syntax.specs.Readings.{read_assigns};
 ghost use Rattle.morphism.specs.Readings.{read_all_assigned, read_setting};
 ghost use Rattle.morphism.specs.Answers.{Links};
+ghost use Rattle.link_passes.specs.SharedImages.{AreShared};
 
 use crate::images::add_own_images;
 use crate::sharing::shared_tests;
 use lf_terms::HeadMap;
 use mmt_syntax::Assigns;
-use morphism::{Assigned, LinkFault, Setting, read_assigns, settled_covering_map};
+use morphism::{Assigned, LinkFault, Setting, covering_map, read_assigns};
 use std::alloc::Global;
 
 /// The map of a link with these assignments, or the first refusal. The faces are coherent, and the domain is an accepted
-/// theory there.
+/// theory there; the theory that is being built is not among them, and its structures have coherent maps.
 pub fn link_map(
     alloc: Global,
     setting: &Setting<'_>,
     assigns: &Assigns,
 ) -> Result<HeadMap, LinkFault>
-    requires { IsSettled (read_setting setting.now) }
+    requires settled { IsSettled (read_setting setting.now) }
+    requires here { HereHolds (read_setting setting.now).environment (read_setting setting.now).here }
     ensures { Links read_map result (passes.link_map (read_setting setting.now) (read_assigns assigns.now)) }
 {
     let assigned = read_assigns(alloc, setting, assigns)?;
@@ -35,10 +41,11 @@ fn assigned_map(
     setting: &Setting<'_>,
     assigned: &[Assigned<'_>],
 ) -> Result<HeadMap, LinkFault>
-    requires { IsSettled (read_setting setting.now) }
+    requires settled { IsSettled (read_setting setting.now) }
+    requires shared { AreShared (read_setting setting.now) (read_all_assigned assigned.now) }
     ensures { Links read_map result (passes.assigned_map (read_setting setting.now) (read_all_assigned assigned.now)) }
 {
-    let front = settled_covering_map(alloc, setting, assigned)?;
+    let front = covering_map(alloc, setting, assigned)?;
     later_passes(alloc, setting, assigned, front)
 }
 
@@ -49,7 +56,9 @@ fn later_passes(
     assigned: &[Assigned<'_>],
     front: HeadMap,
 ) -> Result<HeadMap, LinkFault>
-    requires { IsSettled (read_setting setting.now) }
+    requires settled { IsSettled (read_setting setting.now) }
+    requires shared { AreShared (read_setting setting.now) (read_all_assigned assigned.now) }
+    requires front { mapped_names (read_map front) ≡ declared_names (included_part (read_setting setting.now)) }
     ensures { Links read_map result (laws.later_passes (read_setting setting.now) (read_all_assigned assigned.now) (read_map front)) }
 {
     let mut along = front;
@@ -69,7 +78,9 @@ fn own_passes(
     assigned: &[Assigned<'_>],
     along: &mut HeadMap,
 ) -> Result<(), LinkFault>
-    requires { IsSettled (read_setting setting.now) }
+    requires settled { IsSettled (read_setting setting.now) }
+    requires shared { AreShared (read_setting setting.now) (read_all_assigned assigned.now) }
+    requires front { mapped_names (read_map along.old) ≡ declared_names (included_part (read_setting setting.now)) }
     ensures { Links (λ _. read_map along.new) result (laws.later_passes (read_setting setting.now) (read_all_assigned assigned.now) (read_map along.old)) }
 {
     add_own_images(alloc, setting, assigned, along)?;

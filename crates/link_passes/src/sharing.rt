@@ -1,5 +1,8 @@
 //! The fourth pass: what shared structures share.
-ghost use Rattle.std.specs.Prelude.{◌≡◌, IfOk};
+ghost use Rattle.std.specs.Prelude.{◌≡◌, None, IfOk};
+ghost use Rattle.list_laws.proofs.Members.{Member};
+ghost use Rattle.link_meaning.specs.Assignments as links;
+ghost use Rattle.translation_meaning.specs.Unmapped.{unmapped_map, unmapped_value};
 ghost use Rattle.library_meaning.specs.Faces.{includes_of, own_part, own_parts, theory_of};
 ghost use Rattle.translation_meaning.specs.Translation as meant;
 ghost use Rattle.lf_meaning.specs.Equality as equality;
@@ -10,6 +13,7 @@ ghost use Rattle.mmt_interface.specs.Readings.{environment_of};
 ghost use Rattle.morphism.specs.Below.Readings.{read_link};
 ghost use Rattle.morphism.specs.Readings.{read_all_assigned, read_assigned, read_setting};
 ghost use Rattle.morphism.specs.Answers.{Links};
+ghost use Rattle.link_passes.specs.SharedImages.{SharesMapped};
 ghost use Rattle.link_passes.specs.Steps.{share};
 
 use crate::labels::demand;
@@ -26,6 +30,7 @@ pub(crate) fn shared_tests(
     along: &HeadMap,
     assigned: &[Assigned<'_>],
 ) -> Result<(), LinkFault>
+    requires { (item : links.Assigned) → Member item (read_all_assigned assigned.now) → SharesMapped (read_map along.now) item }
     ensures { Links (λ done. done) result (each (passes.shared_test (read_setting setting.now) (read_map along.now)) (read_all_assigned assigned.now)) }
 {
     for item in assigned {
@@ -41,6 +46,7 @@ fn shared_test(
     along: &HeadMap,
     item: &Assigned<'_>,
 ) -> Result<(), LinkFault>
+    requires { SharesMapped (read_map along.now) (read_assigned item.now) }
     ensures { Links (λ done. done) result (passes.shared_test (read_setting setting.now) (read_map along.now) (read_assigned item.now)) }
 {
     match item {
@@ -74,6 +80,7 @@ fn included_shared(
     structure: &Link,
     by: &Link,
 ) -> Result<bool, Memory>
+    requires { unmapped_map (read_map along.now) (read_link structure.now).map ≡ None }
     ensures { IfOk result (λ holds. holds ≡ share (read_map along.now) (read_link structure.now) (read_link by.now) (own_parts (environment_of faces.now) (includes_of (theory_of (environment_of faces.now) (read_link structure.now).domain)))) }
 {
     match faces.theory(&structure.domain) {
@@ -93,6 +100,7 @@ fn theories_shared(
     by: &Link,
     theories: &[Name],
 ) -> Result<bool, Memory>
+    requires { unmapped_map (read_map along.now) (read_link structure.now).map ≡ None }
     ensures { IfOk result (λ holds. holds ≡ share (read_map along.now) (read_link structure.now) (read_link by.now) (own_parts (environment_of faces.now) theories.now)) }
 {
     for theory in theories {
@@ -112,6 +120,7 @@ fn theory_shared(
     by: &Link,
     theory: &Name,
 ) -> Result<bool, Memory>
+    requires { unmapped_map (read_map along.now) (read_link structure.now).map ≡ None }
     ensures { IfOk result (λ holds. holds ≡ share (read_map along.now) (read_link structure.now) (read_link by.now) (own_part (environment_of faces.now) theory.now)) }
 {
     match faces.theory(theory) {
@@ -128,6 +137,7 @@ fn constants_shared(
     by: &Link,
     own: &FlatSig,
 ) -> Result<bool, Memory>
+    requires { unmapped_map (read_map along.now) (read_link structure.now).map ≡ None }
     ensures { IfOk result (λ holds. holds ≡ share (read_map along.now) (read_link structure.now) (read_link by.now) (read_signature own.now)) }
 {
     for index in 0..own.len() {
@@ -148,6 +158,7 @@ fn constant_shared(
     by: &Link,
     decl: &FlatDecl,
 ) -> Result<bool, Memory>
+    requires { unmapped_map (read_map along.now) (read_link structure.now).map ≡ None }
     ensures { IfOk result (λ holds. holds ≡ passes.shares (read_map along.now) (read_link structure.now) (read_link by.now) (read_declaration decl.now)) }
 {
     match (structure.map.get(&decl.name), by.map.get(&decl.name)) {
@@ -163,6 +174,7 @@ fn is_translated(
     value: &Value,
     other: &Value,
 ) -> Result<bool, Memory>
+    requires { unmapped_value (read_map along.now) (read_value value.now) ≡ None }
     ensures { IfOk result (λ same. same ≡ equality.same_value (meant.translate_value (read_map along.now) (read_value value.now)) (read_value other.now)) }
 {
     if let Value::Same(constant) = value {

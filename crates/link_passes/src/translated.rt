@@ -1,7 +1,7 @@
-//! Translation along the map so far. A constant without an image that stands in a class or a value of the domain would be no
-//! earlier constant of it, which coherent faces exclude; where one did, the answer is want of memory.
-ghost use Rattle.std.specs.Prelude.{◌≡◌, IfOk};
+//! Translation along the map so far, which has an image for each constant in what is translated.
+ghost use Rattle.std.specs.Prelude.{◌≡◌, None, IfOk};
 ghost use Rattle.translation_meaning.specs.Translation as meant;
+ghost use Rattle.translation_meaning.specs.Unmapped.{unmapped_class, unmapped_value};
 ghost use Rattle.term_trees.specs.Readings.{read_class, read_map, read_value};
 
 use lf_terms::{Class, HeadMap, Memory, Value};
@@ -14,9 +14,14 @@ pub(crate) fn translated_class(
     along: &HeadMap,
     class: &Class,
 ) -> Result<Class, Memory>
+    requires { unmapped_class (read_map along.now) (read_class class.now) ≡ None }
     ensures { IfOk result (λ translated. read_class translated ≡ meant.translate_class (read_map along.now) (read_class class.now)) }
 {
-    translate_class(alloc, along, class).map_err(without_answer)
+    match translate_class(alloc, along, class) {
+        Ok(class) => Ok(class),
+        Err(TranslateFault::Memory) => Err(Memory),
+        Err(TranslateFault::Unmapped(_)) => unreachable!(),
+    }
 }
 
 /// The value, translated.
@@ -25,12 +30,12 @@ pub(crate) fn translated_value(
     along: &HeadMap,
     value: &Value,
 ) -> Result<Value, Memory>
+    requires { unmapped_value (read_map along.now) (read_value value.now) ≡ None }
     ensures { IfOk result (λ translated. read_value translated ≡ meant.translate_value (read_map along.now) (read_value value.now)) }
 {
-    translate_value(alloc, along, value).map_err(without_answer)
-}
-
-fn without_answer(fault: TranslateFault) -> Memory {
-    drop(fault);
-    Memory
+    match translate_value(alloc, along, value) {
+        Ok(value) => Ok(value),
+        Err(TranslateFault::Memory) => Err(Memory),
+        Err(TranslateFault::Unmapped(_)) => unreachable!(),
+    }
 }

@@ -1,10 +1,11 @@
 //! The values of the domain's own constants.
-ghost use Rattle.std.specs.Prelude.{◌≡◌, IfOk};
+ghost use Rattle.std.specs.Prelude.{◌≡◌, None, IfOk};
 ghost use Rattle.expansion_meaning.specs.Rules.{DefinitionClash, MorphismsDisagree};
 ghost use Rattle.expansion_meaning.specs.Expansion.{span_of};
 ghost use Rattle.link_meaning.specs.Assignments.{label_along};
 ghost use Rattle.link_meaning.specs.Passes as passes;
 ghost use Rattle.link_meaning.specs.Refusals as refusals;
+ghost use Rattle.mapping_laws.specs.NextImages.{unmapped_definition};
 ghost use Rattle.term_trees.specs.Readings.{read_class, read_declaration, read_map, read_value};
 ghost use Rattle.mmt_syntax.specs.Readings.{read_expr, read_span};
 ghost use Rattle.morphism.specs.Below.Readings.{read_link};
@@ -33,6 +34,7 @@ pub(crate) fn own_value(
     class: &Class,
     decl: &FlatDecl,
 ) -> Result<Value, LinkFault>
+    requires { unmapped_definition (read_map along.now) (read_declaration decl.now).value ≡ None }
     ensures { Links read_value result (value_reached (read_setting setting.now) (read_map along.now) (or_reached reached.entry passes.ByNone) (read_class class.now) (read_declaration decl.now)) }
 {
     match reached {
@@ -62,6 +64,7 @@ fn unassigned_value(
     along: &HeadMap,
     decl: &FlatDecl,
 ) -> Result<Value, LinkFault>
+    requires { unmapped_definition (read_map along.now) (read_declaration decl.now).value ≡ None }
     ensures { Links read_value result (passes.unassigned_value (read_setting setting.now) (translated_definition (read_map along.now) (read_declaration decl.now).value) (read_declaration decl.now)) }
 {
     match &decl.value {
@@ -139,6 +142,7 @@ fn value_by_assignment(
     class: &Class,
     decl: &FlatDecl,
 ) -> Result<Value, LinkFault>
+    requires { unmapped_definition (read_map along.now) (read_declaration decl.now).value ≡ None }
     ensures { Links read_value result (value_reached (read_setting setting.now) (read_map along.now) (passes.ByValue target.now (read_expr expr.now)) (read_class class.now) (read_declaration decl.now)) }
 {
     let value = assigned_value(alloc, setting, target, expr, class)?;
@@ -161,6 +165,7 @@ fn assigned_test(
     decl: &FlatDecl,
     value: &Value,
 ) -> Result<(), LinkFault>
+    requires { unmapped_definition (read_map along.now) (read_declaration decl.now).value ≡ None }
     ensures { Links (λ done. done) result (refusals.demand (passes.is_definition (translated_definition (read_map along.now) (read_declaration decl.now).value) (read_value value.now)) (span_of (read_expr expr.now)) DefinitionClash (label_along (read_setting setting.now) target.now)) }
 {
     let holds = is_definition(alloc, along, decl, value)?;
@@ -184,6 +189,7 @@ fn value_by_structure(
     decl: &FlatDecl,
     value: Value,
 ) -> Result<Value, LinkFault>
+    requires { unmapped_definition (read_map along.now) (read_declaration decl.now).value ≡ None }
     ensures { Links read_value result (value_if_definition (read_setting setting.now) (read_map along.now) target.now (read_span first) (read_declaration decl.now) (read_value value)) }
 {
     match shared_value_test(alloc, setting, along, target, first, decl, &value) {
@@ -205,6 +211,7 @@ fn shared_value_test(
     decl: &FlatDecl,
     value: &Value,
 ) -> Result<(), LinkFault>
+    requires { unmapped_definition (read_map along.now) (read_declaration decl.now).value ≡ None }
     ensures { Links (λ done. done) result (refusals.demand (passes.is_definition (translated_definition (read_map along.now) (read_declaration decl.now).value) (read_value value.now)) (read_span first) MorphismsDisagree (label_along (read_setting setting.now) target.now)) }
 {
     let holds = is_definition(alloc, along, decl, value)?;
@@ -225,6 +232,7 @@ fn is_definition(
     decl: &FlatDecl,
     value: &Value,
 ) -> Result<bool, Memory>
+    requires { unmapped_definition (read_map along.now) (read_declaration decl.now).value ≡ None }
     ensures { IfOk result (λ holds. holds ≡ passes.is_definition (translated_definition (read_map along.now) (read_declaration decl.now).value) (read_value value.now)) }
 {
     match &decl.value {

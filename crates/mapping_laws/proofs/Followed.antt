@@ -29,7 +29,8 @@ structures_are_followed environment structures target name structure path inner 
     between (flat_of environment inner.domain) (flat_of environment structure.domain) target inner.map structure.map k.1 (hold p.0 structure p.1).1
 
 module _ (environment : Environment) (here : Option TheoryFace) (coherent : IsCoherent environment) (holds : HereHolds environment here) where
-  word_holds : (word : Path) (link : Link) → word_meaning environment here word ≡ Means link → LinkHolds environment here link
+  -- A word means a link with a coherent map.
+  pub word_holds : (word : Path) (link : Link) → word_meaning environment here word ≡ Means link → LinkHolds environment here link
   unfolding row_meaning row_from
   word_holds word link h = row_holds environment coherent here holds (word ∷ []) link (ap (λ m. first_by m (λ (l : Link). row_from environment here 1 l [])) h)
 

@@ -8,4 +8,5 @@ pub mod Identities
 pub mod CoverLists
 pub mod Refusing
 pub mod AllCovered
+pub mod NextImages
 pub mod CoverAnswers

@@ -2,12 +2,14 @@
 ghost use Rattle.std.specs.Prelude.{◌≡◌, [], IfOk, Ok};
 ghost use Rattle.std.specs.Option.{option_copied};
 ghost use Rattle.text_meaning.specs.Trees.{ConstAssign, IncludeAssign, StructAssign};
+ghost use Rattle.library_meaning.specs.Coherence.{IsCoherent};
 ghost use Rattle.library_meaning.specs.Words as words;
 ghost use Rattle.expansion_meaning.specs.Rules as rules;
 ghost use Rattle.link_meaning.specs.Assignments as passes;
 ghost use Rattle.link_meaning.specs.Assignments.{Sharing};
 ghost use Rattle.link_meaning.specs.Refusals as refusals;
 ghost use Rattle.link_meaning.specs.Refusals.{Outcome, or_refused};
+ghost use Rattle.link_laws.specs.LinkTargets.{HereHolds};
 ghost use Rattle.mmt_syntax.specs.Readings as trees;
 ghost use Rattle.morphism_words.specs.Readings.{read_link};
 ghost use Rattle.morphism_words.specs.Answers.{IsFirstFault};
@@ -25,12 +27,15 @@ use mmt_syntax::{Assign, Assigns, Expr, Morph, Written};
 use morphism_words::{Link, MorphFault, meaning};
 use std::alloc::Global;
 
-/// What the assignments of a link give, or the first refusal.
+/// What the assignments of a link give, or the first refusal. The faces are coherent; the theory that is being built is not among
+/// them, and its structures have coherent maps.
 pub fn read_assigns<'a>(
     alloc: Global,
     setting: &Setting<'a>,
     assigns: &'a Assigns,
 ) -> Result<Vec<Assigned<'a>>, LinkFault>
+    requires coherent { IsCoherent (read_setting setting.now).environment }
+    requires here { HereHolds (read_setting setting.now).environment (read_setting setting.now).here }
     ensures { Links (λ given. read_all_assigned given.items) result (passes.read_assigns (read_setting setting.now) [] (trees.read_assigns assigns.now)) }
 {
     let mut given = Vec::new(alloc);
@@ -47,6 +52,8 @@ fn read_all<'a>(
     given: &mut Vec<Assigned<'a>>,
     assigns: &'a [Assign],
 ) -> Result<(), LinkFault>
+    requires coherent { IsCoherent (read_setting setting.now).environment }
+    requires here { HereHolds (read_setting setting.now).environment (read_setting setting.now).here }
     requires targets { earlier_targets targets.old ≡ [] }
     requires tabled { AreTabled targets.old }
     requires nothing { given.old.items ≡ [] }
@@ -66,7 +73,9 @@ fn read_assign<'a>(
     earlier: &Targets<'a>,
     assign: &'a Assign,
 ) -> Result<Assigned<'a>, LinkFault>
-    requires { AreTabled earlier.now }
+    requires coherent { IsCoherent (read_setting setting.now).environment }
+    requires here { HereHolds (read_setting setting.now).environment (read_setting setting.now).here }
+    requires tabled { AreTabled earlier.now }
     ensures { Links read_assigned result (passes.read_assign (read_setting setting.now) (earlier_targets earlier.now) (trees.read_assign assign.now)) }
 {
     match assign {
@@ -110,6 +119,8 @@ fn covering<'a>(
     setting: &Setting<'a>,
     morph: &'a Morph,
 ) -> Result<Assigned<'a>, LinkFault>
+    requires coherent { IsCoherent (read_setting setting.now).environment }
+    requires here { HereHolds (read_setting setting.now).environment (read_setting setting.now).here }
     ensures { Links read_assigned result (passes.read_assign (read_setting setting.now) [] (IncludeAssign (trees.read_morph morph.now))) }
 {
     let by = words_link(alloc, setting, morph, None)?;
@@ -129,7 +140,9 @@ fn sharing<'a>(
     target: &'a Written,
     morph: &'a Morph,
 ) -> Result<Assigned<'a>, LinkFault>
-    requires { AreTabled earlier.now }
+    requires coherent { IsCoherent (read_setting setting.now).environment }
+    requires here { HereHolds (read_setting setting.now).environment (read_setting setting.now).here }
+    requires tabled { AreTabled earlier.now }
     ensures { Links read_assigned result (passes.read_assign (read_setting setting.now) (earlier_targets earlier.now) (StructAssign (trees.read_written target.now) (trees.read_morph morph.now))) }
 {
     let structure = target_link(alloc, setting, target)?;
@@ -156,6 +169,8 @@ fn sharing_link(
     target: &Written,
     morph: &Morph,
 ) -> Result<Link, LinkFault>
+    requires coherent { IsCoherent (read_setting setting.now).environment }
+    requires here { HereHolds (read_setting setting.now).environment (read_setting setting.now).here }
     requires tabled { AreTabled earlier.now }
     requires known { or_refused (passes.structure_at (read_setting setting.now) target.now.path) (trees.read_span target.now.span) rules.Rule.UnknownTarget (passes.label_along (read_setting setting.now) target.now.path) ≡ Ok (read_link structure.now) }
     ensures { Links (λ by. Sharing target.now.path (read_link structure.now) (passes.word_place (trees.read_morph morph.now) 0) (read_link by)) result (passes.read_assign (read_setting setting.now) (earlier_targets earlier.now) (StructAssign (trees.read_written target.now) (trees.read_morph morph.now))) }
@@ -178,6 +193,7 @@ fn sharing_link(
 
 /// The own link of the structure that an assignment names.
 fn target_link(alloc: Global, setting: &Setting<'_>, target: &Written) -> Result<Link, LinkFault>
+    requires { IsCoherent (read_setting setting.now).environment }
     ensures { Links read_link result (or_refused (passes.structure_at (read_setting setting.now) target.now.path) (trees.read_span target.now.span) rules.Rule.UnknownTarget (passes.label_along (read_setting setting.now) target.now.path)) }
 {
     match structure_at(alloc, setting, &target.path)? {
@@ -218,6 +234,8 @@ fn words_link(
     morph: &Morph,
     target: Option<&Path>,
 ) -> Result<Link, LinkFault>
+    requires coherent { IsCoherent (read_setting setting.now).environment }
+    requires here { HereHolds (read_setting setting.now).environment (read_setting setting.now).here }
     ensures { Links read_link result (passes.link_of (read_setting setting.now) (label_of (read_setting setting.now) (option_copied target.entry)) (trees.read_morph morph.now)) }
 {
     match meaning(alloc, setting.scope.faces, setting.here, morph) {

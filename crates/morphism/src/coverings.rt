@@ -6,7 +6,6 @@ ghost use Rattle.morphism.specs.Readings.{read_all_assigned, read_setting};
 ghost use Rattle.morphism.specs.Answers.{Links};
 ghost use Rattle.morphism.specs.CoverTables.{assigned_of, setting_of, AreCoverings};
 
-use crate::images::images;
 use crate::link_coverings::Coverings;
 use crate::shared_images::shared_images;
 use crate::{Assigned, LinkFault, Setting};
@@ -18,25 +17,11 @@ use std::alloc::Global;
 /// that has no covering, or `MorphismsDisagree` at the first word of the first covering assignment of a theory that gives other
 /// values than the covering with which it is compared, which is the identity where that covers, else the first assignment.
 ///
-/// A theory that the identity covers costs in proportion to its own constants. In coherent faces no constant comes twice, and a
-/// class holds only constants that stand before it; where that failed, the answer would be want of memory.
+/// The faces are coherent, and the domain is an accepted theory: so no constant comes twice, and a class holds only constants that
+/// have images already. A theory that the identity covers, and whose own part has the images of the identity, costs no more than a
+/// place in the map: the images are shared, as long as each theory before it shares its own too. Else it costs in proportion to its
+/// own constants.
 pub fn covering_map(
-    alloc: Global,
-    setting: &Setting<'_>,
-    assigned: &[Assigned<'_>],
-) -> Result<HeadMap, LinkFault>
-    ensures { Links read_map result (passes.covering_map (read_setting setting.now) (read_all_assigned assigned.now)) }
-{
-    let coverings = Coverings::new(alloc, setting, assigned)?;
-    let map = tested_images(alloc, &coverings);
-    drop(coverings);
-    map
-}
-
-/// The same over coherent faces, where the domain is an accepted theory. A theory that the identity covers, and whose own part has the
-/// images of the identity, costs no more than a place in the map: the images are shared, as long as each theory before it shares
-/// its own too.
-pub fn settled_covering_map(
     alloc: Global,
     setting: &Setting<'_>,
     assigned: &[Assigned<'_>],
@@ -45,22 +30,13 @@ pub fn settled_covering_map(
     ensures { Links read_map result (passes.covering_map (read_setting setting.now) (read_all_assigned assigned.now)) }
 {
     let coverings = Coverings::new(alloc, setting, assigned)?;
-    let map = tested_shared_images(alloc, &coverings);
+    let map = tested_images(alloc, &coverings);
     drop(coverings);
     map
 }
 
 /// The images, where the tests of coverings pass.
 fn tested_images(alloc: Global, coverings: &Coverings<'_>) -> Result<HeadMap, LinkFault>
-    requires { AreCoverings coverings.now }
-    ensures { Links read_map result (passes.covering_map (setting_of coverings.now.covers) (assigned_of coverings.now.covers)) }
-{
-    coverings.test_domain(alloc)?;
-    images(alloc, coverings)
-}
-
-/// The images, where the tests of coverings pass; shared where they can be.
-fn tested_shared_images(alloc: Global, coverings: &Coverings<'_>) -> Result<HeadMap, LinkFault>
     requires tables { AreCoverings coverings.now }
     requires settled { IsSettled (setting_of coverings.now.covers) }
     ensures { Links read_map result (passes.covering_map (setting_of coverings.now.covers) (assigned_of coverings.now.covers)) }

@@ -1,11 +1,13 @@
-//! The images of what the domain of a link includes.
-ghost use Rattle.std.specs.Prelude.{◌≡◌, ◌∷◌, ◌++◌, [], IfOk, OnOk, Ok};
-ghost use Rattle.std.specs.Option.{option_copied, option_map};
+//! The images of the own part of a theory which the domain of a link includes.
+ghost use Rattle.std.specs.Prelude.{◌≡◌, ◌∷◌, ◌++◌, [], IfOk, None, OnOk};
+ghost use Rattle.std.specs.Option.{option_map};
+ghost use Rattle.lf_meaning.specs.HeadMaps.{image_of};
 ghost use Rattle.translation_meaning.specs.Translation as translation;
-ghost use Rattle.library_meaning.specs.Faces as faces_meant;
+ghost use Rattle.translation_meaning.specs.Unmapped.{unmapped_class};
 ghost use Rattle.link_meaning.specs.Coverings as meant;
-ghost use Rattle.link_meaning.specs.CoveringMaps.{cover_all, included_part};
+ghost use Rattle.link_meaning.specs.CoveringMaps.{cover_all};
 ghost use Rattle.link_meaning.specs.Passes.{mapping_to};
+ghost use Rattle.mapping_laws.specs.NextImages.{StandsBefore};
 ghost use Rattle.term_trees.specs.Readings.{read_class, read_constant, read_declaration, read_map, read_signature, read_value};
 ghost use Rattle.morphism.specs.Answers.{Links};
 ghost use Rattle.morphism.specs.CoverTables.{assigned_of, setting_of, AreCoverings, IsChosen};
@@ -14,43 +16,11 @@ use crate::LinkFault;
 use crate::chosen::{Chosen, value_at};
 use crate::covering_refusals::not_covered;
 use crate::link_coverings::Coverings;
-use lf_terms::{Class, FlatDecl, FlatSig, HeadMap, Image, Memory, Name, QName, Value};
-use lf_translate::translate_class;
+use lf_terms::{Class, FlatDecl, FlatSig, HeadMap, Image, MapFault, Memory, QName, Value};
+use lf_translate::{TranslateFault, translate_class};
 use std::alloc::Global;
 
-/// The images of what the domain includes, in order.
-pub(crate) fn images(alloc: Global, coverings: &Coverings<'_>) -> Result<HeadMap, LinkFault>
-    requires { AreCoverings coverings.now }
-    ensures { Links read_map result (cover_all (setting_of coverings.now.covers) (assigned_of coverings.now.covers) [] (included_part (setting_of coverings.now.covers))) }
-{
-    let mut so_far = HeadMap::new(alloc);
-    let setting = &coverings.covers.setting;
-    if let Some(face) = setting.scope.faces.theory(setting.domain) {
-        add_all_own(alloc, coverings, &mut so_far, face.includes.as_slice())?;
-    }
-    Ok(so_far)
-}
-
-/// Adds the images of the own parts of theories, in order.
-fn add_all_own<'a>(
-    alloc: Global,
-    coverings: &'a Coverings<'_>,
-    so_far: &mut HeadMap,
-    theories: &'a [Name],
-) -> Result<(), LinkFault>
-    requires { AreCoverings coverings.now }
-    ensures { Links (λ _. read_map so_far.new) result (cover_all (setting_of coverings.now.covers) (assigned_of coverings.now.covers) (read_map so_far.old) (faces_meant.own_parts (setting_of coverings.now.covers).environment theories.now)) }
-{
-    for theory in theories {
-        let chosen = coverings.chosen(theory);
-        if let Some(own) = chosen.own {
-            add_own(alloc, coverings, so_far, chosen, own)?;
-        }
-    }
-    Ok(())
-}
-
-/// Adds the images of the own part of a theory.
+/// Adds the images of the own part of a theory, which come next.
 pub(crate) fn add_own(
     alloc: Global,
     coverings: &Coverings<'_>,
@@ -60,6 +30,7 @@ pub(crate) fn add_own(
 ) -> Result<(), LinkFault>
     requires tables { AreCoverings coverings.now }
     requires chosen { IsChosen (setting_of coverings.now.covers) (assigned_of coverings.now.covers) chosen }
+    requires before { StandsBefore (read_map so_far.old) (read_signature own.now) }
     ensures { Links (λ _. read_map so_far.new) result (cover_all (setting_of coverings.now.covers) (assigned_of coverings.now.covers) (read_map so_far.old) (read_signature own.now)) }
 {
     for i in 0..own.len() {
@@ -107,13 +78,15 @@ fn covered_value(
     }
 }
 
-/// Adds the image of a constant: its class, translated along the map so far, and this value.
+/// Adds the image of a constant, which comes next: its class, translated along the map so far, and this value.
 fn add_image(
     alloc: Global,
     so_far: &mut HeadMap,
     decl: &FlatDecl,
     value: Value,
 ) -> Result<(), Memory>
+    requires class { unmapped_class (read_map so_far.old) (read_class decl.now.class) ≡ None }
+    requires fresh { image_of (read_map so_far.old) (read_constant decl.now.name) ≡ None }
     ensures { OnOk result (read_map so_far.new ≡ read_map so_far.old ++ mapping_to (read_map so_far.old) (read_declaration decl.now) (read_value value) ∷ []) }
 {
     let Ok(class) = translated_class(alloc, so_far, &decl.class) else {
@@ -123,8 +96,9 @@ fn add_image(
     push_image(alloc, so_far, &decl.name, Image { class, value })
 }
 
-/// Adds an image under a copy of the name of its constant.
+/// Adds an image under a copy of the name of its constant, which has none yet.
 fn push_image(alloc: Global, so_far: &mut HeadMap, name: &QName, image: Image) -> Result<(), Memory>
+    requires { image_of (read_map so_far.old) (read_constant name.now) ≡ None }
     ensures { OnOk result (so_far.new ≡ so_far.old ++ (name.now, image) ∷ []) }
 {
     let Ok(name) = name.copy(alloc) else {
@@ -133,24 +107,23 @@ fn push_image(alloc: Global, so_far: &mut HeadMap, name: &QName, image: Image) -
     };
     match so_far.push(name, image) {
         Ok(()) => Ok(()),
-        Err(fault) => {
-            // No constant is twice in coherent faces, so this is want of memory.
-            drop(fault);
+        Err(MapFault::Memory(name, image)) => {
+            drop(name);
+            drop(image);
             Err(Memory)
         }
+        Err(MapFault::Twice(_, _)) => unreachable!(),
     }
 }
 
-/// A class, translated along the map so far.
+/// A class, translated along the map so far, which has images for its constants.
 fn translated_class(alloc: Global, so_far: &HeadMap, class: &Class) -> Result<Class, Memory>
+    requires { unmapped_class (read_map so_far.now) (read_class class.now) ≡ None }
     ensures { IfOk result (λ translated. read_class translated ≡ translation.translate_class (read_map so_far.now) (read_class class.now)) }
 {
     match translate_class(alloc, so_far, class) {
         Ok(class) => Ok(class),
-        // In coherent faces a class holds only constants that stand before it, which the map has; so this is want of memory.
-        Err(fault) => {
-            drop(fault);
-            Err(Memory)
-        }
+        Err(TranslateFault::Memory) => Err(Memory),
+        Err(TranslateFault::Unmapped(_)) => unreachable!(),
     }
 }

@@ -24,7 +24,7 @@ mod targets;
 
 pub use assigned::Assigned;
 pub use assignments::read_assigns;
-pub use coverings::{covering_map, settled_covering_map};
+pub use coverings::covering_map;
 pub use ends::{codomain_sees, is_or_includes};
 pub use fault::LinkFault;
 pub use morphism_words::{Link, MorphFault, includes, meaning, structures_link};

@@ -3,6 +3,7 @@ ghost use Rattle.std.specs.Prelude.{◌≡◌, [], List, IfErr, IfOk, IsSome};
 ghost use Rattle.std.specs.Result.{IsOk};
 ghost use Rattle.std.specs.Option.{option_copied, option_map};
 ghost use Rattle.lf_meaning.specs.HeadMaps.{HeadMap as MeantMap};
+ghost use Rattle.library_meaning.specs.Coherence.{IsCoherent};
 ghost use Rattle.library_meaning.specs.Faces.{theory_of};
 ghost use Rattle.link_meaning.specs.Assignments.{Assigned as MeantAssigned};
 ghost use Rattle.link_meaning.specs.Assignments as links;
@@ -10,6 +11,8 @@ ghost use Rattle.link_meaning.specs.AssignmentsRead.{AssignsRead};
 ghost use Rattle.link_meaning.specs.Coverings.{covered_tests};
 ghost use Rattle.link_meaning.specs.CoveringMaps as passes;
 ghost use Rattle.link_meaning.specs.CoveringMaps.{MeetsCoverings};
+ghost use Rattle.link_meaning.specs.LinkMaps.{IsSettled};
+ghost use Rattle.link_laws.specs.LinkTargets.{HereHolds};
 ghost use Rattle.term_trees.specs.Readings.{read_map};
 ghost use Rattle.mmt_syntax.specs.Readings as trees;
 ghost use Rattle.mmt_syntax.specs.Readings.{read_written};
@@ -82,7 +85,10 @@ fn cover_between<'a>(
     assigns: &'a Assigns,
     at: &'a Written,
 ) -> Result<HeadMap, LinkFault>
-    requires { no_constants.now ≡ [] }
+    requires coherent { IsCoherent (environment_of faces.now) }
+    requires here { HereHolds (environment_of faces.now) (option_map (λ face. read_theory face.now) here) }
+    requires domain { IsSome (theory_of (environment_of faces.now) domain.now) }
+    requires no_constants { no_constants.now ≡ [] }
     ensures { Links read_map result (first_passes (link_between (environment_of faces.now) (option_map (λ face. read_theory face.now) here.entry) domain.now codomain.now seen.now (read_written at.now)) (trees.read_assigns assigns.now)) }
 {
     let setting = Setting {
@@ -106,6 +112,8 @@ fn cover_link<'a>(
     setting: &Setting<'a>,
     assigns: &'a Assigns,
 ) -> Result<HeadMap, LinkFault>
+    requires settled { IsSettled (read_setting setting.now) }
+    requires here { HereHolds (read_setting setting.now).environment (read_setting setting.now).here }
     ensures { Links read_map result (first_passes (read_setting setting.now) (trees.read_assigns assigns.now)) }
 {
     let assigned = read_assigns(alloc, setting, assigns)?;

@@ -1,12 +1,13 @@
 //! The images of what the domain of a link includes, over coherent faces: a theory that the identity covers shares the images which
 //! its own part has of it.
-ghost use Rattle.std.specs.Prelude.{◌≡◌, ◌++◌, [], true, Ok};
+ghost use Rattle.std.specs.Prelude.{◌≡◌, ◌++◌, [], true, if◌then◌else◌, IfOk, Ok};
 ghost use Rattle.library_meaning.specs.Faces as faces_meant;
 ghost use Rattle.library_meaning.specs.Words.{identity_map};
 ghost use Rattle.link_meaning.specs.Assignments.{included_theories};
 ghost use Rattle.link_meaning.specs.Coverings.{is_identity_covering};
 ghost use Rattle.link_meaning.specs.CoveringMaps.{cover_all, included_part};
 ghost use Rattle.link_meaning.specs.LinkMaps.{IsSettled};
+ghost use Rattle.mapping_laws.specs.NextImages.{StandsBefore};
 ghost use Rattle.term_trees.specs.Readings.{read_map, read_signature};
 ghost use Rattle.morphism.specs.Answers.{Links};
 ghost use Rattle.morphism.specs.CoverTables.{assigned_of, setting_of, AreCoverings, IsChosen};
@@ -15,7 +16,7 @@ use crate::LinkFault;
 use crate::chosen::Chosen;
 use crate::images::add_own;
 use crate::link_coverings::Coverings;
-use lf_terms::{FlatSig, HeadMap, Name};
+use lf_terms::{FlatSig, HeadMap, Memory, Name};
 use std::alloc::Global;
 
 /// The images of what the domain includes, in order.
@@ -54,7 +55,8 @@ fn add_all_parts<'a>(
     Ok(())
 }
 
-/// Adds the images of the own part of a theory; those that the part has of the identity, where that covers the theory.
+/// Adds the images of the own part of a theory, which come next; those that the part has of the identity, where that covers the
+/// theory.
 fn add_part(
     alloc: Global,
     coverings: &Coverings<'_>,
@@ -64,13 +66,25 @@ fn add_part(
 ) -> Result<(), LinkFault>
     requires tables { AreCoverings coverings.now }
     requires chosen { IsChosen (setting_of coverings.now.covers) (assigned_of coverings.now.covers) chosen }
+    requires before { StandsBefore (read_map so_far.old) (read_signature own.now) }
     requires identity { is_identity_covering (setting_of coverings.now.covers) (assigned_of coverings.now.covers) chosen.theory.now ≡ true → cover_all (setting_of coverings.now.covers) (assigned_of coverings.now.covers) (read_map so_far.old) (read_signature own.now) ≡ Ok (read_map so_far.old ++ identity_map (read_signature own.now)) }
     ensures { Links (λ _. read_map so_far.new) result (cover_all (setting_of coverings.now.covers) (assigned_of coverings.now.covers) (read_map so_far.old) (read_signature own.now)) }
 {
     if coverings.is_identity(chosen.theory) {
-        if let Some(part) = own.identity() {
-            return Ok(so_far.push_part(alloc, part)?);
+        let shared = share_identity(alloc, so_far, own)?;
+        if shared {
+            return Ok(());
         }
     }
     add_own(alloc, coverings, so_far, chosen, own)
+}
+
+/// Shares the images that the own part of a theory has of the identity, and says so, where that can be done; else the map stays.
+fn share_identity(alloc: Global, so_far: &mut HeadMap, own: &FlatSig) -> Result<bool, Memory>
+    ensures { IfOk result (λ shared. read_map so_far.new ≡ (if shared then read_map so_far.old ++ identity_map (read_signature own.now) else read_map so_far.old)) }
+{
+    match own.identity() {
+        Some(part) => so_far.share_part(alloc, part),
+        None => Ok(false),
+    }
 }

@@ -2,6 +2,7 @@
 ghost use Rattle.std.specs.Prelude.{◌≡◌, ◌∷◌, [], IfOk, OnOk};
 ghost use Rattle.std.specs.Option.{is_some};
 ghost use Rattle.std.specs.Option.{option_map};
+ghost use Rattle.library_meaning.specs.Coherence.{IsCoherent};
 ghost use Rattle.library_meaning.specs.Faces.{own_part};
 ghost use Rattle.library_meaning.specs.Resolution.{own_at};
 ghost use Rattle.link_meaning.specs.Assignments as passes;
@@ -116,12 +117,13 @@ fn declares(own: &FlatSig, path: &Path) -> bool
 }
 
 /// The own link of a structure of the domain, or of a structure of the domain of such a one, and so on. None exactly where
-/// there is none.
+/// there is none. The faces are coherent.
 pub(crate) fn structure_at(
     alloc: Global,
     setting: &Setting<'_>,
     path: &Path,
 ) -> Result<Option<Link>, Memory>
+    requires { IsCoherent (read_setting setting.now).environment }
     ensures { IfOk result (λ link. option_map read_link link ≡ passes.structure_at (read_setting setting.now) path.now) }
 {
     let faces = setting.scope.faces;

@@ -3,3 +3,4 @@ pub mod ListsLeft
 mod Refusals
 pub mod RowsOfStructures
 mod RowsOfWords
+pub mod CoherentLinks

@@ -1,7 +1,8 @@
 //! Links whose parts are borrowed as long as they serve as they are, so that a word that is composed is not copied.
-ghost use Rattle.std.specs.Prelude.{◌≡◌, IfOk};
+ghost use Rattle.std.specs.Prelude.{◌≡◌, None, IfOk};
 ghost use Rattle.library_meaning.specs.Words.{followed_by};
 ghost use Rattle.translation_meaning.specs.Translation as meant;
+ghost use Rattle.translation_meaning.specs.Unmapped.{unmapped_map};
 ghost use Rattle.term_trees.specs.Readings.{read_map};
 ghost use Rattle.morphism_words.specs.LentLinks.{map_in, read_lent};
 ghost use Rattle.morphism_words.specs.Readings.{read_link};
@@ -48,12 +49,13 @@ impl<'a> LentMap<'a> {
 }
 
 impl<'a> LentLink<'a> {
-    /// The link, followed by another one.
+    /// The link, followed by another one, which has an image for each constant in this one's images.
     pub(crate) fn followed_by(
         &self,
         alloc: Global,
         next: &LentLink<'a>,
     ) -> Result<LentLink<'a>, Memory>
+        requires { unmapped_map (read_lent next.now).map (read_lent self.now).map ≡ None }
         ensures { IfOk result (λ link. read_lent link ≡ followed_by (read_lent self.now) (read_lent next.now)) }
     {
         let map = composed(alloc, self.map.get(), next.map.get())?;
@@ -84,18 +86,14 @@ impl<'a> LentLink<'a> {
     }
 }
 
-/// The first map, followed by the second.
+/// The first map, followed by the second, which has an image for each constant in the first one's images.
 fn composed(alloc: Global, first: &HeadMap, second: &HeadMap) -> Result<HeadMap, Memory>
+    requires { unmapped_map (read_map second.now) (read_map first.now) ≡ None }
     ensures { IfOk result (λ map. read_map map ≡ meant.compose (read_map first.now) (read_map second.now)) }
 {
     match compose(alloc, first, second) {
         Ok(map) => Ok(map),
-        // In coherent faces the second map has an image for each constant of the first one's
-        // images, so this is want of memory.
-        Err(TranslateFault::Unmapped(constant)) => {
-            drop(constant);
-            Err(Memory)
-        }
         Err(TranslateFault::Memory) => Err(Memory),
+        Err(TranslateFault::Unmapped(_)) => unreachable!(),
     }
 }

@@ -1,11 +1,13 @@
 //! The link of a row of words.
-ghost use Rattle.std.specs.Prelude.{◌≡◌};
+ghost use Rattle.std.specs.Prelude.{◌≡◌, IfOk};
 ghost use Rattle.std.specs.Option.{option_map};
 ghost use Rattle.name_meaning.specs.Names.{Path as PathOfNames};
+ghost use Rattle.library_meaning.specs.Coherence.{IsCoherent};
 ghost use Rattle.library_meaning.specs.Words as meant;
 ghost use Rattle.library_meaning.specs.Words.{row_meaning};
 ghost use Rattle.link_meaning.specs.Assignments.{or_word_fault, paths_of};
 ghost use Rattle.mmt_syntax.specs.Readings.{read_morph, read_words, read_written};
+ghost use Rattle.link_laws.specs.LinkTargets.{HereHolds, LinkHolds};
 ghost use Rattle.mmt_interface.specs.Readings.{environment_of, read_theory};
 ghost use Rattle.morphism_words.specs.Answers.{IsMeaning};
 ghost use Rattle.morphism_words.specs.LentLinks.{read_lent};
@@ -20,13 +22,16 @@ use mmt_syntax::{Morph, Written};
 use std::alloc::Global;
 
 /// The link that a row of words means, composed from left to right, or the first word that breaks a rule. `here` is the
-/// theory that is being built, whose structures so far are named by words that begin with its name.
+/// theory that is being built, whose structures so far are named by words that begin with its name. The faces are coherent; that
+/// theory is not among them, and its structures have coherent maps. So each link of the row has images for what those before it bring.
 pub fn meaning(
     alloc: Global,
     faces: &Faces,
     here: Option<&TheoryFace>,
     morph: &Morph,
 ) -> Result<Link, MorphFault>
+    requires coherent { IsCoherent (environment_of faces.now) }
+    requires here { HereHolds (environment_of faces.now) (option_map (λ face. read_theory face.now) here) }
     ensures { (label : PathOfNames) → IsMeaning result label (or_word_fault (read_morph morph.now) label (row_meaning (environment_of faces.now) (option_map (λ face. read_theory face.now) here.entry) (paths_of (read_morph morph.now)))) }
 {
     match morph.words.as_slice() {
@@ -47,6 +52,9 @@ fn row_link<'a>(
     so_far: LentLink<'a>,
     words: &'a [Written],
 ) -> Result<LentLink<'a>, MorphFault>
+    requires coherent { IsCoherent (environment_of faces.now) }
+    requires here { HereHolds (environment_of faces.now) (option_map (λ face. read_theory face.now) here) }
+    requires so_far { LinkHolds (environment_of faces.now) (option_map (λ face. read_theory face.now) here) (read_lent so_far) }
     ensures { (label : PathOfNames) → Answers read_lent result label (row_answer (environment_of faces.now) (option_map (λ face. read_theory face.now) here.entry) label (read_lent so_far.entry) (read_words words.now)) }
 {
     let mut link = so_far;
@@ -64,7 +72,11 @@ fn next_link<'a>(
     so_far: &LentLink<'a>,
     word: &'a Written,
 ) -> Result<LentLink<'a>, MorphFault>
-    ensures { (label : PathOfNames) → Answers read_lent result label (next_answer (environment_of faces.now) (option_map (λ face. read_theory face.now) here.entry) label (read_lent so_far.now) (read_written word.now)) }
+    requires coherent { IsCoherent (environment_of faces.now) }
+    requires here { HereHolds (environment_of faces.now) (option_map (λ face. read_theory face.now) here) }
+    requires so_far { LinkHolds (environment_of faces.now) (option_map (λ face. read_theory face.now) here) (read_lent so_far.now) }
+    ensures holds { IfOk result (λ link. LinkHolds (environment_of faces.now) (option_map (λ face. read_theory face.now) here.entry) (read_lent link)) }
+    ensures answer { (label : PathOfNames) → Answers read_lent result label (next_answer (environment_of faces.now) (option_map (λ face. read_theory face.now) here.entry) label (read_lent so_far.now) (read_written word.now)) }
 {
     let next = word_link(alloc, faces, here, word)?;
     if !meets(faces, so_far, &next) {

@@ -2,8 +2,10 @@
 ghost use Rattle.std.specs.Prelude.{◌≡◌, IfOk};
 ghost use Rattle.std.specs.Option.{option_map};
 ghost use Rattle.library_meaning.specs.Faces.{structure_of};
+ghost use Rattle.library_meaning.specs.Coherence.{IsCoherent};
 ghost use Rattle.library_meaning.specs.Words as meant;
 ghost use Rattle.mmt_interface.specs.Readings.{environment_of, read_structure, read_structures};
+ghost use Rattle.morphism_words.specs.CoherentLinks.{AreStructures};
 ghost use Rattle.morphism_words.specs.LentLinks.{read_lent};
 ghost use Rattle.morphism_words.specs.Readings.{read_link};
 
@@ -15,7 +17,8 @@ use std::alloc::Global;
 
 /// The link of a row of structures, from the outermost one on, in the theory of this name with these structures: of one
 /// structure its own, of further ones that of the rest in its domain, followed by its own. None exactly where a structure is
-/// not there; of the empty row none. It recurses as deep as the row is long.
+/// not there; of the empty row none. The faces are coherent, and these structures have coherent maps into one signature. It recurses
+/// as deep as the row is long.
 pub fn structures_link(
     alloc: Global,
     faces: &Faces,
@@ -23,6 +26,8 @@ pub fn structures_link(
     structs: &Structs,
     path: &[Name],
 ) -> Result<Option<Link>, Memory>
+    requires coherent { IsCoherent (environment_of faces.now) }
+    requires structures { AreStructures (environment_of faces.now) (read_structures structs.now) }
     ensures { IfOk result (λ link. option_map read_link link ≡ meant.structures_link (environment_of faces.now) theory.now (read_structures structs.now) path.now) }
 {
     match lent_structures_link(alloc, faces, theory, structs, path)? {
@@ -39,6 +44,8 @@ pub(crate) fn lent_structures_link<'a>(
     structs: &'a Structs,
     path: &[Name],
 ) -> Result<Option<LentLink<'a>>, Memory>
+    requires coherent { IsCoherent (environment_of faces.now) }
+    requires structures { AreStructures (environment_of faces.now) (read_structures structs.now) }
     ensures { IfOk result (λ link. option_map read_lent link ≡ meant.structures_link (environment_of faces.now) theory.now (read_structures structs.now) path.now) }
 {
     let [name, rest @ ..] = path else {

@@ -2,10 +2,13 @@
 ghost use Rattle.std.specs.Prelude.{◌≡◌};
 ghost use Rattle.std.specs.Option.{option_map};
 ghost use Rattle.name_meaning.specs.Names.{Path as PathOfNames};
+ghost use Rattle.library_meaning.specs.Coherence.{IsCoherent};
 ghost use Rattle.library_meaning.specs.Words as meant;
 ghost use Rattle.library_meaning.specs.Words.{longer_word, or_unknown, simple_word};
 ghost use Rattle.mmt_syntax.specs.Readings.{read_span};
+ghost use Rattle.link_laws.specs.LinkTargets.{HereHolds};
 ghost use Rattle.mmt_interface.specs.Readings.{environment_of, read_structures, read_theory, read_view};
+ghost use Rattle.morphism_words.specs.CoherentLinks.{AreStructures};
 ghost use Rattle.morphism_words.specs.LentLinks.{read_lent};
 ghost use Rattle.morphism_words.specs.Steps.{Answers, known_answer, known_interface, longer_answer, word_answer};
 
@@ -24,6 +27,8 @@ pub(crate) fn word_link<'a>(
     here: Option<&'a TheoryFace>,
     word: &'a Written,
 ) -> Result<LentLink<'a>, MorphFault>
+    requires coherent { IsCoherent (environment_of faces.now) }
+    requires here { HereHolds (environment_of faces.now) (option_map (λ face. read_theory face.now) here) }
     ensures { (label : PathOfNames) → Answers read_lent result label (word_answer (read_span word.now.span) label (meant.word_meaning (environment_of faces.now) (option_map (λ face. read_theory face.now) here.entry) word.now.path)) }
 {
     match word.path.as_slice() {
@@ -58,6 +63,8 @@ fn longer_word<'a>(
     name: &'a Name,
     path: &[Name],
 ) -> Result<LentLink<'a>, MorphFault>
+    requires coherent { IsCoherent (environment_of faces.now) }
+    requires here { HereHolds (environment_of faces.now) (option_map (λ face. read_theory face.now) here) }
     ensures { (label : PathOfNames) → Answers read_lent result label (word_answer (read_span span) label (longer_answer (environment_of faces.now) (option_map (λ face. read_theory face.now) here.entry) name.now path.now)) }
 {
     match here {
@@ -76,6 +83,7 @@ fn theory_word<'a>(
     name: &'a Name,
     path: &[Name],
 ) -> Result<LentLink<'a>, MorphFault>
+    requires { IsCoherent (environment_of faces.now) }
     ensures { (label : PathOfNames) → Answers read_lent result label (word_answer (read_span span) label (longer_word (environment_of faces.now) name.now (environment_of faces.now name.now) path.now)) }
 {
     match accepted(faces, span, name)? {
@@ -98,6 +106,8 @@ fn structures_word<'a>(
     structs: &'a Structs,
     path: &[Name],
 ) -> Result<LentLink<'a>, MorphFault>
+    requires coherent { IsCoherent (environment_of faces.now) }
+    requires structures { AreStructures (environment_of faces.now) (read_structures structs.now) }
     ensures { (label : PathOfNames) → Answers read_lent result label (word_answer (read_span span) label (or_unknown (meant.structures_link (environment_of faces.now) name.now (read_structures structs.now) path.now))) }
 {
     match lent_structures_link(alloc, faces, name, structs, path)? {

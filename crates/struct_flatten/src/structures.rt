@@ -57,6 +57,7 @@ fn map_of(
     decl: &StructDecl,
 ) -> Result<HeadMap, LinkFault>
     requires coherent { AreCoherent faces.now }
+    requires here { IsCoherentHere faces.now here.now }
     requires domain { IsSome (theory_of (environment_of faces.now) (first_name decl.now.domain.path)) }
     ensures { Links read_map result (passes.link_map (setting_of (environment_of faces.now) (read_theory here.now) decl.now) (read_assigns decl.now.assigns)) }
 {

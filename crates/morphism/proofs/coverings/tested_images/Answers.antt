@@ -19,4 +19,4 @@ pub returns : goal.returns
 returns c =
     let setting = setting_of c.args.coverings.now.covers in
     let assigned = assigned_of c.args.coverings.now.covers in
-    links_same read_map c.images.result (cover_all setting assigned [] (included_part setting)) _ (tests_passed setting assigned tt c.in_ok-test_domain.ensures) c.images.ensures
+    links_same read_map c.shared_images.result (cover_all setting assigned [] (included_part setting)) _ (tests_passed setting assigned tt c.in_ok-test_domain.ensures) c.shared_images.ensures

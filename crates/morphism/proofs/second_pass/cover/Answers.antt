@@ -6,6 +6,7 @@ use Rattle.link_meaning.specs.Assignments as links
 use Rattle.term_trees.specs.Readings.{read_map}
 use Rattle.mmt_syntax.specs.Readings.{read_assigns, read_written}
 use Rattle.mmt_interface.specs.Readings.{environment_of, read_theory}
+use Rattle.morphism_words.proofs.CoherentLinks.{here_holds}
 use Rattle.morphism.specs.CoverCalls.{link_between}
 use Rattle.morphism.proofs.CoverAnswers.{answered, gives_coverings, refused_by_tests, refuses_nothing, breaks_covering_rules}
 use Rattle.morphism.proofs.second_pass.cover.Goals as goal
@@ -43,3 +44,6 @@ returns-clause-rules c =
     let assigns = read_assigns c.args.assigns.now in
     let settled : IsSettled setting = record { coherent = c.requires.coherent.known; theory = c.requires.domain } in
     breaks_covering_rules read_map setting assigns settled c.cover_between.result (links.read_assigns setting [] assigns) c.requires.assigns c.cover_between.ensures
+
+pub cover_between-requires-clause-here : goal.cover_between-requires-clause-here
+cover_between-requires-clause-here c = here_holds c.args.faces.now c.args.here c.requires.here

@@ -9,11 +9,13 @@ use Rattle.library_meaning.specs.Faces.{own_part, own_parts}
 use Rattle.library_meaning.specs.Words.{identity_map}
 use Rattle.link_meaning.specs.Coverings.{is_identity_covering}
 use Rattle.link_meaning.specs.CoveringMaps.{cover_all}
+use Rattle.mapping_laws.specs.NextImages.{StandsBefore}
 use Rattle.row_typing.proofs.SharedParts.{Keeps, keeps_none, keeps_more, shared_part}
 use Rattle.term_trees.specs.Readings.{read_map, read_signature}
 use Rattle.morphism.specs.CoverTables.{assigned_of, read_own, setting_of}
 use Rattle.morphism.proofs.Refusing.{refuses_first}
 use Rattle.morphism.proofs.AllCovered.{next_item, covers_both, covers_none, part_covered}
+use Rattle.morphism.proofs.NextImages.{part_next}
 use Rattle.morphism.proofs.shared_images.add_all_parts.Goals as goal
 use Rattle.morphism.proofs.shared_images.add_all_parts.Goals.{in-Some+in_ok-add_part, in_default}
 
@@ -48,6 +50,19 @@ add_part-requires-clause-identity c = λ e.
     let covered : is_identity_covering setting assigned theory ≡ true = sym (ap (is_identity_covering setting assigned) c.chosen-chosen.ensures.theory) ∙ e in
     subst (λ (z : Signature). cover_all setting assigned so_far z ≡ Ok (so_far ++ identity_map z)) (sym part)
     (shared_part setting assigned c.requires.settled (take i theories) (drop (i + 1) theories) theory here so_far c.loop-theory.invariant.kept covered)
+
+pub add_part-requires-clause-before : goal.add_part-requires-clause-before
+add_part-requires-clause-before c =
+    let setting = setting_of c.args.coverings.now.covers in
+    let theories = c.args.theories.now in
+    let so_far = read_map c.loop-theory.so_far in
+    let i = c.loop-theory.theory-index in
+    let theory = c.theory-item.result in
+    let own = read_signature c.in-Some.own.now in
+    let here = sym c.requires.theories ∙ around theories i theory c.loop-theory-test.true c.theory-item.is in
+    let part : own ≡ own_part setting.environment theory =
+    sym (ap (λ o. read_own (option_copied o)) c.in-Some.is) ∙ c.chosen-chosen.ensures.chosen.own_is ∙ ap (own_part setting.environment) c.chosen-chosen.ensures.theory in
+    subst (StandsBefore so_far) (sym part) (part_next setting c.requires.settled (take i theories) (drop (i + 1) theories) theory so_far here c.loop-theory.invariant.kept.names)
 
 pub returns-in_err-add_part : goal.returns-in_err-add_part
 returns-in_err-add_part c =

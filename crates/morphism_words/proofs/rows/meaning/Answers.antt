@@ -1,4 +1,4 @@
-use Rattle.std.proofs.Common.{◌≡◌, ◌-◌, ◌≤◌, List, take, drop, length, get_or, Option, Ok, sym, ap, ◌∙◌}
+use Rattle.std.proofs.Common.{◌≡◌, ◌-◌, ◌≤◌, [], List, take, drop, length, get_or, Option, Ok, sym, ap, ◌∙◌}
 use Rattle.std.specs.Option.{option_map}
 use Rattle.std.proofs.lemmas.Result.{err_from_is_err_and}
 use Rattle.name_meaning.specs.Names.{Path}
@@ -10,6 +10,8 @@ use Rattle.mmt_syntax.specs.Readings.{read_span, read_words, read_written}
 use Rattle.mmt_syntax.specs.declared.written.Written.{Written}
 use Rattle.mmt_interface.specs.Readings.{environment_of, read_theory}
 use Rattle.morphism_words.specs.Steps.{row_answer, word_answer}
+use Rattle.morphism_words.specs.LentLinks.{read_lent}
+use Rattle.morphism_words.proofs.CoherentLinks.{meant_holds}
 use Rattle.morphism_words.proofs.ListsLeft.{first_and_rest}
 use Rattle.list_laws.proofs.Answers.{goes_on}
 use Rattle.morphism_words.proofs.Refusals.{first_fault, refuses_first, refuses_same}
@@ -41,3 +43,9 @@ pub returns : goal.returns
 returns c = λ label.
     let row = begun (environment_of c.args.faces.now) (option_map (λ face. read_theory face.now) c.args.here) label c.as_slice.result.now c.args.morph.now.words c.first-item.result c.as_slice.ensures c.in-len1-up.len_at_least c.first-item.is in
     goes_on _ _ _ _ row (c.in_ok-first-in-len1-up.ensures label) ∙ c.in_ok-link-in-len1-up.ensures label ∙ ap Ok (sym c.in_ok-into_link-in-len1-up.ensures)
+
+pub row_link-requires-clause-so_far : goal.row_link-requires-clause-so_far
+row_link-requires-clause-so_far c =
+    let word = read_written c.first-item.result in
+    (meant_holds (environment_of c.args.faces.now) (option_map (λ face. read_theory face.now) c.args.here) c.requires.coherent c.requires.here word.path word.span [] (read_lent c.in_ok-first-in-len1-up.first)
+    (c.in_ok-first-in-len1-up.ensures [])).1

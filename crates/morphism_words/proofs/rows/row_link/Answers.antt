@@ -21,20 +21,23 @@ next : (environment : Environment) (here : Option TheoryFace) (label : Path) (li
 next environment here label link words i word within at = ap (λ ws. row_answer environment here label link (read_words ws)) (left words i word within at)
 
 pub loop-word-init : goal.loop-word-init
-loop-word-init c = λ label. refl
+loop-word-init c = record { holds = c.requires.so_far; left = λ label. refl }
 
 pub returns-in_err-link : goal.returns-in_err-link
 returns-in_err-link c = λ label.
     let p = err_from_is_err_and c.from_residual.result c.from_residual.ensures.1 in
     let more = next (environment_of c.args.faces.now) (option_map (λ face. read_theory face.now) c.args.here) label (read_lent c.loop-word.link) c.args.words.now c.loop-word.word-index c.word-item.result c.loop-word-test.true c.word-item.is in
-    rw (p.1, p.2) (refuses_first c.in_err-link.field-0.0 label _ _ _ (c.loop-word.invariant label ∙ more) (c.in_err-link.ensures label))
+    rw (p.1, p.2) (refuses_first c.in_err-link.field-0.0 label _ _ _ (c.loop-word.invariant.left label ∙ more) (c.in_err-link.ensures.answer label))
 
 pub loop-word-preserved : goal.loop-word-preserved
-loop-word-preserved c = λ label.
-    let more = next (environment_of c.args.faces.now) (option_map (λ face. read_theory face.now) c.args.here) label (read_lent c.loop-word.link) c.args.words.now c.loop-word.word-index c.word-item.result c.loop-word-test.true c.word-item.is in
-    goes_on _ _ _ _ (c.loop-word.invariant label ∙ more) (c.in_ok-link.ensures label)
+loop-word-preserved c = record {
+  holds = c.in_ok-link.ensures.holds;
+  left = λ label.
+      let more = next (environment_of c.args.faces.now) (option_map (λ face. read_theory face.now) c.args.here) label (read_lent c.loop-word.link) c.args.words.now c.loop-word.word-index c.word-item.result c.loop-word-test.true c.word-item.is in
+      goes_on _ _ _ _ (c.loop-word.invariant.left label ∙ more) (c.in_ok-link.ensures.answer label);
+}
 
 pub returns : goal.returns
 returns c = λ label.
-    c.loop-word.invariant label
+    c.loop-word.invariant.left label
     ∙ ap (λ ws. row_answer (environment_of c.args.faces.now) (option_map (λ face. read_theory face.now) c.args.here) label (read_lent c.loop-word.link) (read_words ws)) (drop_all c.loop-word.word-index c.args.words.now c.loop-word-test.false)

@@ -1,8 +1,12 @@
-use Rattle.std.proofs.Common.{true, false, drop, Some, None, sym, ap, ◌∙◌, arith}
+use Rattle.std.proofs.Common.{rules, ◌-◌, true, false, length, take, drop, Option, Some, None, sym, ap, ◌∙◌, arith}
 use Rattle.std.specs.Option.{option_map}
-use Rattle.library_meaning.specs.Words.{behind_structure, followed_by, structure_link, structures_link}
+use Rattle.library_meaning.specs.Faces.{TheoryFace}
+use Rattle.library_meaning.specs.Words.{Link, behind_structure, followed_by, structure_link, structures_link, structures_of}
+use Rattle.translation_meaning.specs.Unmapped.{unmapped_map}
+use Rattle.mapping_laws.proofs.Followed.{structures_are_followed}
 use Rattle.mmt_interface.specs.Readings.{environment_of, read_structure, read_structures, read_theory}
 use Rattle.morphism_words.specs.LentLinks.{read_lent}
+use Rattle.morphism_words.proofs.CoherentLinks.{structures_of_theory}
 use Rattle.morphism_words.proofs.ListsLeft.{behind_first}
 use Rattle.morphism_words.proofs.RowsOfStructures.{absent, alone, empty_row, further, no_structures, rest_empty}
 use Rattle.morphism_words.proofs.structures.+lent_structures_link.Goals as goal
@@ -55,3 +59,24 @@ returns-in-None t c =
     sym (further environment c.args.theory.now (read_structures c.args.structs.now) path c.name-item.result c.in-len1-up.len_at_least c.name-item.is
     structure (Some face) c.in-Some.ensures (rest_empty path false (sym c.if-is_empty.false ∙ c.is_empty.ensures)) c.in-Some-theory.ensures.meaning
     ∙ ap (λ o. behind_structure o outer) (sym behind))
+
+pub lent_structures_link-requires : goal.lent_structures_link-requires
+lent_structures_link-requires t c = (
+  search rules,
+  (
+    c.requires.coherent,
+    structures_of_theory (environment_of c.args.faces.now) c.requires.coherent c.in-Some.structure.now.domain (read_theory c.in-Some-theory.face.now) c.in-Some-theory.ensures.meaning,
+  ),
+)
+
+pub followed_by-requires : goal.followed_by-requires
+followed_by-requires t c =
+    let environment = environment_of c.args.faces.now in
+    let path = c.args.path.now in
+    let rest = take (length path - 1) (drop 1 path) in
+    let structure = read_structure c.in-Some.structure.now in
+    let inner = read_lent c.in-Some-2.inner in
+    let behind = sym c.in_ok-inner.ensures ∙ ap (option_map read_lent) c.in-Some-2.is in
+    ap (λ (link : Link). unmapped_map link.map inner.map) c.structure_link-outer.ensures
+    ∙ structures_are_followed environment (read_structures c.args.structs.now) c.requires.structures.0 c.name-item.result structure rest inner c.requires.coherent c.requires.structures.1 (sym c.in-Some.ensures)
+    (ap (λ (o : Option TheoryFace). structures_link environment structure.domain (structures_of o) rest) (sym c.in-Some-theory.ensures.meaning) ∙ behind)

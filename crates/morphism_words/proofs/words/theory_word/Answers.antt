@@ -1,10 +1,11 @@
-use Rattle.std.proofs.Common.{inl, inr, refl, sym, ap, ◌∙◌}
+use Rattle.std.proofs.Common.{[], Ok, inl, inr, refl, sym, ap, ◌∙◌}
 use Rattle.std.proofs.lemmas.Result.{err_from_is_err_and}
 use Rattle.library_meaning.specs.Words.{longer_word}
 use Rattle.mmt_syntax.specs.Readings.{read_span}
-use Rattle.mmt_interface.specs.Readings.{environment_of}
+use Rattle.mmt_interface.specs.Readings.{environment_of, read_theory}
 use Rattle.morphism_words.specs.LentLinks.{read_lent}
 use Rattle.morphism_words.specs.Steps.{known_interface, word_answer}
+use Rattle.morphism_words.proofs.CoherentLinks.{structures_of_accepted}
 use Rattle.morphism_words.proofs.KnownWords.{longer_known}
 use Rattle.list_laws.proofs.Answers.{goes_on}
 use Rattle.morphism_words.proofs.Refusals.{answers_same, refuses_first}
@@ -35,3 +36,8 @@ returns-in-View c = λ label.
       goes_on _ _ _ _ (longer_known span label environment name c.args.path.now (environment name)) (c.in_ok-face.ensures label)
           ∙ ap (λ v. word_answer span label (longer_word environment name (known_interface v) c.args.path.now)) c.in-View.is,
     )
+
+pub structures_word-requires-clause-structures : goal.structures_word-requires-clause-structures
+structures_word-requires-clause-structures c =
+    structures_of_accepted (environment_of c.args.faces.now) c.requires (read_span c.args.span) [] c.args.name.now (read_theory c.in-Theory.face)
+    (c.in_ok-face.ensures [] ∙ ap (λ v. Ok (known_interface v)) c.in-Theory.is)
