@@ -1,20 +1,20 @@
 -- The faces that the answers of a reach give, with the verdict on the module itself behind them.
-use Rattle.std.proofs.Common.{◌≡◌, Bool, true, false, cond, not, [], ◌∷◌, ◌++◌, length, Option, Some, refl, sym, ap, ◌∙◌, subst, true≢false}
+use Rattle.std.proofs.Common.{◌≡◌, Bool, true, false, cond, not, ◌&&◌, ◌||◌, [], ◌∷◌, ◌++◌, Option, Some, is_some, refl, sym, ap, ◌∙◌, true≢false}
 use Rattle.std.specs.Prelude.{option_map}
+use Rattle.std.proofs.Math.Bool.{or-false, or-true}
+use Rattle.std.proofs.lemmas.Bool.{and_parts}
 use Rattle.name_meaning.specs.Names.{Name, Text, same_name, is_among}
-use Rattle.name_meaning.specs.Rows.{Rows, row_of}
+use Rattle.name_meaning.specs.Rows.{Rows, row_names, row_of}
 use Rattle.name_laws.proofs.Order.{same_sound, same_itself, among_member, member_among}
+use Rattle.name_laws.proofs.Rows.{row_among}
 use Rattle.name_laws.proofs.RowLookups.{row_mapped, row_pushed}
 use Rattle.list_laws.proofs.Members.{in_filter, filter_in}
-use Rattle.log_meaning.specs.Log.{Library}
+use Rattle.log_meaning.specs.Log.{Library, is_present}
 use Rattle.walk_meaning.specs.Reach.{reach}
 use Rattle.library_meaning.specs.Faces as faces
-use Rattle.library_meaning.specs.Faces.{flat_signature}
-use Rattle.library_meaning.specs.Coherence.{IsCoherent}
 use Rattle.text_meaning.specs.Dependencies.{dependencies}
 use Rattle.coherence_laws.proofs.LibrariesHold.{known_in}
-use Rattle.coherence_laws.proofs.SizesHold.{closed_have_sizes}
-use Rattle.reach_printing_laws.proofs.Below.ReachFaces.{reach_is_closed, reach_coherent, itself_reached}
+use Rattle.reach_printing_laws.proofs.Below.ReachFaces.{reach_is_closed, itself_reached}
 use Rattle.verdict_meaning.specs.Verdicts as verdicts
 use Rattle.verdict_meaning.specs.Verdicts.{known_by}
 use Rattle.verdict_meaning.specs.Rounds.{known_if, known_of, modules, others_reached, verdict_of}
@@ -25,7 +25,9 @@ use Rattle.mmt_interface.specs.Readings.{read_verdict, read_faces, environment_o
 use Rattle.mmt_interface.specs.declared.verdict.Verdict.{Verdict}
 use Rattle.mmt_interface.proofs.Known.{known_with}
 use Rattle.module_check.specs.PresentRows.{present_rows}
-use Rattle.module_check.proofs.AnsweredFaces.{known, itself_absent, answered_verdict}
+use Rattle.module_check.specs.OneLibrary.{HoldReaches}
+use Rattle.module_check.proofs.AnsweredFaces.{known, itself_absent, answered_verdict, names_there}
+use Rattle.module_check.proofs.OneLibrary.{coherent_together}
 use Rattle.board_front.specs.Faces.{AreFacesOf}
 
 module _ (library : Library) (name : Name) (text : Text) (rows : Rows (Option Verdict)) (given : IsGiven modules name text (read_answers read_verdict rows) library) (verdict : Verdict) (own : verdict_of library name ≡ Some (read_verdict verdict)) where
@@ -87,14 +89,43 @@ module _ (library : Library) (name : Name) (text : Text) (rows : Rows (Option Ve
           let q = answered_verdict library name text rows given n found (row_mapped read_verdict (present_rows rows) n ∙ g) in
           (sym (others_among n e) ∙ q.0, q.1)
 
-  coherent : AreCoherent all
-  coherent =
+  names_of_all : (n : Name) → is_among (row_names all) n ≡ (is_among (row_names (present_rows rows)) n || same_name n name)
+  names_of_all n =
+      sym (row_among all n) ∙ ap is_some (row_pushed (present_rows rows) name verdict n (itself_absent library name text rows given))
+      ∙ by (same_name n name) (row_of (present_rows rows) n) (row_among (present_rows rows) n)
+    where
+      by : (b : Bool) (o : Option Verdict) → is_some o ≡ is_among (row_names (present_rows rows)) n → is_some (cond b (Some verdict) o) ≡ (is_among (row_names (present_rows rows)) n || b)
+      by true o h = sym (or-true (is_among (row_names (present_rows rows)) n))
+      by false o h = h ∙ sym (or-false (is_among (row_names (present_rows rows)) n))
+
+  reached_there : (n : Name) → is_among (row_names all) n ≡ true → is_among (reach dependencies library name) n ≡ true
+  reached_there n h = by (same_name n name) refl (sym (names_of_all n) ∙ h)
+    where
+      by : (b : Bool) → same_name n name ≡ b → (is_among (row_names (present_rows rows)) n || b) ≡ true → is_among (reach dependencies library name) n ≡ true
+      by true e g = ap (is_among (reach dependencies library name)) (same_sound n name e) ∙ itself_reached library name
+      by false e g =
+          sym (others_among n e)
+          ∙ (and_parts (is_among (others_reached library name) n) (is_present library n) (sym (names_there library name text rows given n) ∙ sym (or-false (is_among (row_names (present_rows rows)) n)) ∙ g)).0
+
+  there_reached : (n : Name) → is_among (reach dependencies library name) n ≡ true → is_present library n ≡ true → is_among (row_names all) n ≡ true
+  there_reached n r present = names_of_all n ∙ by (same_name n name) refl
+    where
+      by : (b : Bool) → same_name n name ≡ b → (is_among (row_names (present_rows rows)) n || b) ≡ true
+      by true e = or-true (is_among (row_names (present_rows rows)) n)
+      by false e =
+          or-false (is_among (row_names (present_rows rows)) n) ∙ names_there library name text rows given n
+          ∙ ap (λ b. b && is_present library n) (others_among n e ∙ r) ∙ present
+
+  -- They are of one library, with whole reaches.
+  together : HoldReaches library all
+  together =
       record {
-        known = subst IsCoherent (sym told) (reach_coherent library name);
-        sizes = λ n face size h.
-            (let q = verdict_at n (verdicts.Accepted (verdicts.Theory face size)) h in
-            closed_have_sizes library (reach dependencies library name) n face size (reach_is_closed library name) q.0 q.1 ∙ ap (λ (z : faces.Environment). length (flat_signature z face)) (sym told));
+        verdicts = λ n found h. (verdict_at n found h).1;
+        reach = λ n m p q present. there_reached m (reach_is_closed library name n m (reached_there n p) q present) present;
       }
+
+  coherent : AreCoherent all
+  coherent = coherent_together all library together
 
   pub faces_of_reach : AreFacesOf library name verdict all
   faces_of_reach = record { coherent = coherent; told = told; own = own_row }

@@ -120,18 +120,20 @@ module _ (library : Library) where
   pub known_here : (name y : Name) (b : Bool) → is_among (others_reached library name) y ≡ b → known_to library name y ≡ cond b (known_if (verdict_under (verdicts library) y)) IsAbsent
   known_here name y b e = ap (λ z. cond z (known_if (verdict_under (verdicts library) y)) IsAbsent) e
 
+  -- what the others reach is among the others
+  pub reached_again : (n : ℕ) (name x y : Name) → Short dependencies library n name → is_among (others_reached library name) x ≡ true → is_among (others_reached library x) y ≡ true
+      → is_among (others_reached library name) y ≡ true
+  reached_again n name x y s p q =
+      let r = in_others library name x p in
+      let t = in_others library x y q in
+      in_reach name y (reach_within_reach dependencies library name x r.0 y t.0)
+      (⊎_elim (λ e. absurd (no_return n name x s p (subst (λ z. is_among (others_reached library x) z ≡ true) (sym (same_sound name y e)) q))) (λ e. e) (cases_Bool (same_name name y)))
+
   pub extends_to : (n : ℕ) (name x : Name) → Short dependencies library n name → is_among (others_reached library name) x ≡ true → Extends (known_to library x) (known_to library name)
   extends_to n name x s p y = by (is_among (others_reached library x) y) refl
     where
-      reached : is_among (others_reached library x) y ≡ true → is_among (others_reached library name) y ≡ true
-      reached q =
-          let r = in_others library name x p in
-          let t = in_others library x y q in
-          in_reach name y (reach_within_reach dependencies library name x r.0 y t.0)
-          (⊎_elim (λ e. absurd (no_return n name x s p (subst (λ z. is_among (others_reached library x) z ≡ true) (sym (same_sound name y e)) q))) (λ e. e) (cases_Bool (same_name name y)))
-
       by : (b : Bool) → is_among (others_reached library x) y ≡ b → (known_to library x y ≡ IsAbsent) ⊎ (known_to library name y ≡ known_to library x y)
-      by true e = inr (known_here name y true (reached e) ∙ sym (known_here x y true e))
+      by true e = inr (known_here name y true (reached_again n name x y s p e) ∙ sym (known_here x y true e))
       by false e = inl (known_here x y false e)
 
   -- a name does not reach itself among others

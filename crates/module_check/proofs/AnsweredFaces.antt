@@ -1,12 +1,12 @@
 -- The faces that the answers of a reach give are all that the module knows, and coherent.
-use Rattle.std.proofs.Common.{◌≡◌, ℕ, zero, suc, inl, inr, Result, Err, true≢false, Bool, true, false, cond, not, ◌||◌, List, [], ◌∷◌, ◌++◌, map, length, Option, Some, None, is_some, refl, sym, ap, ◌∙◌, subst}
+use Rattle.std.proofs.Common.{◌≡◌, ℕ, zero, suc, inl, inr, Result, Err, true≢false, Bool, true, false, cond, not, ◌&&◌, ◌||◌, List, [], ◌∷◌, ◌++◌, map, length, Option, Some, None, is_some, refl, sym, ap, ◌∙◌, subst}
 use Rattle.std.specs.Prelude.{◌↔◌, IfErr, IsErrOf, IsSome, option_map, ⊤}
-use Rattle.std.proofs.lemmas.Bool.{false_from_ne_true}
+use Rattle.std.proofs.lemmas.Bool.{and_parts, false_from_ne_true}
 use Rattle.std.proofs.Common.{append-nil, append_assoc, slice_get, take, ◌+◌, ◌<◌, add-one, arith, ⊎_elim}
 use Rattle.std.proofs.lemmas.Option.{slice_get_cases, slice_get-map}
 use Rattle.list_laws.proofs.Places.{take_more}
 use Rattle.list_laws.proofs.Members.{Member, in_filter}
-use Rattle.list_laws.proofs.Options.{mapped_none}
+use Rattle.list_laws.proofs.Options.{mapped_none, some_mapped}
 use Rattle.name_meaning.specs.Names.{Name, Text, same_name, is_among}
 use Rattle.name_meaning.specs.Rows.{Rows, IsTable, row_names, row_of}
 use Rattle.name_laws.proofs.Order.{same_sound, same_itself, among_member, member_among}
@@ -15,17 +15,14 @@ use Rattle.name_laws.proofs.RowLookups.{row_mapped}
 use Rattle.log_meaning.specs.Log.{Library, is_present}
 use Rattle.walk_meaning.specs.Reach.{reach}
 use Rattle.walk_meaning.specs.Subject.{answers_of, present_answer}
-use Rattle.library_meaning.specs.Faces as faces
-use Rattle.library_meaning.specs.Faces.{IsAbsent, flat_signature}
-use Rattle.library_meaning.specs.Coherence.{IsCoherent}
+use Rattle.library_meaning.specs.Faces.{IsAbsent}
 use Rattle.library_meaning.specs.Environments.{known_or_absent}
 use Rattle.text_meaning.specs.Dependencies.{dependencies}
 use Rattle.verdict_meaning.specs.Verdicts as verdicts
 use Rattle.verdict_meaning.specs.Verdicts.{known_by}
 use Rattle.verdict_meaning.specs.Rounds.{known_if, known_to, modules, others_reached, verdict_of}
 use Rattle.verdict_laws.proofs.Verdicts.{verdict_exactly}
-use Rattle.coherence_laws.proofs.LibrariesHold.{grounded_know_coherent}
-use Rattle.coherence_laws.proofs.SizesHold.{grounded_know_sizes}
+use Rattle.coherence_laws.proofs.LibrariesHold.{grounded_short, in_reach, reached_again}
 use Rattle.module_graph.specs.Subjects.{IsGiven, read_answers}
 use Rattle.mmt_interface.specs.Readings.{read_verdict, read_faces, environment_of, handed_back}
 use Rattle.mmt_interface.specs.CoherentFaces.{AreCoherent}
@@ -33,7 +30,9 @@ use Rattle.mmt_interface.specs.declared.faces.FaceFault.{FaceFault}
 use Rattle.mmt_interface.specs.declared.faces.FaceFault.TheVariants.{Twice}
 use Rattle.mmt_interface.specs.declared.verdict.Verdict.{Verdict}
 use Rattle.module_check.proofs.JudgingOrder.{ascending_distinct, fresh_at}
+use Rattle.module_check.specs.OneLibrary.{HoldReaches}
 use Rattle.module_check.specs.PresentRows.{present_row, present_rows}
+use Rattle.module_check.proofs.OneLibrary.{coherent_together}
 
 either : {A : Type 0} (b : Bool) (o : Option A) → o ≡ None → cond b o None ≡ o
 either true o h = refl
@@ -154,12 +153,36 @@ module _ (library : Library) (name : Name) (text : Text) (rows : Rows (Option Ve
   pub answered_verdict : (n : Name) (verdict : verdicts.Verdict) → row_of (read_faces (present_rows rows)) n ≡ Some verdict → (is_among (others_reached library name) n ≡ true) × (verdict_of library n ≡ Some verdict)
   answered_verdict n verdict h = found (is_among (others_reached library name) n) (is_present library n) (verdict_of library n) verdict (sym (answered n) ∙ h)
 
-  -- They are coherent.
-  pub answered_coherent : AreCoherent (present_rows rows)
-  answered_coherent =
+  shown : (a b : Bool) (o : Option verdicts.Verdict) → is_some o ≡ b → is_some (cond a (cond b o None) None) ≡ (a && b)
+  shown false b o h = refl
+  shown true false o h = refl
+  shown true true o h = h
+
+  -- They have the present names that the module reaches.
+  pub names_there : (n : Name) → is_among (row_names (present_rows rows)) n ≡ (is_among (others_reached library name) n && is_present library n)
+  names_there n =
+      sym (row_among (present_rows rows) n)
+      ∙ sym (some_mapped read_verdict (row_of (present_rows rows) n)) ∙ ap is_some (sym (row_mapped read_verdict (present_rows rows) n) ∙ answered n)
+      ∙ shown (is_among (others_reached library name) n) (is_present library n) (verdict_of library n) (verdict_exactly library n)
+
+  reached_from : (n m : Name) → is_among (others_reached library name) n ≡ true → is_among (reach dependencies library n) m ≡ true → is_among (others_reached library name) m ≡ true
+  reached_from n m p q = by (same_name n m) refl
+    where
+      by : (b : Bool) → same_name n m ≡ b → is_among (others_reached library name) m ≡ true
+      by true e = ap (is_among (others_reached library name)) (sym (same_sound n m e)) ∙ p
+      by false e =
+          reached_again library (length library) name n m (grounded_short library name given.grounded) p (in_reach library n m (among_member (reach dependencies library n) m q) e)
+
+  -- They are of one library, with whole reaches.
+  together : HoldReaches library (present_rows rows)
+  together =
       record {
-        known = subst IsCoherent (sym known) (grounded_know_coherent library name given.grounded);
-        sizes = λ n face size h.
-            (let f = answered_verdict n (verdicts.Accepted (verdicts.Theory face size)) h in
-            grounded_know_sizes library name n face size given.grounded f.0 f.1 ∙ ap (λ (z : faces.Environment). length (flat_signature z face)) (sym known));
+        verdicts = λ n verdict h. (answered_verdict n verdict h).1;
+        reach = λ n m p q present.
+            (let there = and_parts (is_among (others_reached library name) n) (is_present library n) (sym (names_there n) ∙ p) in
+            names_there m ∙ ap (λ b. b && is_present library m) (reached_from n m there.0 q) ∙ present);
       }
+
+  -- So they are coherent.
+  pub answered_coherent : AreCoherent (present_rows rows)
+  answered_coherent = coherent_together (present_rows rows) library together

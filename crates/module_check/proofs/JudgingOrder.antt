@@ -1,5 +1,5 @@
 -- The order in which the grounded modules of a library are judged: each comes behind the others that it reaches.
-use Rattle.std.proofs.Common.{◌≡◌, ℕ, zero, suc, ◌<◌, ◌≤◌, ◌+◌, ◌-◌, get_or, map, Option, None, Bool, true, false, not, List, [], ◌∷◌, ◌++◌, length, take, drop, filter, slice_get, Some, ◌⊎◌, inl, inr, ⊎_elim, refl, sym, ap, ◌∙◌, subst, true≢false, arith}
+use Rattle.std.proofs.Common.{◌≡◌, ℕ, zero, suc, ◌<◌, ◌≤◌, ◌+◌, ◌-◌, get_or, map, Option, None, Bool, true, false, not, List, [], ◌∷◌, ◌++◌, length, take, drop, filter, slice_get, Some, inl, inr, ⊎_elim, refl, sym, ap, ◌∙◌, subst, true≢false, arith}
 use Rattle.std.specs.Prelude.{option_map}
 use Rattle.std.specs.List.{list_all, IsDistinct, AllByRecursion, Contains}
 use Rattle.std.specs.List.Sorted.{IsPermutation}
@@ -14,10 +14,9 @@ use Rattle.std.proofs.lemmas.Option.{same_Some, slice_get-get_or, slice_get-map}
 use Rattle.list_laws.proofs.Members.{Member, in_filter, filter_in, in_append, append_left, append_right, in_map, member_place, place_member}
 use Rattle.list_laws.proofs.Places.{place_within, split_at, get_take}
 use Rattle.name_meaning.specs.Names.{Name, same_name, comes_before, is_among, is_ascending}
-use Rattle.name_laws.proofs.Order.{among_member, member_among, same_itself, same_sound, same_turned, ascending_filtered}
+use Rattle.name_laws.proofs.Order.{among_member, member_among, same_itself, same_turned, ascending_filtered}
 use Rattle.name_laws.proofs.Rows.{different}
 use Rattle.log_meaning.specs.Log.{Library, names_of, is_present}
-use Rattle.log_laws.proofs.Libraries.{present_among}
 use Rattle.walk_meaning.specs.Walks.{is_grounded, is_ungrounded, ungrounded_names, walking}
 use Rattle.walk_meaning.specs.Reach.{reach}
 use Rattle.walk_meaning.specs.Graphs.{Graph, HoldsDependencies, graph_reach}
