@@ -20,7 +20,7 @@ use worker_loop::TurnEnd;
 
 /// What is told of a name once its verdict is not to come. While it is to come, turns are taken, however many workers there are. Where
 /// all of them are at work the front rests for a bounded time before its turn, since it might have no processor for itself. Where
-/// nothing is ready, another claim is open, and it sleeps until one ends.
+/// nothing is ready, another claim is open, and it sleeps until one ends, at most for a tenth of a second.
 pub fn told<R: Wait, G: Gate>(
     rt: &R,
     alloc: Global,

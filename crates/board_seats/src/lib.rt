@@ -1,6 +1,7 @@
 //! A board of verdicts that several threads share: each call takes one turn with the board, and the history is one for all.
 #![tactic(auto)]
 
+mod bell;
 mod calls;
 mod entry;
 pub mod job_laws;

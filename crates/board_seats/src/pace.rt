@@ -1,14 +1,12 @@
 //! How a worker holds back where its turns would hold up those of others.
 
 use crate::SharedBoard;
+use crate::waits::MOST_LOOKS;
 use module_graph::Subject;
 use std::sync::Wait;
 
 /// So many looks in a row have to find modules long before a worker takes its first turn.
 const FIRST_LOOKS: u32 = 3;
-
-/// A worker looks for at most some seconds.
-const MOST_LOOKS: u32 = 1_024;
 
 /// In so many turns in a row a pass waited behind the worker, so the turns are short, or whoever waits gets no processor.
 const MOST_CROWDED: u32 = 10;
@@ -31,7 +29,7 @@ impl Pace {
         }
     }
 
-    /// Sleeps until what is judged is long enough to be shared. A close ends it.
+    /// Sleeps until what is judged is long enough to be shared, and at most for some seconds. A close ends it.
     pub fn wait<R: Wait, S: Subject>(&self, rt: &R, board: &SharedBoard<S>) {
         board.wait_while_short(rt, self.looks);
     }

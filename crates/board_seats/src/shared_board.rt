@@ -6,15 +6,15 @@ ghost use Rattle.board_meaning.specs.Points.{number_of};
 ghost use Rattle.board_meaning.specs.Legal.{IsLegal};
 ghost use Rattle.turn_lock.specs.declared.turns.NewFault.TheVariants.{Memory as NoMemory};
 
+use crate::bell::Bell;
 use crate::{BoardPass, Seated};
-use crossbeam_utils::sync::EventCount;
 use lf_terms::Memory;
 use module_graph::Subject;
 use std::alloc::Global;
 use std::marker::Model;
 use std::sync::Wait;
+use std::sync::atomic::AtomicU64;
 use std::sync::atomic::Ordering::SeqCst;
-use std::sync::atomic::{AtomicBool, AtomicU64};
 use turn_lock::{NewFault, Turns};
 use verdict_board::Board;
 
@@ -23,16 +23,14 @@ use verdict_board::Board;
 #[derive(Drop)]
 pub struct SharedBoard<S: Subject> {
     turns: Turns<Seated<S>>,
-    /// Wakes those that wait until there may be a job. A report that says that a verdict is to come wakes one, so does a claim
+    /// Rings where there may be a job. A report that says that a verdict is to come wakes one that waits for one, so does a claim
     /// behind which a further module may be ready, and a release: whoever is woken claims, and so wakes the next, for as long as
-    /// there may be jobs. An edit that puts a long text wakes one. A short one is judged in less time than it takes to wake somebody, and while
-    /// texts are put one after another the turns of those that were woken would only hold up the next edit: it waits until
-    /// somebody asks for its verdict. An install wakes nobody: who installed goes on, and its next claim wakes. A close wakes all.
-    /// The board is given back before a wake, so a turn behind it finds what changed.
-    pub(crate) changes: EventCount,
-    /// Whether somebody was woken so far. Until then no worker claims: while texts are put and nobody asks for a verdict, the front
-    /// has the board for itself.
-    pub(crate) has_begun: AtomicBool,
+    /// there may be jobs. An edit that puts a long text wakes one. A short one is judged in less time than it takes to wake somebody,
+    /// and while texts are put one after another the turns of those that were woken would only hold up the next edit: it waits until
+    /// somebody asks for its verdict, or until somebody has slept for as long as workers do. An install wakes nobody: who installed
+    /// goes on, and its next claim wakes. A close wakes all. The board is given back before the bell rings, so a turn behind it finds
+    /// what changed.
+    pub(crate) jobs: Bell,
     /// How many passes were made beside pass 0, each for a worker.
     pub(crate) workers: AtomicU64,
     /// How many claims found a module.
@@ -43,8 +41,8 @@ pub struct SharedBoard<S: Subject> {
     pub(crate) waiting: AtomicU64,
     /// 1 once the board is closed.
     pub(crate) is_closed: AtomicU64,
-    /// Wakes those that wait for the end of a claim: each install and each release wakes all.
-    pub(crate) ends: EventCount,
+    /// Rings at the end of each claim, and wakes all that wait for one.
+    pub(crate) ends: Bell,
 }
 
 impl<S: Subject> Model for SharedBoard<S> {
@@ -70,14 +68,13 @@ impl<S: Subject> SharedBoard<S> {
             Ok((turns, pass)) => Ok((
                 SharedBoard {
                     turns,
-                    changes: EventCount::new(),
-                    has_begun: AtomicBool::new(false),
+                    jobs: Bell::new(),
                     workers: AtomicU64::new(0),
                     claims: AtomicU64::new(0),
                     ended: AtomicU64::new(0),
                     waiting: AtomicU64::new(0),
                     is_closed: AtomicU64::new(0),
-                    ends: EventCount::new(),
+                    ends: Bell::new(),
                 },
                 pass,
             )),
@@ -115,8 +112,7 @@ impl<S: Subject> SharedBoard<S> {
     {
         let SharedBoard {
             turns,
-            changes: _,
-            has_begun: _,
+            jobs: _,
             workers: _,
             claims: _,
             ended: _,

@@ -1,7 +1,7 @@
 //! Waits for a board that may have a job, for modules that are long enough to be shared, and for claims that end.
 
 use crate::SharedBoard;
-use crossbeam_utils::sync::Key;
+use crate::bell::Bell;
 use edit_log::{Edit, EditFault, Edited};
 use lf_terms::Memory;
 use module_graph::Subject;
@@ -16,6 +16,16 @@ const LONG: usize = 4_096;
 /// How long is looked how fast modules are claimed, in microseconds.
 const LOOK: u64 = 4_000;
 
+/// A worker looks for at most some seconds, and then takes a turn however fast modules are claimed.
+pub(crate) const MOST_LOOKS: u32 = 1_024;
+
+/// Before its first turn a worker sleeps no longer than that, in microseconds. Until then whoever puts short texts and asks for no
+/// verdict has the board alone.
+const FIRST_REST: u64 = 1_000_000;
+
+/// Whoever found nothing ready sleeps no longer than that, in microseconds, and then asks again though nobody was woken.
+const LONGEST_REST: u64 = 100_000;
+
 /// Where each claimant claims as many modules in that time, another one would hold up the turns of the others for longer than it takes to
 /// judge what it claims.
 const MOST_CLAIMS: u64 = 12;
@@ -26,40 +36,42 @@ const FEW_CLAIMS: u64 = 4;
 /// A wait that is announced. Letting it go cancels the wait.
 #[derive(Drop)]
 pub struct Announced<'a> {
-    key: Key<'a>,
+    bell: &'a Bell,
+    heard: u64,
 }
 
 impl Announced<'_> {
-    /// Sleeps until the board wakes those that wait, if it has not done so since the wait was announced.
+    /// Sleeps until the board wakes those that wait, if it has not done so since the wait was announced, and at most for a tenth of a
+    /// second. So whoever asks again behind it also finds what nobody was woken for.
     pub fn wait<R: Wait>(self, rt: &R) {
-        let Announced { key } = self;
-        key.wait(rt);
+        self.bell
+            .sleep(rt, self.heard, Duration::from_micros(LONGEST_REST));
     }
 }
 
 impl<S: Subject> SharedBoard<S> {
     /// Announces a wait for a job. A claim that comes behind it and finds no job may be followed by the wait: a later report that
     /// says that a verdict is to come ends it, a claim behind which a further module may be ready, a release, an edit that puts a
-    /// long text, and a close. An edit that puts a short one does not, nor does a question for answers.
+    /// long text, and a close. An edit that puts a short one does not, nor does a question for answers: the wait is over by itself
+    /// then.
     pub fn announce(&self) -> Announced<'_> {
         Announced {
-            key: self.changes.prepare_wait(),
+            bell: &self.jobs,
+            heard: self.jobs.rings(),
         }
     }
 
-    /// Sleeps until somebody is woken for the first time, or the board is closed.
+    /// Sleeps until somebody is woken for the first time, or the board is closed, and at most for a second.
     pub fn wait_for_begin<R: Wait>(&self, rt: &R) {
-        let announced = self.announce();
-        if !self.has_begun.load(SeqCst) {
-            announced.wait(rt);
-        }
+        self.jobs.sleep(rt, 0, Duration::from_micros(FIRST_REST));
     }
 
     /// Sleeps until so many looks in a row have found that few enough modules are claimed, for each claim that is open, to be shared.
-    /// A close ends it. One look may find none claimed only since whoever judges did not get a processor meanwhile.
+    /// A close ends it, and so do as many looks as a worker makes at most. One look may find none claimed only since whoever judges
+    /// did not get a processor meanwhile.
     pub(crate) fn wait_while_short<R: Wait>(&self, rt: &R, looks: u32) {
         let mut long: u32 = 0;
-        for _ in rt.forever() {
+        for _ in 0..MOST_LOOKS {
             let before = self.claims.load(SeqCst);
             self.rest(rt);
             if self.is_closed.load(SeqCst) != 0 {
@@ -96,7 +108,8 @@ impl<S: Subject> SharedBoard<S> {
     /// release ends it.
     pub fn announce_end(&self) -> Announced<'_> {
         Announced {
-            key: self.ends.prepare_wait(),
+            bell: &self.ends,
+            heard: self.ends.rings(),
         }
     }
 
@@ -110,21 +123,19 @@ impl<S: Subject> SharedBoard<S> {
     /// Wakes all that wait for the end of a claim.
     pub(crate) fn tell_end(&self) {
         self.ended.fetch_add(1, SeqCst);
-        self.ends.notify_all();
+        self.ends.ring_for_all();
     }
 
     /// Wakes one that waits for a job.
     pub(crate) fn wake_one(&self) {
-        self.has_begun.store(true, SeqCst);
-        self.changes.notify_one();
+        self.jobs.ring_for_one();
     }
 
     /// Wakes all that wait for a job or that look how fast modules are claimed, where the board is closed.
     pub(crate) fn wake_all(&self) {
-        self.has_begun.store(true, SeqCst);
         self.is_closed.store(1, SeqCst);
         self.is_closed.wake_all();
-        self.changes.notify_all();
+        self.jobs.ring_for_all();
     }
 
     /// Wakes one that waits, where an edit was made that puts a long text.

@@ -13,9 +13,10 @@ use std::alloc::Global;
 use std::sync::Wait;
 use std::sync::ledger::Ledger;
 
-/// Turns until one finds the board closed, sleeping where one finds no module ready, until there may be one; before the first one
-/// it sleeps until somebody asks for a verdict. Whoever was woken first looks whether what is judged is long enough to be shared. It
-/// stops for want of memory alone. The counter ticks once for each module that was judged.
+/// Turns until one finds the board closed. Before the first one it rests, and behind one that finds no module ready: until it is woken
+/// since there may be one, and at most for a second before the first one, else for a tenth of a second. So it takes its turns whether
+/// or not anybody asks for a verdict. Before it goes on it looks, for some seconds at most, whether what is judged is long enough to be
+/// shared. It stops for want of memory alone. The counter ticks once for each module that was judged.
 pub fn work<R: Wait, S: Subject, G: Gate, L: Ledger>(
     rt: &R,
     alloc: Global,
