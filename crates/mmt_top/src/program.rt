@@ -83,7 +83,8 @@ fn perform<
 
 /// Runs the program: reads the words, which are those after the program's name, and does what they ask. A script is played as by
 /// `session`, a folder is checked as by `check_folder`, and a library is generated as by `generate`. It is the last call of a process:
-/// the memory of the board is left to the system.
+/// the memory of its board is left to the system, so each further call would leave as much again. Whoever plays, checks or generates
+/// more than once in a process takes those three, which hand the board back.
 pub fn run<
     R: Threads + Wait + Sync,
     S: Source + Send,
