@@ -4,11 +4,17 @@
 //!
 //! - `workers N ..`: there is a run with each number of workers, and runs that come to the same as the one before are told once;
 //! - `read N`, `write N` and `call N`: that call of the source, of the sink or of the folder fails;
+//! - `room N`: the sink takes so many bytes;
 //! - `whole TEXT`: of an output that begins this one (`~` ends a line) no more is told;
+//! - `last N`: of the output so many lines are told, the last ones;
 //! - `held A B`: the first install of A is held until B is as far, and it is told whether that happened;
+//! - `crowd A`: each worker is held until A is as far, and the front until all workers are held, or four of them, and it is told whether
+//!   that happened;
 //! - `disk`: the folder is one of the system, and else has the files of the case.
 #![tactic(auto)]
 
+mod crowd;
+mod gates;
 mod held;
 mod played;
 
@@ -44,6 +50,8 @@ const FILES: &[&str] = &[
     "carried.cases",
     "printed.cases",
     "large.cases",
+    "hostile.cases",
+    "held.cases",
 ];
 
 /// Plays the cases of a file, and prints what came of each.

@@ -1,6 +1,6 @@
 //! The runs of a case.
 
-use crate::held::Held;
+use crate::gates::CaseGate;
 use lf_terms::{Bytes, Memory};
 use mmt_outside::{DiskFolder, Inputs64, MemFiles, MemFolder, MemSink, MemSource};
 use mmt_top::{Status, run};
@@ -9,7 +9,7 @@ use std::sync::Wait;
 use std::thread::Threads;
 use test_texts::Case;
 
-/// How many bytes a sink takes.
+/// How many bytes a sink takes, where the case does not say it.
 const ROOM: usize = 1 << 20;
 
 /// The words of the case, and what came of its runs.
@@ -67,7 +67,7 @@ fn files_of(alloc: Global, case: &Case<'_>) -> Result<MemFiles, Memory> {
     Ok(files)
 }
 
-/// What a run wrote, the number of its status, and whether the gate saw both of its modules.
+/// What a run wrote, the number of its status, and whether the gate has held whom it should.
 fn ended<R: Threads + Wait + Sync>(
     rt: &R,
     alloc: Global,
@@ -76,22 +76,43 @@ fn ended<R: Threads + Wait + Sync>(
     workers: &str,
 ) -> Result<Vec<u8>, Memory> {
     let words = words_of(alloc, case, workers)?;
-    let mut sink = MemSink::new(alloc, ROOM, failing(alloc, case.behind("write"))?)?;
-    let (held, awaited) = case.behind("held").split_once(' ').unwrap_or(("", ""));
-    let gate = Held::new(held, awaited);
+    let mut sink = MemSink::new(alloc, room(case), failing(alloc, case.behind("write"))?)?;
+    let gate = CaseGate::of(case, workers);
     let status = status_of(rt, alloc, disk, case, &words, &mut sink, &gate)?;
-    let has_seen_both = gate.has_seen_both();
+    let has_held = gate.has_held();
     drop(gate);
     drop(words);
-    let end = end_line(alloc, status, has_seen_both)?;
-    let mut all = written(alloc, case.behind("whole"), sink.bytes())?;
+    let end = end_line(alloc, status, has_held)?;
+    let told = last_lines(sink.bytes(), case.behind("last"));
+    let mut all = written(alloc, case.behind("whole"), told)?;
     all.extend_from_slice(end.as_bytes())?;
     Ok(all)
 }
 
-fn end_line(alloc: Global, status: Status, has_seen_both: bool) -> Result<String, AllocError> {
-    let both = if has_seen_both { " side by side" } else { "" };
+fn end_line(alloc: Global, status: Status, has_held: bool) -> Result<String, AllocError> {
+    let both = if has_held { " side by side" } else { "" };
     format!(in alloc; "-- {}{both}\n", status.number())
+}
+
+/// How many bytes the sink of a case takes.
+fn room(case: &Case<'_>) -> usize {
+    case.behind("room").parse::<usize>().unwrap_or(ROOM)
+}
+
+/// The last lines of an output, where their number is given, and else all.
+fn last_lines<'a>(output: &'a [u8], lines: &str) -> &'a [u8] {
+    let mut more = lines.parse::<u64>().unwrap_or(u64::MAX);
+    for behind in 0..output.len() {
+        let at = output.len() - 1 - behind;
+        if output[at] != b'\n' {
+            continue;
+        }
+        if more == 0 {
+            return &output[at + 1..];
+        }
+        more -= 1;
+    }
+    output
 }
 
 /// What a run wrote, or that it begins the whole output, where that is given.
@@ -117,7 +138,7 @@ fn status_of<R: Threads + Wait + Sync>(
     case: &Case<'_>,
     words: &[String],
     sink: &mut MemSink,
-    gate: &Held<'_>,
+    gate: &CaseGate<'_>,
 ) -> Result<Status, Memory> {
     let input = Bytes::from_vec(case.input.to_vec(alloc)?);
     let mut source = MemSource::new(input, failing(alloc, case.behind("read"))?);

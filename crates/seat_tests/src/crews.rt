@@ -16,8 +16,8 @@ use std::thread::{Threads, join_mut};
 use verdict_board::Board;
 use worker_crew::{dismiss, hire, work_all};
 
-/// A front and so many workers, in threads of their own. The answer is the board, and whether all verdicts were told and all work
-/// was done.
+/// A front and so many workers, in threads of their own. Where no thread can be made the last of the two comes first, so the front is
+/// that one. The answer is the board, and whether all verdicts were told and all work was done.
 pub fn by_crew<R: Threads + Wait + Sync>(
     rt: &R,
     alloc: Global,
@@ -32,16 +32,16 @@ pub fn by_crew<R: Threads + Wait + Sync>(
 {
     let mut crew = hire(alloc, &board, &mut first, workers)?;
     let shared = &board;
-    let (told, ()) = join_mut(
+    let ((), told) = join_mut(
         rt,
-        &mut || -> bool
-            requires { IsIdleOf shared.now first × (first.number ≡ 0) }
-            ensures { Keeps first.entry first.exit × IsLegal sizes.dependencies first.exit.seen }
-        { lead(rt, alloc, shared, &mut first, names) },
         &mut ||
             requires { AreWorkers sizes.dependencies shared.now crew }
             ensures { AreWorkers sizes.dependencies shared.entry.now crew.exit × (length crew.exit ≡ length crew.entry) }
         { work_all(rt, alloc, shared, &Sizes, &OpenGate, &mut crew) },
+        &mut || -> bool
+            requires { IsIdleOf shared.now first × (first.number ≡ 0) }
+            ensures { Keeps first.entry first.exit × IsLegal sizes.dependencies first.exit.seen }
+        { lead(rt, alloc, shared, &mut first, names) },
     );
     let done = crew.workers().iter().all(|worker| worker.outcome().is_ok());
     dismiss(shared, &mut first, crew);

@@ -9,6 +9,8 @@ mod crews;
 #[cfg(test)]
 mod outside;
 #[cfg(test)]
+mod polls;
+#[cfg(test)]
 mod runs;
 #[cfg(test)]
 mod sizes;

@@ -1,5 +1,5 @@
 //! Threads that share a board, and what they leave.
-ghost use Rattle.std.specs.Prelude.{◌≡◌, ◌<◌, []};
+ghost use Rattle.std.specs.Prelude.{◌≡◌, ◌<◌, IfOk, []};
 ghost use Rattle.turn_meaning.specs.Passes.{IsIdleOf};
 ghost use Rattle.board_meaning.specs.Legal.{IsLegal};
 ghost use Rattle.board_seats.specs.Seats.{Keeps};
@@ -16,12 +16,23 @@ use std::marker::Brand;
 use std::sync::Wait;
 use std::sync::ledger::{Blank, Ledger};
 use std::thread::{Threads, join};
+use turn_lock::NewFault;
 use verdict_board::{Board, Told};
 use worker_loop::work;
 
 pub type Shared = SharedBoard<Sizes>;
 
 pub type Seat = BoardPass<Sizes>;
+
+/// A board that is shared, without entries, and its pass 0.
+pub fn shared_board(alloc: Global) -> Result<(Shared, Seat), Memory>
+    ensures { IfOk result (λ made. IsIdleOf made.0 made.1 × (made.1.number ≡ 0) × (made.1.made ≡ 1) × (made.1.joined ≡ []) × IsLegal sizes.dependencies made.1.seen) }
+{
+    match SharedBoard::new(alloc, Board::new(alloc, Sizes)?) {
+        Ok(made) => Ok(made),
+        Err(NewFault::Memory(_)) => Err(Memory),
+    }
+}
 
 /// The edit that puts a module with an empty text.
 pub fn empty_module(alloc: Global, name: &Name) -> Result<Edit, Memory> {
@@ -189,7 +200,8 @@ pub fn follow_by_two<R: Threads + Wait + Sync>(
     )
 }
 
-/// A front and two workers, in three threads. The answer is the board, and whether all verdicts were told and all work was done.
+/// A front and two workers, in three threads; the front is the last, which comes first where no thread can be made. The answer is the
+/// board, and whether all verdicts were told and all work was done.
 pub fn by_three<R: Threads + Wait + Sync>(
     rt: &R,
     alloc: Global,
@@ -202,16 +214,16 @@ pub fn by_three<R: Threads + Wait + Sync>(
     let one = board.split(&mut first)?;
     let two = board.split(&mut first)?;
     let shared = &board;
-    let ((mut first, told), (one, two)) = join(
+    let ((one, two), (mut first, told)) = join(
         rt,
-        || -> (Seat, bool)
-            requires { IsIdleOf shared.now first × (first.number ≡ 0) }
-            ensures { Keeps first result.0 }
-        { lead_alone(rt, alloc, shared, first, names) },
         || -> ((Seat, bool), (Seat, bool))
             requires { IsIdleOf shared.now one × IsIdleOf shared.now two }
             ensures { Keeps one result.0.0 × Keeps two result.1.0 }
         { follow_by_two(rt, alloc, shared, one, two) },
+        || -> (Seat, bool)
+            requires { IsIdleOf shared.now first × (first.number ≡ 0) }
+            ensures { Keeps first result.0 }
+        { lead_alone(rt, alloc, shared, first, names) },
     );
     let done = told && one.1 && two.1;
     board.join(&mut first, one.0);

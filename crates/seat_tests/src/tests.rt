@@ -1,28 +1,16 @@
-ghost use Rattle.std.specs.Prelude.{◌≡◌, IfOk, []};
-ghost use Rattle.turn_meaning.specs.Passes.{IsIdleOf};
-ghost use Rattle.board_meaning.specs.Legal.{IsLegal};
-ghost use Rattle.seat_tests.specs.Sizes.{sizes};
+ghost use Rattle.std.specs.Prelude.{◌≤◌};
 
 use crate::answers::are_at_their_places;
 use crate::crews::by_crew;
-use crate::runs::{Seat, Shared, by_three, claim_and_release, empty_module};
+use crate::runs::{by_three, claim_and_release, empty_module, shared_board};
 use crate::sizes::{Sizes, is_a_subject};
-use board_seats::SharedBoard;
 use edit_log::Edited;
-use lf_terms::{Memory, Name};
+use lf_terms::Name;
 use std::alloc::Global;
+use std::sync::Wait;
 use std::test::*;
-use turn_lock::NewFault;
+use std::thread::Threads;
 use verdict_board::{Board, Told};
-
-fn shared_board(alloc: Global) -> Result<(Shared, Seat), Memory>
-    ensures { IfOk result (λ made. IsIdleOf made.0 made.1 × (made.1.number ≡ 0) × (made.1.made ≡ 1) × (made.1.joined ≡ []) × IsLegal sizes.dependencies made.1.seen) }
-{
-    match SharedBoard::new(alloc, Board::new(alloc, Sizes)?) {
-        Ok(made) => Ok(made),
-        Err(NewFault::Memory(_)) => Err(Memory),
-    }
-}
 
 #[test]
 fn the_subject_and_its_answers(rt: HostRuntime) -> Result<(), Fail> {
@@ -31,39 +19,54 @@ fn the_subject_and_its_answers(rt: HostRuntime) -> Result<(), Fail> {
     Ok(())
 }
 
-#[test]
-fn two_workers_judge_what_the_front_puts(rt: HostRuntime) -> Result<(), Fail> {
-    let alloc = rt.alloc();
+/// The names of the modules that the front puts.
+const NAMES: &str = "A B C D E F G H";
+
+fn names(alloc: Global) -> Result<Vec<Name>, Fail> {
     let mut names = Vec::new(alloc);
-    for name in ["A", "B", "C", "D", "E", "F", "G", "H"] {
+    for name in NAMES.split(' ') {
         names.push(Name::new(alloc, name)?)?;
     }
+    Ok(names)
+}
+
+/// Whether all was told and done and the board is closed, and its entries, installs and version.
+type Counts = (bool, u64, u64, u32);
+
+fn counts(board: &Board<Sizes>, done: bool) -> Counts {
+    (
+        done && board.closed(),
+        board.entries(),
+        board.installs(),
+        board.version(),
+    )
+}
+
+/// What a front and two workers leave.
+fn by_two<R: Threads + Wait + Sync>(rt: &R, alloc: Global) -> Result<Counts, Fail> {
+    let names = names(alloc)?;
     let (shared, first) = shared_board(alloc)?;
-    let (board, done) = by_three(&rt, alloc, shared, first, names.as_slice())?;
-    assert!(rt; done && board.closed());
-    assert_eq!(rt;
-        (board.entries(), board.installs(), board.version()),
-        (25, 8, 8)
-    );
-    Ok(())
+    let (board, done) = by_three(rt, alloc, shared, first, names.as_slice())?;
+    Ok(counts(&board, done))
+}
+
+/// What a front and a crew of so many leave.
+fn by_so_many<R: Threads + Wait + Sync>(rt: &R, alloc: Global, workers: u32) -> Result<Counts, Fail>
+    requires { workers ≤ 16 }
+{
+    let names = names(alloc)?;
+    let (shared, first) = shared_board(alloc)?;
+    let (board, done) = by_crew(rt, alloc, shared, first, names.as_slice(), workers)?;
+    Ok(counts(&board, done))
 }
 
 #[test]
-fn crews_judge_what_the_front_puts(rt: HostRuntime) -> Result<(), Fail> {
+fn workers_judge_what_the_front_puts(rt: HostRuntime) -> Result<(), Fail> {
     let alloc = rt.alloc();
-    let mut names = Vec::new(alloc);
-    for name in ["A", "B", "C", "D", "E", "F", "G", "H"] {
-        names.push(Name::new(alloc, name)?)?;
-    }
-    for workers in [1, 3, 16] {
-        let (shared, first) = shared_board(alloc)?;
-        let (board, done) = by_crew(&rt, alloc, shared, first, names.as_slice(), workers)?;
-        assert!(rt; done && board.closed());
-        assert_eq!(rt;
-            (board.entries(), board.installs(), board.version()),
-            (25, 8, 8)
-        );
-    }
+    assert_eq!(rt; by_two(&rt, alloc)?, (true, 25, 8, 8));
+    assert_eq!(rt; by_so_many(&rt, alloc, 1)?, (true, 25, 8, 8));
+    assert_eq!(rt; by_so_many(&rt, alloc, 3)?, (true, 25, 8, 8));
+    assert_eq!(rt; by_so_many(&rt, alloc, 16)?, (true, 25, 8, 8));
     Ok(())
 }
 
