@@ -1,9 +1,9 @@
 //! A log: its answers in the order of its tests, its limits, and its look-ups.
 
 use edit_log::{Edit, EditFault, Edited, Log};
-use lf_terms::{Arc, Bytes, Name};
-use std::alloc::{AllocError, Global};
-use std::test::Fail;
+use lf_terms::{Arc, Bytes, Memory, Name};
+use std::alloc::Global;
+use test_texts::Told;
 
 /// The first and the last version of edits that were made one after another, and are still to be told.
 #[derive(Clone, Copy)]
@@ -17,72 +17,81 @@ struct Made {
 /// - `put NAME SIZE BYTE` and `drop NAME`: edits; those that are made in a row are told at once;
 /// - `copy NAME SIZE BYTE` and `copy NAME`: a copy of such an edit;
 /// - `text NAME` and `share NAME`: the stamp and the text of a name; `entry VERSION`: how many bytes an edit puts; `name PLACE`.
-pub(crate) fn log_told(alloc: Global, lines: &str) -> Result<String, Fail> {
-    let mut told = String::new(alloc);
+pub(crate) fn log_told(alloc: Global, lines: &str, told: &mut Told) {
     let mut made = Made { first: 1, last: 0 };
-    let mut log = Box::new(alloc, Log::new(alloc))?;
+    let mut log = Log::new(alloc);
     for line in lines.lines() {
-        let (word, rest) = line.split_once(' ').unwrap_or((line, ""));
-        if word == "put" || word == "drop" {
-            edit(alloc, &mut log, &mut told, &mut made, rest)?;
-        } else {
-            push_made(&mut told, &mut made)?;
-            look_up(alloc, &log, &mut told, word, rest)?;
+        obey(alloc, &mut log, told, &mut made, line);
+    }
+    tell_made(told, &mut made);
+}
+
+fn obey(alloc: Global, log: &mut Log, told: &mut Told, made: &mut Made, line: &str) {
+    let (word, rest) = line.split_once(' ').unwrap_or((line, ""));
+    match word {
+        "put" | "drop" => edit(alloc, log, told, made, rest),
+        _ => {
+            tell_made(told, made);
+            look_up(alloc, log, told, word, rest);
         }
     }
-    push_made(&mut told, &mut made)?;
-    Ok(told)
 }
 
 /// Tells the edits that were made in a row.
-fn push_made(told: &mut String, made: &mut Made) -> Result<(), AllocError> {
+fn tell_made(told: &mut Told, made: &mut Made) {
     let Made { first, last } = *made;
     made.first = last.saturating_add(1);
     if first < last {
-        write!(told, "made {first} to {last}\n")
+        write!(told, "made {first} to {last}\n");
     } else if first == last {
-        write!(told, "made {first}\n")
-    } else {
-        Ok(())
+        write!(told, "made {first}\n");
     }
 }
 
 /// The edit of `NAME SIZE BYTE`, which puts that byte so many times, or of `NAME`, which drops.
-fn edit_of(alloc: Global, text: &str) -> Result<Box<Edit>, Fail> {
-    let Some((name, rest)) = text.split_once(' ') else {
-        let name = Name::new(alloc, text)?;
-        return Ok(Box::new(alloc, Edit::Drop { name })?);
-    };
-    let (size, byte) = rest.split_once(' ').ok_or("no byte")?;
-    let byte = byte.as_bytes().get(0).copied().unwrap_or(b' ');
-    let bytes = Bytes::from_vec(vec![in alloc; byte; size.parse::<usize>()?]?);
-    let text = Arc::new(alloc, bytes)?;
-    let name = Name::new(alloc, name)?;
-    Ok(Box::new(alloc, Edit::Put { name, text })?)
-}
-
-/// Appends an edit, and tells the answer where it is not that the edit is made as the next one.
-fn edit(
-    alloc: Global,
-    log: &mut Log,
-    told: &mut String,
-    made: &mut Made,
-    text: &str,
-) -> Result<(), Fail> {
-    let edit = edit_of(alloc, text)?;
-    match log.append(alloc, Box::into_inner(edit)) {
-        Ok(Edited::Made(version)) => {
-            made.last = version;
-            Ok(())
-        }
-        other => {
-            push_made(told, made)?;
-            Ok(push_answer(told, other)?)
+fn edit_of(alloc: Global, text: &str) -> Option<Edit> {
+    match text.split_once(' ') {
+        Some((name, rest)) => put(alloc, name, filled(alloc, rest)?),
+        None => {
+            let name = Name::new(alloc, text).ok()?;
+            Some(Edit::Drop { name })
         }
     }
 }
 
-fn push_answer(told: &mut String, answer: Result<Edited, EditFault>) -> Result<(), AllocError> {
+fn put(alloc: Global, name: &str, text: Arc<Bytes>) -> Option<Edit> {
+    match Name::new(alloc, name) {
+        Ok(name) => Some(Edit::Put { name, text }),
+        Err(_) => {
+            drop(text);
+            None
+        }
+    }
+}
+
+/// The text of `SIZE BYTE`.
+fn filled(alloc: Global, text: &str) -> Option<Arc<Bytes>> {
+    let (size, byte) = text.split_once(' ')?;
+    let byte = byte.as_bytes().get(0).copied().unwrap_or(b' ');
+    let size = size.parse::<usize>().ok()?;
+    let bytes = vec![in alloc; byte; size].ok()?;
+    Arc::new(alloc, Bytes::from_vec(bytes)).ok()
+}
+
+/// Appends an edit, and tells the answer where it is not that the edit is made as the next one.
+fn edit(alloc: Global, log: &mut Log, told: &mut Told, made: &mut Made, text: &str) {
+    match edit_of(alloc, text) {
+        Some(edit) => tell_answer(told, made, log.append(alloc, edit)),
+        None => told.say("no edit\n"),
+    }
+}
+
+fn tell_answer(told: &mut Told, made: &mut Made, answer: Result<Edited, EditFault>) {
+    if let Ok(Edited::Made(version)) = answer {
+        made.last = version;
+        return;
+    }
+    tell_made(told, made);
     match answer {
         Ok(Edited::Made(version)) => write!(told, "made {version}\n"),
         Ok(Edited::Same(version)) => write!(told, "same {version}\n"),
@@ -95,58 +104,80 @@ fn text_of(bytes: &[u8]) -> &str {
     str::from_utf8(bytes).unwrap_or("no text")
 }
 
-fn look_up(
-    alloc: Global,
-    log: &Log,
-    told: &mut String,
-    word: &str,
-    rest: &str,
-) -> Result<(), Fail> {
+fn look_up(alloc: Global, log: &Log, told: &mut Told, word: &str, rest: &str) {
     match word {
-        "copy" => push_copy(alloc, told, rest),
-        "text" => push_text(alloc, log, told, rest),
-        "share" => push_shared(alloc, log, told, rest),
-        "entry" => {
-            let size = log.entry(rest.parse::<u32>()?).map(|edit| edit.size());
-            Ok(write!(told, "entry {rest}: {size:?}\n")?)
+        "copy" => tell_copy(alloc, told, rest),
+        "entry" => tell_entry(log, told, rest),
+        "name" => tell_name(log, told, rest),
+        _ => look_up_name(alloc, log, told, word, rest),
+    }
+}
+
+/// How many bytes the edit of a version puts.
+fn tell_entry(log: &Log, told: &mut Told, written: &str) {
+    let version = written.parse::<u32>().unwrap_or(0);
+    let size = match log.entry(version) {
+        Some(edit) => Some(edit.size()),
+        None => None,
+    };
+    write!(told, "entry {written}: {size:?}\n");
+}
+
+fn tell_name(log: &Log, told: &mut Told, written: &str) {
+    let place = written.parse::<usize>().unwrap_or(0);
+    let name = match log.name_at(place) {
+        Some(name) => name.as_str(),
+        None => "none",
+    };
+    write!(told, "name {written}: {name}\n");
+}
+
+fn tell_copy(alloc: Global, told: &mut Told, text: &str) {
+    match edit_of(alloc, text) {
+        Some(edit) => tell_copied(told, edit.copy(alloc)),
+        None => told.say("no edit\n"),
+    }
+}
+
+fn tell_copied(told: &mut Told, copy: Result<Edit, Memory>) {
+    match &copy {
+        Ok(Edit::Put { name, text }) => {
+            let text = text_of(text.get().as_slice());
+            write!(told, "copy of {}: <{text}>\n", name.as_str());
         }
-        _ => {
-            let name = log.name_at(rest.parse::<usize>()?);
-            Ok(write!(
-                told,
-                "name {rest}: {}\n",
-                name.map_or("none", |name| name.as_str())
-            )?)
-        }
+        Ok(Edit::Drop { name }) => write!(told, "copy of {}: a drop\n", name.as_str()),
+        Err(_) => told.say("want of memory\n"),
+    }
+    drop(copy);
+}
+
+fn look_up_name(alloc: Global, log: &Log, told: &mut Told, word: &str, written: &str) {
+    match Name::new(alloc, written) {
+        Ok(name) => look_up_text(log, told, word, &name),
+        Err(_) => told.say("no name\n"),
     }
 }
 
-fn push_copy(alloc: Global, told: &mut String, text: &str) -> Result<(), Fail> {
-    let edit = edit_of(alloc, text)?;
-    let copy = Box::new(alloc, edit.copy(alloc)?)?;
-    write!(told, "copy of {}:", copy.name().as_str())?;
-    match &*copy {
-        Edit::Put { text, .. } => write!(told, " <{}>\n", text_of(text.get().as_slice()))?,
-        Edit::Drop { .. } => told.push_str(" a drop\n")?,
+fn look_up_text(log: &Log, told: &mut Told, word: &str, name: &Name) {
+    match word {
+        "text" => tell_text(log, told, name),
+        _ => tell_shared(told, log.share_text(name)),
     }
-    Ok(())
 }
 
-fn push_text(alloc: Global, log: &Log, told: &mut String, written: &str) -> Result<(), Fail> {
-    let name = Name::new(alloc, written)?;
-    write!(told, "{written} {}:", log.stamp(&name))?;
-    match log.text(&name) {
-        Some(text) => write!(told, " <{}>\n", text_of(text))?,
-        None => told.push_str(" none\n")?,
+fn tell_text(log: &Log, told: &mut Told, name: &Name) {
+    write!(told, "{} {}:", name.as_str(), log.stamp(name));
+    match log.text(name) {
+        Some(text) => write!(told, " <{}>\n", text_of(text)),
+        None => told.say(" none\n"),
     }
-    Ok(())
 }
 
-fn push_shared(alloc: Global, log: &Log, told: &mut String, written: &str) -> Result<(), Fail> {
-    let name = Name::new(alloc, written)?;
-    match log.share_text(&name)? {
-        Some(text) => write!(told, "shared <{}>\n", text_of(text.get().as_slice()))?,
-        None => told.push_str("none\n")?,
+fn tell_shared(told: &mut Told, text: Result<Option<Arc<Bytes>>, Memory>) {
+    match &text {
+        Ok(Some(text)) => write!(told, "shared <{}>\n", text_of(text.get().as_slice())),
+        Ok(None) => told.say("none\n"),
+        Err(_) => told.say("want of memory\n"),
     }
-    Ok(())
+    drop(text);
 }

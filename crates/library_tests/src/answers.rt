@@ -1,13 +1,13 @@
 //! Questions about a library, and their answers.
 
-use crate::expressions::{class_told, kind_told, push_value, value_told};
+use crate::expressions::{class_told, kind_told, tell_value, value_told};
 use crate::library::{Library, closure};
 use crate::scopes::name_told;
 use crate::verdicts::{find, refuse, share, show_view};
 use include_closure::{flat_of, sees};
-use lf_terms::{Name, QName};
-use std::alloc::{AllocError, Global};
-use std::test::Fail;
+use lf_terms::{FlatSig, Memory, Name, Names, QName};
+use std::alloc::Global;
+use test_texts::Told;
 
 /// Tells the answer to a question:
 ///
@@ -17,19 +17,11 @@ use std::test::Fail;
 /// - `name VARIABLES : PATH`: what the path stands for, in the theory that is being built and among these variables;
 /// - `class M : A`, `kind M : A` and `value M : A`: what A stands for, or M as a value of the class that A stands for;
 /// - `refuse NAME` and `view NAME`: verdicts that are added; `find NAME` and `share NAME`.
-pub(crate) fn answered(
-    alloc: Global,
-    library: &mut Library,
-    told: &mut String,
-    line: &str,
-) -> Result<(), Fail> {
-    let (word, rest) = line.split_once(' ').ok_or("no question")?;
+pub(crate) fn answered(alloc: Global, library: &mut Library, told: &mut Told, line: &str) {
+    let (word, rest) = line.split_once(' ').unwrap_or(("", line));
     match word {
-        "closure" => closed(alloc, library, told, rest),
-        "brought" => {
-            let count = closure(alloc, &library.faces, rest)?.len();
-            Ok(write!(told, "{count}\n")?)
-        }
+        "closure" => tell_closure(told, rest, closure(alloc, &library.faces, rest)),
+        "brought" => tell_count(told, closure(alloc, &library.faces, rest)),
         "sees" => seen(alloc, library, told, rest),
         "flat" => flat(alloc, library, told, rest),
         "last" => last(alloc, library, told, rest),
@@ -40,55 +32,94 @@ pub(crate) fn answered(
         "refuse" => refuse(alloc, library, told, rest),
         "view" => show_view(alloc, library, told, rest),
         "find" => find(alloc, library, told, rest),
-        _ => share(alloc, library, told, rest),
+        "share" => share(alloc, library, told, rest),
+        _ => told.say("no question\n"),
     }
 }
 
-fn closed(alloc: Global, library: &Library, told: &mut String, text: &str) -> Result<(), Fail> {
-    let includes = closure(alloc, &library.faces, text)?;
-    write!(told, "{text}:")?;
-    for name in includes.as_slice() {
-        write!(told, " {}", name.as_str())?;
+fn tell_closure(told: &mut Told, text: &str, includes: Option<Names>) {
+    match includes {
+        Some(includes) => {
+            write!(told, "{text}:");
+            for name in includes.as_slice() {
+                write!(told, " {}", name.as_str());
+            }
+            told.say("\n");
+        }
+        None => told.say("no closure\n"),
     }
-    Ok(told.push_str("\n")?)
 }
 
-fn seen(alloc: Global, library: &Library, told: &mut String, text: &str) -> Result<(), Fail> {
-    let (name, through) = text.split_once(' ').ok_or("no theories")?;
-    let includes = closure(alloc, &library.faces, through)?;
-    let name = Name::new(alloc, name)?;
-    Ok(write!(told, "{}\n", sees(&includes, &name))?)
+fn tell_count(told: &mut Told, includes: Option<Names>) {
+    match includes {
+        Some(includes) => write!(told, "{}\n", includes.len()),
+        None => told.say("no closure\n"),
+    }
 }
 
-fn flat(alloc: Global, library: &Library, told: &mut String, text: &str) -> Result<(), Fail> {
-    let name = Name::new(alloc, text)?;
-    let signature = flat_of(alloc, &library.faces, &name)?;
-    write!(told, "{text} {}:", signature.len())?;
+fn seen(alloc: Global, library: &Library, told: &mut Told, text: &str) {
+    let (name, through) = text.split_once(' ').unwrap_or((text, ""));
+    match Name::new(alloc, name) {
+        Ok(name) => tell_seen(told, &name, closure(alloc, &library.faces, through)),
+        Err(_) => told.say("no name\n"),
+    }
+}
+
+fn tell_seen(told: &mut Told, name: &Name, includes: Option<Names>) {
+    match includes {
+        Some(includes) => write!(told, "{}\n", sees(&includes, name)),
+        None => told.say("no closure\n"),
+    }
+}
+
+/// The flat signature of a theory.
+fn flat_signature(alloc: Global, library: &Library, name: &str) -> Result<Box<FlatSig>, Memory> {
+    match Name::new(alloc, name) {
+        Ok(name) => Ok(Box::new(alloc, flat_of(alloc, &library.faces, &name)?)?),
+        Err(_) => Err(Memory),
+    }
+}
+
+fn flat(alloc: Global, library: &Library, told: &mut Told, name: &str) {
+    match flat_signature(alloc, library, name) {
+        Ok(signature) => tell_signature(told, name, &signature),
+        Err(_) => told.say("no signature\n"),
+    }
+}
+
+fn tell_signature(told: &mut Told, name: &str, signature: &FlatSig) {
+    write!(told, "{name} {}:", signature.len());
     for index in 0..signature.len() {
         if let Some(decl) = signature.at(index) {
-            told.push_str(" ")?;
-            push_constant(told, &decl.name)?;
+            told.say(" ");
+            tell_constant(told, &decl.name);
         }
     }
-    Ok(told.push_str("\n")?)
+    told.say("\n");
 }
 
-fn last(alloc: Global, library: &Library, told: &mut String, text: &str) -> Result<(), Fail> {
-    let name = Name::new(alloc, text)?;
-    let signature = flat_of(alloc, &library.faces, &name)?;
-    let decl = signature
-        .at(signature.len().saturating_sub(1))
-        .ok_or("no constant")?;
-    let value = decl.value.as_ref().ok_or("no value")?;
-    push_value(alloc, library, told, value)
+fn last(alloc: Global, library: &Library, told: &mut Told, name: &str) {
+    match flat_signature(alloc, library, name) {
+        Ok(signature) => tell_last(alloc, library, told, &signature),
+        Err(_) => told.say("no signature\n"),
+    }
+}
+
+fn tell_last(alloc: Global, library: &Library, told: &mut Told, signature: &FlatSig) {
+    match signature.at(signature.len().saturating_sub(1)) {
+        Some(decl) => match &decl.value {
+            Some(value) => tell_value(alloc, library, told, value),
+            None => told.say("no value\n"),
+        },
+        None => told.say("no constant\n"),
+    }
 }
 
 /// The theory of a constant and its path, with dots between.
-pub(crate) fn push_constant(told: &mut String, name: &QName) -> Result<(), AllocError> {
-    told.push_str(name.theory.as_str())?;
+pub(crate) fn tell_constant(told: &mut Told, name: &QName) {
+    told.say(name.theory.as_str());
     for part in name.path.as_slice() {
-        told.push_str(".")?;
-        told.push_str(part.as_str())?;
+        told.say(".");
+        told.say(part.as_str());
     }
-    Ok(())
 }

@@ -5,8 +5,8 @@ use lf_terms::{Arc, FlatSig, Name, Names, Sequence};
 use mmt_interface::{Faces, Interface, TheoryFace, Verdict};
 use names::Scope;
 use std::alloc::Global;
-use std::test::Fail;
-use test_texts::{Case, signature};
+use test_texts::found::signature;
+use test_texts::{Case, succeeds};
 
 /// What is shown, and what a theory that is being built has of its own and includes.
 #[derive(Drop)]
@@ -24,92 +24,157 @@ impl Library {
             faces: &self.faces,
         }
     }
+
+    /// Whether what a case shows could be shown, and what it includes be included.
+    fn is_filled(&mut self, alloc: Global, case: &Case<'_>) -> bool {
+        are_shown(alloc, &mut self.faces, case)
+            && are_included(
+                alloc,
+                &self.faces,
+                &mut self.includes,
+                case.behind("within"),
+            )
+    }
 }
 
 /// The file `own` has the own constants of the theory that is being built, and `within` names what it includes. Every other file is a
 /// theory that is shown.
-pub(crate) fn library_of(alloc: Global, case: &Case<'_>) -> Result<Box<Library>, Fail> {
-    let own = signature(alloc, own_of(case)?)?;
-    let mut faces = Box::new(alloc, Faces::new(alloc))?;
-    show_all(alloc, &mut faces, case)?;
-    let includes = closure(alloc, &faces, case.behind("within"))?;
-    Ok(Box::new(
-        alloc,
-        Library {
-            faces,
-            own,
-            includes,
-        },
-    )?)
+pub(crate) fn library_of(alloc: Global, case: &Case<'_>) -> Option<Box<Library>> {
+    let mut library = empty_library(alloc, own_of(case))?;
+    if library.is_filled(alloc, case) {
+        Some(library)
+    } else {
+        drop(library);
+        None
+    }
+}
+
+fn empty_library(alloc: Global, own: &str) -> Option<Box<Library>> {
+    let faces = Box::new(alloc, Faces::new(alloc)).ok()?;
+    match signature(alloc, own) {
+        Some(own) => {
+            let includes = Names::new(alloc);
+            let library = Library {
+                faces,
+                own,
+                includes,
+            };
+            Box::new(alloc, library).ok()
+        }
+        None => {
+            drop(faces);
+            None
+        }
+    }
 }
 
 /// The own constants.
-fn own_of<'a>(case: &'a Case<'_>) -> Result<&'a str, Fail> {
+fn own_of<'a>(case: &'a Case<'_>) -> &'a str {
     for file in case.files.as_slice() {
         if file.0 == "own" {
-            return Ok(str::from_utf8(file.1.as_slice())?);
+            return text_of(file.1.as_slice());
         }
     }
-    Ok("")
+    ""
 }
 
-/// Shows the theories of a case.
-fn show_all(alloc: Global, faces: &mut Faces, case: &Case<'_>) -> Result<(), Fail> {
+fn text_of(bytes: &[u8]) -> &str {
+    str::from_utf8(bytes).unwrap_or("no text")
+}
+
+/// Whether the theories of a case could be shown.
+fn are_shown(alloc: Global, faces: &mut Faces, case: &Case<'_>) -> bool {
     for file in case.files.as_slice() {
-        if file.0 != "own" {
-            accept(alloc, faces, file.0, str::from_utf8(file.1.as_slice())?)?;
+        if file.0 != "own" && !is_shown(alloc, faces, file.0, text_of(file.1.as_slice())) {
+            return false;
         }
     }
-    add_chain(alloc, faces, case.behind("chain"))?;
-    add_star(alloc, faces, case.behind("star"))
+    is_chain(alloc, faces, case.behind("chain")) && is_star(alloc, faces, case.behind("star"))
 }
 
-/// Shows so many theories, each of which includes the last.
-fn add_chain(alloc: Global, faces: &mut Faces, count: &str) -> Result<(), Fail> {
+/// Whether so many theories could be shown, each of which includes the last.
+fn is_chain(alloc: Global, faces: &mut Faces, count: &str) -> bool {
+    let mut all = true;
     for i in 0..count.parse::<u32>().unwrap_or(0) {
-        let named = format!(in alloc; "T{i} T{}", i.wrapping_sub(1))?;
-        let first = if i == 0 { "T0" } else { named.as_str() };
-        accept(alloc, faces, first, "")?;
+        all = all && is_linked(alloc, faces, i);
     }
-    Ok(())
+    all
 }
 
-/// Shows so many theories with a constant each, and one more that includes all of them.
-fn add_star(alloc: Global, faces: &mut Faces, count: &str) -> Result<(), Fail> {
-    let mut named = String::from_str(alloc, "U")?;
+fn is_linked(alloc: Global, faces: &mut Faces, i: u32) -> bool {
+    if i == 0 {
+        return is_shown(alloc, faces, "T0", "");
+    }
+    match format!(in alloc; "T{i} T{}", i.wrapping_sub(1)) {
+        Ok(named) => is_shown(alloc, faces, named.as_str(), ""),
+        Err(_) => false,
+    }
+}
+
+/// Whether so many theories with a constant each could be shown, and one more that includes all of them.
+fn is_star(alloc: Global, faces: &mut Faces, count: &str) -> bool {
+    let mut named = String::new(alloc);
+    let mut all = named.push_str("U").is_ok();
     for i in 0..count.parse::<u32>().unwrap_or(0) {
-        let name = format!(in alloc; "T{i}")?;
-        let own = format!(in alloc; "T{i}.c : type")?;
-        accept(alloc, faces, name.as_str(), own.as_str())?;
-        write!(named, " T{i}")?;
+        all = all && is_ray(alloc, faces, i) && write!(named, " T{i}").is_ok();
     }
-    if count.is_empty() {
-        return Ok(());
+    all && (count.is_empty() || is_shown(alloc, faces, named.as_str(), "U.c : type"))
+}
+
+fn is_ray(alloc: Global, faces: &mut Faces, i: u32) -> bool {
+    let name = format!(in alloc; "T{i}");
+    let own = format!(in alloc; "T{i}.c : type");
+    match (&name, &own) {
+        (Ok(name), Ok(own)) => is_shown(alloc, faces, name.as_str(), own.as_str()),
+        _ => false,
     }
-    accept(alloc, faces, named.as_str(), "U.c : type")
 }
 
 /// The closure of these inclusions, in their order.
-pub(crate) fn closure(alloc: Global, faces: &Faces, inclusions: &str) -> Result<Names, Fail> {
+pub(crate) fn closure(alloc: Global, faces: &Faces, inclusions: &str) -> Option<Names> {
     let mut includes = Names::new(alloc);
-    for word in inclusions.split_whitespace() {
-        let theory = Name::new(alloc, word)?;
-        add(alloc, faces, &mut includes, &theory)?;
+    if are_included(alloc, faces, &mut includes, inclusions) {
+        Some(includes)
+    } else {
+        drop(includes);
+        None
     }
-    Ok(includes)
 }
 
-/// Shows a theory with these own constants. Behind its name stand those that it includes.
-fn accept(alloc: Global, faces: &mut Faces, named: &str, text: &str) -> Result<(), Fail> {
-    let (name, inclusions) = named.split_once(' ').unwrap_or((named, ""));
-    let face = face_of(alloc, faces, name, inclusions, text)?;
-    let name = Name::new(alloc, name)?;
-    let face = Box::into_inner(face);
-    let interface = Arc::new(alloc, Interface::Theory { face, size: 0 })?;
-    if !is_added(faces, name, Verdict::Accepted(interface)) {
-        return Err("not added".into());
+fn are_included(alloc: Global, faces: &Faces, includes: &mut Names, inclusions: &str) -> bool {
+    let mut all = true;
+    for word in inclusions.split_whitespace() {
+        all = all && is_included(alloc, faces, includes, word);
     }
-    Ok(())
+    all
+}
+
+fn is_included(alloc: Global, faces: &Faces, includes: &mut Names, word: &str) -> bool {
+    match Name::new(alloc, word) {
+        Ok(theory) => add(alloc, faces, includes, &theory).is_ok(),
+        Err(_) => false,
+    }
+}
+
+/// Whether a theory with these own constants could be shown. Behind its name stand those that it includes.
+fn is_shown(alloc: Global, faces: &mut Faces, named: &str, text: &str) -> bool {
+    let (name, inclusions) = named.split_once(' ').unwrap_or((named, ""));
+    match shown(alloc, faces, name, inclusions, text) {
+        Some(verdict) => is_added(alloc, faces, name, verdict),
+        None => false,
+    }
+}
+
+/// That a theory is accepted.
+fn shown(
+    alloc: Global,
+    faces: &Faces,
+    name: &str,
+    inclusions: &str,
+    text: &str,
+) -> Option<Verdict> {
+    let face = Box::into_inner(face_of(alloc, faces, name, inclusions, text)?);
+    Some(Verdict::Accepted(Arc::new(alloc, Interface::Theory { face, size: 0 }).ok()?))
 }
 
 fn face_of(
@@ -118,25 +183,47 @@ fn face_of(
     name: &str,
     inclusions: &str,
     text: &str,
-) -> Result<Box<TheoryFace>, Fail> {
-    let name = Name::new(alloc, name)?;
-    let includes = closure(alloc, faces, inclusions)?;
+) -> Option<Box<TheoryFace>> {
     let own = signature(alloc, text)?;
-    let face = TheoryFace {
-        name,
-        own: Box::into_inner(own),
-        includes,
-        structs: Sequence::new(alloc),
-    };
-    Ok(Box::new(alloc, face)?)
+    match closure(alloc, faces, inclusions) {
+        Some(includes) => named_face(alloc, name, own, includes),
+        None => {
+            drop(own);
+            None
+        }
+    }
 }
 
-/// Whether a verdict is added. One that is not is let go.
-pub(crate) fn is_added(faces: &mut Faces, name: Name, verdict: Verdict) -> bool {
-    match faces.push(name, verdict) {
-        Ok(()) => true,
-        Err(fault) => {
-            drop(fault);
+fn named_face(
+    alloc: Global,
+    name: &str,
+    own: Box<FlatSig>,
+    includes: Names,
+) -> Option<Box<TheoryFace>> {
+    match Name::new(alloc, name) {
+        Ok(name) => {
+            let face = TheoryFace {
+                name,
+                own: Box::into_inner(own),
+                includes,
+                structs: Sequence::new(alloc),
+            };
+            Box::new(alloc, face).ok()
+        }
+        Err(_) => {
+            drop(own);
+            drop(includes);
+            None
+        }
+    }
+}
+
+/// Whether a verdict is added under a name.
+pub(crate) fn is_added(alloc: Global, faces: &mut Faces, name: &str, verdict: Verdict) -> bool {
+    match Name::new(alloc, name) {
+        Ok(name) => succeeds(faces.push(name, verdict)),
+        Err(_) => {
+            drop(verdict);
             false
         }
     }

@@ -13,9 +13,8 @@ mod verdicts;
 use answers::answered;
 use library::{Library, library_of};
 use std::alloc::Global;
-use std::fs;
 use std::test::Fail;
-use test_texts::{Case, read_case};
+use test_texts::{Case, Tells, Told, tell_files};
 
 /// The files, in order.
 const FILES: &[&str] = &[
@@ -25,42 +24,26 @@ const FILES: &[&str] = &[
     "verdicts.cases",
 ];
 
-/// What is answered to the questions of a case.
-fn told(alloc: Global, case: &Case<'_>) -> Result<String, Fail> {
-    let questions = str::from_utf8(case.input.as_slice())?;
-    let mut library = library_of(alloc, case)?;
-    let mut told = format!(in alloc; "=={}\n", case.head)?;
-    answer_all(alloc, &mut library, &mut told, questions)?;
-    Ok(told)
-}
-
-fn answer_all(
-    alloc: Global,
-    library: &mut Library,
-    told: &mut String,
-    questions: &str,
-) -> Result<(), Fail> {
+/// Tells what is answered to questions.
+fn answer_all(alloc: Global, library: &mut Library, told: &mut Told, questions: &str) {
     for line in questions.lines() {
-        answered(alloc, library, told, line)?;
+        answered(alloc, library, told, line);
     }
-    Ok(())
 }
 
-/// Prints what is answered to the cases of a file.
-fn print_all<R: Print>(rt: &R, alloc: Global, text: &str) -> Result<(), Fail> {
-    let text = text.strip_suffix('\n').unwrap_or(text);
-    for written in text.split("\n==").skip(1) {
-        let case = read_case(alloc, written)?;
-        let told = told(alloc, &case)?;
-        print!(rt; "{}", told.as_str())?;
+struct Questions;
+
+impl Tells for Questions {
+    fn tell(&self, alloc: Global, case: &Case<'_>, told: &mut Told) {
+        write!(told, "=={}\n", case.head);
+        let questions = str::from_utf8(case.input.as_slice()).unwrap_or("no text");
+        match library_of(alloc, case) {
+            Some(mut library) => answer_all(alloc, &mut library, told, questions),
+            None => told.say("no library\n"),
+        }
     }
-    Ok(())
 }
 
 fn main(rt: HostRuntime) -> Result<(), Fail> {
-    for &file in FILES {
-        let text = fs::read_to_string(&rt, file)?;
-        print_all(&rt, rt.alloc(), text.as_str())?;
-    }
-    Ok(())
+    tell_files(&rt, rt.alloc(), &Questions, FILES)
 }

@@ -1,114 +1,126 @@
 //! Verdicts that are added, found and shared.
 
 use crate::library::{Library, is_added};
-use lf_terms::{Arc, HeadMap, Name, Span};
+use lf_terms::{Arc, HeadMap, Memory, Name, Span};
 use mmt_interface::{Interface, Refusal, Rule, Verdict, ViewFace};
-use std::alloc::{AllocError, Global};
-use std::test::Fail;
-use test_texts::constant;
+use std::alloc::Global;
+use test_texts::Told;
+use test_texts::found::constant;
 
 /// Refuses a module.
-pub(crate) fn refuse(
-    alloc: Global,
-    library: &mut Library,
-    told: &mut String,
-    name: &str,
-) -> Result<(), Fail> {
-    let label = constant(alloc, "R")?.path;
+pub(crate) fn refuse(alloc: Global, library: &mut Library, told: &mut Told, name: &str) {
+    let verdict = refusal(alloc);
+    add(alloc, library, told, name, verdict);
+}
+
+fn refusal(alloc: Global) -> Option<Verdict> {
     let refusal = Refusal {
         span: Span { from: 5, to: 6 },
         rule: Rule::WrongName,
-        label,
+        label: constant(alloc, "R")?.path,
     };
-    let verdict = Verdict::Refused(Arc::new(alloc, refusal)?);
-    added(alloc, library, told, name, verdict)
+    Some(Verdict::Refused(Arc::new(alloc, refusal).ok()?))
 }
 
 /// Accepts a view from A to D without images.
-pub(crate) fn show_view(
-    alloc: Global,
-    library: &mut Library,
-    told: &mut String,
-    name: &str,
-) -> Result<(), Fail> {
-    let domain = Name::new(alloc, "A")?;
-    let codomain = Name::new(alloc, "D")?;
-    let view = Interface::View(ViewFace {
-        name: Name::new(alloc, name)?,
+pub(crate) fn show_view(alloc: Global, library: &mut Library, told: &mut Told, name: &str) {
+    let verdict = view(alloc, name);
+    add(alloc, library, told, name, verdict);
+}
+
+fn view(alloc: Global, name: &str) -> Option<Verdict> {
+    let face = face_of(alloc, name)?;
+    Some(Verdict::Accepted(Arc::new(alloc, Interface::View(face)).ok()?))
+}
+
+fn face_of(alloc: Global, name: &str) -> Option<ViewFace> {
+    let name = Name::new(alloc, name).ok()?;
+    let domain = Name::new(alloc, "A").ok()?;
+    let codomain = Name::new(alloc, "D").ok()?;
+    Some(ViewFace {
+        name,
         domain,
         codomain,
         map: HeadMap::new(alloc),
-    });
-    let verdict = Verdict::Accepted(Arc::new(alloc, view)?);
-    added(alloc, library, told, name, verdict)
+    })
 }
 
-fn added(
+fn add(
     alloc: Global,
     library: &mut Library,
-    told: &mut String,
+    told: &mut Told,
     name: &str,
-    verdict: Verdict,
-) -> Result<(), Fail> {
-    let name = Name::new(alloc, name)?;
-    let answer = if is_added(&mut library.faces, name, verdict) {
-        "added"
-    } else {
-        "there is one"
-    };
-    Ok(write!(told, "{answer}, of {}\n", library.faces.len())?)
+    verdict: Option<Verdict>,
+) {
+    match verdict {
+        Some(verdict) => {
+            let added = is_added(alloc, &mut library.faces, name, verdict);
+            let answer = if added { "added" } else { "there is one" };
+            write!(told, "{answer}, of {}\n", library.faces.len());
+        }
+        None => told.say("no verdict\n"),
+    }
 }
 
 /// Whether there is anything under a name, a view, and a theory.
-pub(crate) fn find(
-    alloc: Global,
-    library: &Library,
-    told: &mut String,
-    written: &str,
-) -> Result<(), Fail> {
-    let name = Name::new(alloc, written)?;
-    let is_there = library.faces.get(&name).is_some();
-    let is_view = library.faces.view(&name).is_some();
-    let is_theory = library.faces.theory(&name).is_some();
-    Ok(write!(
+pub(crate) fn find(alloc: Global, library: &Library, told: &mut Told, written: &str) {
+    match Name::new(alloc, written) {
+        Ok(name) => tell_finds(library, told, &name),
+        Err(_) => told.say("no name\n"),
+    }
+}
+
+fn tell_finds(library: &Library, told: &mut Told, name: &Name) {
+    let is_there = library.faces.get(name).is_some();
+    let is_view = library.faces.view(name).is_some();
+    let is_theory = library.faces.theory(name).is_some();
+    let written = name.as_str();
+    write!(
         told,
         "{written} {is_there} view {is_view} theory {is_theory}\n"
-    )?)
+    );
 }
 
 /// What a verdict that is shared tells.
-pub(crate) fn share(
-    alloc: Global,
-    library: &Library,
-    told: &mut String,
-    written: &str,
-) -> Result<(), Fail> {
-    let name = Name::new(alloc, written)?;
-    let verdict = library.faces.get(&name).ok_or("no verdict")?.share()?;
-    Ok(push_verdict(told, &verdict)?)
+pub(crate) fn share(alloc: Global, library: &Library, told: &mut Told, written: &str) {
+    match Name::new(alloc, written) {
+        Ok(name) => tell_shared(told, library.faces.get(&name)),
+        Err(_) => told.say("no name\n"),
+    }
 }
 
-fn push_verdict(told: &mut String, verdict: &Verdict) -> Result<(), AllocError> {
+fn tell_shared(told: &mut Told, verdict: Option<&Verdict>) {
     match verdict {
-        Verdict::Accepted(interface) => match interface.get() {
-            Interface::Theory { .. } => told.push_str("theory\n"),
-            Interface::View(view) => write!(
+        Some(verdict) => tell_verdict(told, verdict.share()),
+        None => told.say("no verdict\n"),
+    }
+}
+
+fn tell_verdict(told: &mut Told, verdict: Result<Verdict, Memory>) {
+    match &verdict {
+        Ok(Verdict::Accepted(interface)) => tell_interface(told, interface.get()),
+        Ok(Verdict::Refused(refusal)) => tell_refusal(told, refusal.get()),
+        Err(_) => told.say("want of memory\n"),
+    }
+    drop(verdict);
+}
+
+fn tell_interface(told: &mut Told, interface: &Interface) {
+    match interface {
+        Interface::Theory { .. } => told.say("theory\n"),
+        Interface::View(view) => {
+            write!(
                 told,
                 "view from {} to {}\n",
                 view.domain.as_str(),
                 view.codomain.as_str()
-            ),
-        },
-        Verdict::Refused(refusal) => {
-            let Refusal { span, rule, .. } = refusal.get();
-            write!(
-                told,
-                "refused {}-{} {} {}\n",
-                span.from,
-                span.to,
-                rule.number(),
-                rule.word()
-            )
+            );
         }
     }
+}
+
+fn tell_refusal(told: &mut Told, refusal: &Refusal) {
+    let Refusal { span, rule, .. } = refusal;
+    let (number, word) = (rule.number(), rule.word());
+    write!(told, "refused {}-{} {number} {word}\n", span.from, span.to);
 }

@@ -5,13 +5,25 @@
 //! constant: of theory `t`, or `T.c` and `T.s.c` of theory T. `#i` is the variable with i binders between it and its own.
 #![tactic(auto)]
 
+mod calls;
 mod cases;
 mod declarations;
 mod names;
 mod reader;
 mod terms;
+mod told;
+mod wanted;
 
+pub use calls::succeeds;
 pub use cases::{Case, read_case};
-pub use declarations::{context, map, signature};
-pub use names::constant;
-pub use terms::{class, family, kind, object, simple, spine, value};
+pub use told::{Tells, Told, tell_files};
+pub use wanted::{
+    class, constant, context, family, kind, map, object, signature, simple, spine, value,
+};
+
+/// What texts are of, or nothing.
+pub mod found {
+    pub use crate::declarations::{context, map, signature};
+    pub use crate::names::constant;
+    pub use crate::terms::{class, family, kind, object, simple, spine, value};
+}
