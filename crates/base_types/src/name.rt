@@ -13,7 +13,6 @@ use crate::short::Short;
 use identifiers::is_identifier;
 use std::alloc::{AllocError, Global};
 use std::cmp::Ordering;
-use std::default::MadeWith;
 use std::hash::{Hash, Hasher};
 use std::marker::Model;
 use std::sync::ArcStr;
@@ -121,15 +120,6 @@ impl Name {
             Text::Shared(text) => Text::Shared(text.clone()?),
         };
         Ok(Name { text })
-    }
-}
-
-impl MadeWith<Global> for Name {
-    /// The name `x`. It fills the places of a `SmallVec` that hold no name yet.
-    fn made_with(_alloc: Global) -> Name {
-        Name {
-            text: Text::Short(Short::filler()),
-        }
     }
 }
 

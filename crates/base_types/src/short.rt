@@ -1,5 +1,5 @@
 //! Texts of a few bytes, which stand in the value itself.
-ghost use Rattle.std.specs.Prelude.{◌≡◌, ◌↔◌, ◌<◌, codes, length, IfSome, IsNone};
+ghost use Rattle.std.specs.Prelude.{◌≡◌, ◌↔◌, ◌<◌, length, IfSome, IsNone};
 
 use std::marker::Model;
 
@@ -22,16 +22,6 @@ impl Model for Short {
 }
 
 impl Short {
-    /// The text `x`.
-    pub(crate) fn filler() -> Short
-        ensures { result ≡ codes "x" }
-    {
-        Short {
-            bytes: *b"x\0\0\0\0\0\0\0\0\0\0\0\0\0",
-            len: 1,
-        }
-    }
-
     /// The same text. None where it has more than 14 bytes.
     pub(crate) fn new(text: &str) -> Option<Short>
         ensures some { IfSome result (λ short. short ≡ text.now) }

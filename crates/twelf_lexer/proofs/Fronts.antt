@@ -1,5 +1,5 @@
 -- Fronts of a text whose bytes pass a test.
-use Rattle.std.proofs.Common.{◌≡◌, ℕ, suc, ◌+◌, ◌-◌, ◌≤◌, ◌<◌, Bool, true, false, ◌&&◌, List, [], ◌∷◌, length, take, drop, get_or, refl, ap, ◌∙◌, arith, drop-cons, get_or-drop, length-drop, drop_of_length-le}
+use Rattle.std.proofs.Common.{◌≡◌, ℕ, ◌+◌, ◌-◌, ◌≤◌, ◌<◌, Bool, true, false, ◌&&◌, List, [], length, take, drop, get_or, refl, ap, ◌∙◌, arith, get_or-drop, length-drop, drop_of_length-le}
 use Rattle.std.specs.List.{list_all, slice_range}
 use Rattle.std.proofs.lemmas.List.Folds.{list_all_more}
 use Rattle.text_meaning.specs.Bytes.{begins}

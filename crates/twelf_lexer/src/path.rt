@@ -1,5 +1,5 @@
 //! The names of identifiers.
-ghost use Rattle.std.specs.Prelude.{◌≡◌, ◌≤◌, ℕ, List, true, false, drop, IsCharBoundary, IfOk, IsTrue};
+ghost use Rattle.std.specs.Prelude.{◌≡◌, ◌≤◌, ◌<◌, ℕ, List, true, false, drop, length, IsCharBoundary, IfOk, IsTrue};
 ghost use Rattle.std.specs.List.{list_any, slice_range};
 ghost use Rattle.name_meaning.specs.Identifiers as identifiers;
 ghost use Rattle.text_meaning.specs.Tokens.{Ident};
@@ -47,16 +47,25 @@ fn path(
     ensures free { IfOk result (λ path. list_any identifiers.is_reserved path ≡ false) }
 {
     let mut end = run_end(text.as_bytes(), at);
-    let mut path = Path::new(alloc, name(names, text, at, end)?)?;
+    let mut path = Vec::new(alloc);
+    path.push(name(names, text, at, end)?)?;
     while end < to {
         let start = end + 1;
         end = run_end(text.as_bytes(), start);
-        let name = name(names, text, start, end)?;
-        if let Err(_) = path.push(name) {
-            return Err(Memory);
-        }
+        path.push(name(names, text, start, end)?)?;
     }
-    Ok(path)
+    of_names(alloc, path.as_slice())
+}
+
+/// The path of names, of which there is one at least.
+fn of_names(alloc: Global, names: &[Name]) -> Result<Path, Memory>
+    requires { 0 < length names.now }
+    ensures { IfOk result (λ path. path ≡ names.now) }
+{
+    match names.split_first() {
+        Some((first, more)) => Path::of(alloc, first, more),
+        None => unreachable!(),
+    }
 }
 
 /// The name of a run that is no reserved word.
