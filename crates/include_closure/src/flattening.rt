@@ -1,18 +1,22 @@
 //! Flat signatures.
-ghost use Rattle.std.specs.Prelude.{◌≡◌, ◌∷◌, ◌++◌, [], IfOk, OnOk};
+ghost use Rattle.std.specs.Prelude.{◌≡◌, ◌∷◌, ◌++◌, [], IfOk, None, OnOk};
+ghost use Rattle.lf_meaning.specs.Signatures.{declaration_of};
 ghost use Rattle.term_trees.specs.Readings.{read_declaration, read_signature};
 ghost use Rattle.library_meaning.specs.Faces as meaning;
 ghost use Rattle.library_meaning.specs.Faces.{own_part};
+ghost use Rattle.link_laws.proofs.Onces.{Once};
+ghost use Rattle.mmt_interface.specs.CoherentFaces.{AreCoherent};
 ghost use Rattle.mmt_interface.specs.Readings.{environment_of};
 
-use lf_terms::{FlatDecl, FlatSig, Memory, Name};
+use lf_terms::{FlatDecl, FlatSig, Memory, Name, PushFault};
 use mmt_interface::Faces;
 use std::alloc::Global;
 
 /// The flat signature of an accepted theory: the own parts of what it includes, in order, and then its own. Its
-/// declarations are copies, which grow with their terms. Of a module that is no accepted theory it is empty. In coherent
-/// faces no name comes twice; where one did there would be no such signature, and the answer would be want of memory.
+/// declarations are copies, which grow with their terms. Of a module that is no accepted theory it is empty. The faces are
+/// coherent, so no name comes twice: want of memory is only an allocation that failed.
 pub fn flat_of(alloc: Global, faces: &Faces, theory: &Name) -> Result<FlatSig, Memory>
+    requires coherent { AreCoherent faces.now }
     ensures { IfOk result (λ signature. read_signature signature ≡ meaning.flat_of (environment_of faces.now) theory.now) }
 {
     let mut signature = FlatSig::new(alloc);
@@ -25,13 +29,14 @@ pub fn flat_of(alloc: Global, faces: &Faces, theory: &Name) -> Result<FlatSig, M
     Ok(signature)
 }
 
-/// Appends the own part of an accepted theory.
+/// Appends the own part of an accepted theory, of which no name is there yet.
 fn add_own(
     alloc: Global,
     faces: &Faces,
     signature: &mut FlatSig,
     theory: &Name,
 ) -> Result<(), Memory>
+    requires { Once (read_signature signature.old ++ own_part (environment_of faces.now) theory.now) }
     ensures { OnOk result (read_signature signature.new ≡ read_signature signature.old ++ own_part (environment_of faces.now) theory.now) }
 {
     match faces.theory(theory) {
@@ -40,8 +45,9 @@ fn add_own(
     }
 }
 
-/// Appends declarations.
+/// Appends declarations, of which no name is there yet.
 fn add_declarations(alloc: Global, signature: &mut FlatSig, own: &FlatSig) -> Result<(), Memory>
+    requires { Once (read_signature signature.old ++ read_signature own.now) }
     ensures { OnOk result (read_signature signature.new ≡ read_signature signature.old ++ read_signature own.now) }
 {
     for index in 0..own.len() {
@@ -52,16 +58,17 @@ fn add_declarations(alloc: Global, signature: &mut FlatSig, own: &FlatSig) -> Re
     Ok(())
 }
 
-/// Appends a copy of a declaration.
+/// Appends a copy of a declaration of a new name.
 fn push_copy(alloc: Global, signature: &mut FlatSig, decl: &FlatDecl) -> Result<(), Memory>
+    requires { declaration_of (read_signature signature.old) (read_declaration decl.now).name ≡ None }
     ensures { OnOk result (read_signature signature.new ≡ read_signature signature.old ++ read_declaration decl.now ∷ []) }
 {
-    let copied = decl.copy(alloc)?;
-    match signature.push(copied) {
+    match signature.push(decl.copy(alloc)?) {
         Ok(()) => Ok(()),
-        Err(fault) => {
-            drop(fault);
+        Err(PushFault::Memory(copied)) => {
+            drop(copied);
             Err(Memory)
         }
+        Err(PushFault::Twice(_)) => unreachable!(),
     }
 }

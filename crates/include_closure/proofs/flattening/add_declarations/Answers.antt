@@ -1,9 +1,10 @@
-use Rattle.std.proofs.Common.{◌≡◌, ◌∙◌, suc, ◌+◌, [], ◌∷◌, ◌++◌, take, append_assoc, refl, sym, ap, arith}
+use Rattle.std.proofs.Common.{◌≡◌, ◌∙◌, suc, ◌+◌, [], ◌∷◌, ◌++◌, take, append_assoc, None, refl, sym, ap, subst, arith}
 use Rattle.std.proofs.lemmas.List.{length-map}
 use Rattle.list_laws.proofs.Places.{take_more}
-use Rattle.lf_meaning.specs.Signatures.{Signature}
+use Rattle.lf_meaning.specs.Signatures.{Signature, declaration_of}
 use Rattle.term_trees.specs.Readings.{read_declaration, read_signature}
 use Rattle.include_closure.proofs.Adding.{whole_taken}
+use Rattle.include_closure.proofs.NewNames.{next_new}
 use Rattle.include_closure.proofs.flattening.add_declarations.Goals as goal
 use Rattle.include_closure.proofs.flattening.add_declarations.Goals.{in-Some+in_ok-push_copy, in_default}
 
@@ -35,3 +36,9 @@ returns c =
     let long = c.len-index-end.ensures.len in
     let within = c.loop-index.auto.index-end in
     c.loop-index.invariant ∙ ap (λ z. read_signature c.args.signature.now ++ z) (whole_taken own c.loop-index.index (omega (arith, counted, long)) (omega (arith, counted, long, within)))
+
+pub push_copy-requires : goal.push_copy-requires
+push_copy-requires c =
+    let d = read_declaration c.in-Some.decl.now in
+    subst (λ (z : Signature). declaration_of z d.name ≡ None) (sym c.loop-index.invariant)
+    (next_new (read_signature c.args.signature.now) (read_signature c.args.own.now) c.loop-index.index d (sym c.in-Some.ensures.meaning) c.requires)
