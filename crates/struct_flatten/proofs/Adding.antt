@@ -1,25 +1,17 @@
 -- Constants that are added behind those of a theory.
-use Rattle.std.proofs.Common.{◌≡◌, ◌≢◌, ℕ, suc, ◌≤◌, List, [], ◌∷◌, ◌++◌, take, drop, length, slice_get, append_assoc, Option, Some, None, is_some, Result, Err, inl, refl, sym, ap, ◌∙◌, subst, true≢false, arith}
-use Rattle.std.specs.Prelude.{◌↔◌, IfErr, IsErrOf, IsSome, ⊤}
+use Rattle.std.proofs.Common.{◌≡◌, ℕ, suc, ◌≤◌, List, [], ◌∷◌, ◌++◌, take, drop, length, slice_get, append_assoc, Some, None, refl, sym, ap, ◌∙◌, subst, arith}
 use Rattle.std.specs.List.{cons_option}
 use Rattle.std.specs.Option.{option_map}
 use Rattle.std.proofs.lemmas.List.Elements.{filter_map-append}
 use Rattle.list_laws.proofs.Lists.{rest_same}
-use Rattle.list_laws.proofs.Members.{Member}
-use Rattle.list_laws.proofs.Options.{some_mapped}
 use Rattle.list_laws.proofs.Places.{take_drop, take_more, take_take}
 use Rattle.name_meaning.specs.Names.{Name}
 use Rattle.lf_meaning.specs.Terms.{Constant}
 use Rattle.lf_meaning.specs.Signatures.{Declaration, Signature, declaration_of}
 use Rattle.lf_meaning.specs.HeadMaps.{Image, HeadMap, image_of}
 use Rattle.link_meaning.specs.Induced.{induced_with}
-use Rattle.link_laws.proofs.Onces.{Once, declaration_member, once_apart, once_left}
-use Rattle.term_trees.specs.declared.flat_decl.FlatDecl.{FlatDecl}
-use Rattle.term_trees.specs.Readings.{read_constant, read_declaration, read_signature}
-use Rattle.lf_terms.specs.Tables.{declared, handed_back}
-use Rattle.lf_terms.specs.declared.flat_sig.PushFault.{PushFault}
-use Rattle.lf_terms.specs.declared.flat_sig.PushFault.TheVariants.{Twice}
-use Rattle.lf_terms.proofs.Lookup.{declared_read}
+use Rattle.link_laws.proofs.Onces.{Once, once_left}
+use Rattle.include_closure.proofs.NewNames.{last_new}
 use Rattle.struct_flatten.specs.Steps.{constant_into, induced_by, induced_into}
 
 module _ {A : Type 0} where
@@ -54,25 +46,10 @@ once_so_far here structure along before now declarations i d there e once =
     ∙ ap (λ z. z ++ induce (drop (suc i) declarations)) (sym more) in
     once_left (now ++ induce (d ∷ [])) (induce (drop (suc i) declarations)) (subst Once whole once)
 
--- A constant under whose name nothing is declared.
-undeclared : (own : Signature) (c : Constant) → ((d : Declaration) → Member d own → d.name ≢ c) → declaration_of own c ≡ None
-undeclared own c f = by (declaration_of own c) refl
-  where
-    by : (o : Option Declaration) → declaration_of own c ≡ o → o ≡ None
-    by None h = refl
-    by (Some d) h = let m = declaration_member own c d h in absurd (f d m.0 m.1)
-
 -- So the next one is new.
 pub induced_new : (here structure : Name) (along : HeadMap) (own : Signature) (d : Declaration) (image : Image) (e : Declaration) → Some image ≡ image_of along d.name → e ≡ induced_with (constant_into here structure d) image
     → Once (own ++ induced_into here structure along (d ∷ [])) → declaration_of own e.name ≡ None
 induced_new here structure along own d image e found is once =
     let one : induced_into here structure along (d ∷ []) ≡ e ∷ [] =
     ap (λ o. cons_option (option_map (induced_with (constant_into here structure d)) o) []) (sym found) ∙ ap (λ z. z ∷ []) (sym is) in
-    undeclared own e.name (λ x m. once_apart own (e ∷ []) (subst (λ z. Once (own ++ z)) one once) x e m (inl refl))
-
--- A declaration of a new name is not refused.
-pub never_twice : (own : List FlatDecl) (decl : FlatDecl) (result : Result ⊤ PushFault) (other : FlatDecl) → result ≡ Err (Twice other) → IfErr result (λ fault. handed_back fault ≡ decl)
-    → (IsErrOf result (Twice decl) ↔ IsSome (declared own decl.name)) → declaration_of (read_signature own) (read_constant decl.name) ≡ None → ⊥
-never_twice own decl result other is back twice new =
-    let b : other ≡ decl = subst (λ r. IfErr r (λ fault. handed_back fault ≡ decl)) is back in
-    true≢false (sym (twice.0 (is ∙ ap (λ d. Err (Twice d)) b)) ∙ sym (some_mapped read_declaration (declared own decl.name)) ∙ ap is_some (declared_read own decl.name ∙ new))
+    last_new own e (subst (λ z. Once (own ++ z)) one once)

@@ -1,5 +1,5 @@
 use Rattle.std.proofs.Common.{Err, ap, ◌∙◌}
-use Rattle.struct_flatten.proofs.Adding.{never_twice}
+use Rattle.include_closure.proofs.NewNames.{never_twice}
 use Rattle.struct_flatten.proofs.induced.add.Goals as goal
 
 pub unreachable-requires : goal.unreachable-requires
