@@ -1,19 +1,18 @@
 //! Questions about a library, and their answers.
 
-use crate::expressions::{class_told, kind_told, tell_value, value_told};
+use crate::expressions::{class_told, kind_told, value_told};
 use crate::library::{Library, closure};
 use crate::scopes::name_told;
 use crate::verdicts::{find, refuse, share, show_view};
-use include_closure::{flat_of, sees};
-use lf_terms::{FlatSig, Memory, Name, Names, QName};
+use include_closure::sees;
+use lf_terms::{Name, Names, QName};
 use std::alloc::Global;
 use test_texts::Told;
 
 /// Tells the answer to a question:
 ///
 /// - `closure THEORIES`: the closure of these inclusions; `brought THEORIES`: how many theories they bring; `sees THEORY THEORIES`:
-///   whether the first one is seen through the others; `flat THEORY`: the constants of its flat signature; `last THEORY`: the value of
-///   the last one;
+///   whether the first one is seen through the others;
 /// - `name VARIABLES : PATH`: what the path stands for, in the theory that is being built and among these variables;
 /// - `class M : A`, `kind M : A` and `value M : A`: what A stands for, or M as a value of the class that A stands for;
 /// - `refuse NAME` and `view NAME`: verdicts that are added; `find NAME` and `share NAME`.
@@ -23,8 +22,6 @@ pub(crate) fn answered(alloc: Global, library: &mut Library, told: &mut Told, li
         "closure" => tell_closure(told, rest, closure(alloc, &library.faces, rest)),
         "brought" => tell_count(told, closure(alloc, &library.faces, rest)),
         "sees" => seen(alloc, library, told, rest),
-        "flat" => flat(alloc, library, told, rest),
-        "last" => last(alloc, library, told, rest),
         "name" => name_told(alloc, library, told, rest),
         "class" => class_told(alloc, library, told, rest),
         "kind" => kind_told(alloc, library, told, rest),
@@ -69,49 +66,6 @@ fn tell_seen(told: &mut Told, name: &Name, includes: Option<Names>) {
     match includes {
         Some(includes) => write!(told, "{}\n", sees(&includes, name)),
         None => told.say("no closure\n"),
-    }
-}
-
-/// The flat signature of a theory.
-fn flat_signature(alloc: Global, library: &Library, name: &str) -> Result<Box<FlatSig>, Memory> {
-    match Name::new(alloc, name) {
-        Ok(name) => Ok(Box::new(alloc, flat_of(alloc, &library.faces, &name)?)?),
-        Err(_) => Err(Memory),
-    }
-}
-
-fn flat(alloc: Global, library: &Library, told: &mut Told, name: &str) {
-    match flat_signature(alloc, library, name) {
-        Ok(signature) => tell_signature(told, name, &signature),
-        Err(_) => told.say("no signature\n"),
-    }
-}
-
-fn tell_signature(told: &mut Told, name: &str, signature: &FlatSig) {
-    write!(told, "{name} {}:", signature.len());
-    for index in 0..signature.len() {
-        if let Some(decl) = signature.at(index) {
-            told.say(" ");
-            tell_constant(told, &decl.name);
-        }
-    }
-    told.say("\n");
-}
-
-fn last(alloc: Global, library: &Library, told: &mut Told, name: &str) {
-    match flat_signature(alloc, library, name) {
-        Ok(signature) => tell_last(alloc, library, told, &signature),
-        Err(_) => told.say("no signature\n"),
-    }
-}
-
-fn tell_last(alloc: Global, library: &Library, told: &mut Told, signature: &FlatSig) {
-    match signature.at(signature.len().saturating_sub(1)) {
-        Some(decl) => match &decl.value {
-            Some(value) => tell_value(alloc, library, told, value),
-            None => told.say("no value\n"),
-        },
-        None => told.say("no constant\n"),
     }
 }
 

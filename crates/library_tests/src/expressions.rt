@@ -68,7 +68,7 @@ fn push_value(
 }
 
 /// A value is told with what it is: the same as a constant, a family with so many binders, or a term.
-pub(crate) fn tell_value(alloc: Global, library: &Library, told: &mut Told, found: &Value) {
+fn tell_value(alloc: Global, library: &Library, told: &mut Told, found: &Value) {
     match found {
         Value::Same(_) => told.say("same "),
         Value::Fam { binders, .. } => write!(told, "family of {binders} "),

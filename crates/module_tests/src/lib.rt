@@ -1,4 +1,5 @@
-//! Boards of modules, call by call, through several passes; a library that is judged from its texts alone, and counted steps.
+//! Boards of modules, call by call, through several passes; libraries that are judged from their texts alone, and their flat
+//! signatures; and counted steps.
 #![tactic(auto)]
 
 #[cfg(test)]
@@ -9,6 +10,8 @@ mod calls;
 mod claims;
 #[cfg(test)]
 mod edits;
+#[cfg(test)]
+mod flats;
 #[cfg(test)]
 mod scratch;
 #[cfg(test)]

@@ -17,17 +17,22 @@ const MODULES: &[(&str, &str)] = &[
     ("Bad", "%sig Bad = { %include Gone. }."),
 ];
 
-fn library(alloc: Global) -> Result<Box<Log>, Fail> {
+/// The log that has put these modules.
+pub(crate) fn library(alloc: Global, modules: &[(&str, &str)]) -> Result<Box<Log>, Fail> {
     let mut log = Box::new(alloc, Log::new(alloc))?;
-    for &(name, text) in MODULES {
-        let name = Name::new(alloc, name)?;
-        let text = Arc::new(alloc, Bytes::from_vec(text.as_bytes().to_vec(alloc)?))?;
-        let answer = log.append(alloc, Edit::Put { name, text });
-        if answer.is_err() {
-            return Err("not put".into());
-        }
+    for &(name, text) in modules {
+        put(alloc, &mut log, name, text)?;
     }
     Ok(log)
+}
+
+pub(crate) fn put(alloc: Global, log: &mut Log, name: &str, text: &str) -> Result<(), Fail> {
+    let name = Name::new(alloc, name)?;
+    let text = Arc::new(alloc, Bytes::from_vec(text.as_bytes().to_vec(alloc)?))?;
+    match log.append(alloc, Edit::Put { name, text }) {
+        Ok(_) => Ok(()),
+        Err(_) => Err("not put".into()),
+    }
 }
 
 fn is_refused(alloc: Global, faces: &Faces, name: &str) -> Result<bool, Fail> {
@@ -42,7 +47,7 @@ fn is_theory(alloc: Global, faces: &Faces, name: &str) -> Result<bool, Fail> {
 
 /// Whether the two first are accepted, and the third is refused.
 fn is_judged(alloc: Global) -> Result<bool, Fail> {
-    let log = library(alloc)?;
+    let log = library(alloc, MODULES)?;
     let faces = Box::new(alloc, scratch(alloc, &log)?)?;
     let accepted = is_theory(alloc, &faces, "Nat")? && is_theory(alloc, &faces, "User")?;
     Ok(accepted && is_refused(alloc, &faces, "Bad")? && faces.len() == 3)
