@@ -6,7 +6,6 @@ use Rattle.std.proofs.lemmas.List.Elements.{filter_map-append}
 use Rattle.list_laws.proofs.Lists.{rest_same}
 use Rattle.list_laws.proofs.Places.{take_drop, take_more, take_take}
 use Rattle.name_meaning.specs.Names.{Name}
-use Rattle.lf_meaning.specs.Terms.{Constant}
 use Rattle.lf_meaning.specs.Signatures.{Declaration, Signature, declaration_of}
 use Rattle.lf_meaning.specs.HeadMaps.{Image, HeadMap, image_of}
 use Rattle.link_meaning.specs.Induced.{induced_with}

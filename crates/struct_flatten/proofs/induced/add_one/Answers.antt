@@ -1,5 +1,3 @@
-use Rattle.std.proofs.Common.{Some, sym, ap, ◌∙◌}
-use Rattle.std.specs.Option.{option_map}
 use Rattle.term_trees.specs.Readings.{read_declaration, read_image, read_map, read_signature}
 use Rattle.struct_flatten.proofs.Adding.{induced_new}
 use Rattle.struct_flatten.proofs.induced.add_one.Goals as goal
