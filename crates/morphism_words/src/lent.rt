@@ -75,9 +75,16 @@ impl<'a> LentLink<'a> {
             codomain,
             map,
         } = self;
-        let domain = domain.copy(alloc)?;
-        let codomain = codomain.copy(alloc)?;
         let map = map.into_map(alloc)?;
+        let Ok(domain) = domain.copy(alloc) else {
+            drop(map);
+            return Err(Memory);
+        };
+        let Ok(codomain) = codomain.copy(alloc) else {
+            drop(map);
+            drop(domain);
+            return Err(Memory);
+        };
         Ok(Link {
             domain,
             codomain,

@@ -59,7 +59,9 @@ fn row_link<'a>(
 {
     let mut link = so_far;
     for word in words {
-        link = next_link(alloc, faces, here, &link, word)?;
+        let next = next_link(alloc, faces, here, &link, word);
+        drop(link);
+        link = next?;
     }
     Ok(link)
 }
@@ -80,9 +82,12 @@ fn next_link<'a>(
 {
     let next = word_link(alloc, faces, here, word)?;
     if !meets(faces, so_far, &next) {
+        drop(next);
         return Err(MorphFault::Ends { span: word.span });
     }
-    Ok(so_far.followed_by(alloc, &next)?)
+    let link = so_far.followed_by(alloc, &next);
+    drop(next);
+    Ok(link?)
 }
 
 /// Whether the codomain of a link is the domain of the next, or included in it.

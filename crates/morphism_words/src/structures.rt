@@ -1,9 +1,11 @@
 //! The links of structures.
-ghost use Rattle.std.specs.Prelude.{◌≡◌, IfOk};
+ghost use Rattle.std.specs.Prelude.{◌≡◌, None, IfOk};
 ghost use Rattle.std.specs.Option.{option_map};
+ghost use Rattle.translation_meaning.specs.Unmapped.{unmapped_map};
 ghost use Rattle.library_meaning.specs.Faces.{structure_of};
 ghost use Rattle.library_meaning.specs.Coherence.{IsCoherent};
 ghost use Rattle.library_meaning.specs.Words as meant;
+ghost use Rattle.library_meaning.specs.Words.{followed_by};
 ghost use Rattle.mmt_interface.specs.Readings.{environment_of, read_structure, read_structures};
 ghost use Rattle.morphism_words.specs.CoherentLinks.{AreStructures};
 ghost use Rattle.morphism_words.specs.LentLinks.{read_lent};
@@ -61,13 +63,27 @@ pub(crate) fn lent_structures_link<'a>(
         return Ok(None);
     };
     match lent_structures_link(alloc, faces, &structure.domain, &face.structs, rest)? {
-        Some(inner) => {
-            // Made here alone, since each exit with a link in hand has a proof for each form of its map.
-            let outer = structure_link(theory, structure);
-            Ok(Some(inner.followed_by(alloc, &outer)?))
-        }
+        Some(inner) => Ok(Some(behind(alloc, inner, theory, structure)?)),
         None => Ok(None),
     }
+}
+
+/// The link of a row in the domain of a structure, followed by the structure's own into the theory of this name, which declares it.
+/// It lets both go by calls, since an exit with a link in hand has a proof for each form of its map.
+fn behind<'a>(
+    alloc: Global,
+    inner: LentLink<'a>,
+    theory: &'a Name,
+    structure: &'a StructFace,
+) -> Result<LentLink<'a>, Memory>
+    requires { unmapped_map (meant.structure_link theory.now (read_structure structure.now)).map (read_lent inner).map ≡ None }
+    ensures { IfOk result (λ link. read_lent link ≡ followed_by (read_lent inner.entry) (meant.structure_link theory.now (read_structure structure.now))) }
+{
+    let outer = structure_link(theory, structure);
+    let link = inner.followed_by(alloc, &outer);
+    drop(outer);
+    drop(inner);
+    link
 }
 
 /// The structure of a name. None exactly where there is none.

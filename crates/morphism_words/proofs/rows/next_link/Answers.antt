@@ -17,10 +17,10 @@ returns-then-not-meets-clause-answer c = λ label.
 pub returns-clause-answer : goal.returns-clause-answer
 returns-clause-answer c = λ label.
     word_met (environment_of c.args.faces.now) (option_map (λ face. read_theory face.now) c.args.here) label (read_lent c.args.so_far.now) (read_written c.args.word.now) (read_lent c.in_ok-next.next) true
-    (c.in_ok-next.ensures label) (sym c.meets.ensures ∙ c.if-not-meets.false) ∙ ap Ok (sym c.in_ok-followed_by.ensures)
+    (c.in_ok-next.ensures label) (sym c.meets.ensures ∙ c.if-not-meets.false) ∙ ap Ok (sym c.in_ok-link.ensures)
 
-pub followed_by-requires : goal.followed_by-requires
-followed_by-requires c =
+pub followed_by-link-requires : goal.followed_by-link-requires
+followed_by-link-requires c =
     let environment = environment_of c.args.faces.now in
     let here = option_map (λ face. read_theory face.now) c.args.here in
     let word = read_written c.args.word.now in
@@ -35,5 +35,5 @@ returns-clause-holds c =
     let word = read_written c.args.word.now in
     let next = read_lent c.in_ok-next.next in
     let means = meant_holds environment here c.requires.coherent c.requires.here word.path word.span [] next (c.in_ok-next.ensures []) in
-    subst (LinkHolds environment here) (sym c.in_ok-followed_by.ensures)
+    subst (LinkHolds environment here) (sym c.in_ok-link.ensures)
     (words_are_followed environment here (read_lent c.args.so_far.now) next word.path c.requires.coherent c.requires.here c.requires.so_far means.0 (sym c.meets.ensures ∙ c.if-not-meets.false)).followed

@@ -1,8 +1,7 @@
 use Rattle.std.proofs.Common.{rules, ◌-◌, true, false, length, take, drop, Option, Some, None, sym, ap, ◌∙◌, arith}
 use Rattle.std.specs.Option.{option_map}
 use Rattle.library_meaning.specs.Faces.{TheoryFace}
-use Rattle.library_meaning.specs.Words.{Link, behind_structure, followed_by, structure_link, structures_link, structures_of}
-use Rattle.translation_meaning.specs.Unmapped.{unmapped_map}
+use Rattle.library_meaning.specs.Words.{behind_structure, structure_link, structures_link, structures_of}
 use Rattle.mapping_laws.proofs.Followed.{structures_are_followed}
 use Rattle.mmt_interface.specs.Readings.{environment_of, read_structure, read_structures, read_theory}
 use Rattle.morphism_words.specs.LentLinks.{read_lent}
@@ -35,15 +34,15 @@ returns-in_default-theory t c =
     structure None c.in-Some.ensures (rest_empty path false (sym c.if-is_empty.false ∙ c.is_empty.ensures)) c.in_default-theory.ensures.meaning
     ∙ ap (λ o. behind_structure o outer) (no_structures environment structure.domain (drop 1 path)))
 
-pub returns-in_ok-followed_by-in-Some-2 : goal.returns-in_ok-followed_by-in-Some-2
-returns-in_ok-followed_by-in-Some-2 t c =
+pub returns-in_ok-behind-in-Some-2 : goal.returns-in_ok-behind-in-Some-2
+returns-in_ok-behind-in-Some-2 t c =
     let environment = environment_of c.args.faces.now in
     let path = c.args.path.now in
     let structure = read_structure c.in-Some.structure.now in
     let outer = structure_link c.args.theory.now structure in
     let face = read_theory c.in-Some-theory.face.now in
     let behind = ap (option_map read_lent) (sym c.in-Some-2.is) ∙ c.in_ok-inner.ensures ∙ ap (structures_link environment structure.domain face.structures) (behind_first path) in
-    ap Some (c.in_ok-followed_by-in-Some-2.ensures ∙ ap (followed_by (read_lent c.in-Some-2.inner)) c.structure_link-outer.ensures)
+    ap Some c.in_ok-behind-in-Some-2.ensures
     ∙ sym (further environment c.args.theory.now (read_structures c.args.structs.now) path c.name-item.result c.in-len1-up.len_at_least c.name-item.is
     structure (Some face) c.in-Some.ensures (rest_empty path false (sym c.if-is_empty.false ∙ c.is_empty.ensures)) c.in-Some-theory.ensures.meaning
     ∙ ap (λ o. behind_structure o outer) (sym behind))
@@ -69,14 +68,13 @@ lent_structures_link-requires t c = (
   ),
 )
 
-pub followed_by-requires : goal.followed_by-requires
-followed_by-requires t c =
+pub behind-requires : goal.behind-requires
+behind-requires t c =
     let environment = environment_of c.args.faces.now in
     let path = c.args.path.now in
     let rest = take (length path - 1) (drop 1 path) in
     let structure = read_structure c.in-Some.structure.now in
     let inner = read_lent c.in-Some-2.inner in
     let behind = sym c.in_ok-inner.ensures ∙ ap (option_map read_lent) c.in-Some-2.is in
-    ap (λ (link : Link). unmapped_map link.map inner.map) c.structure_link-outer.ensures
-    ∙ structures_are_followed environment (read_structures c.args.structs.now) c.requires.structures.0 c.name-item.result structure rest inner c.requires.coherent c.requires.structures.1 (sym c.in-Some.ensures)
+    structures_are_followed environment (read_structures c.args.structs.now) c.requires.structures.0 c.name-item.result structure rest inner c.requires.coherent c.requires.structures.1 (sym c.in-Some.ensures)
     (ap (λ (o : Option TheoryFace). structures_link environment structure.domain (structures_of o) rest) (sym c.in-Some-theory.ensures.meaning) ∙ behind)
