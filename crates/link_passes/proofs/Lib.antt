@@ -1,4 +1,4 @@
-pub mod Chained
+pub mod Below
 mod Reaching
 mod Imaging
 mod SharedParts

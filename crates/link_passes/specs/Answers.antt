@@ -4,8 +4,8 @@ use Rattle.name_meaning.specs.Names.{Path}
 use Rattle.text_meaning.specs.Tokens.{Span}
 use Rattle.expansion_meaning.specs.Rules.{Rule}
 use Rattle.mmt_interface.specs.Readings.{read_refusal}
-use Rattle.morphism.specs.declared.fault.LinkFault.{LinkFault}
-use Rattle.morphism.specs.declared.fault.LinkFault.TheVariants.{Broken, Memory}
+use Rattle.link_setting.specs.declared.fault.LinkFault.{LinkFault}
+use Rattle.link_setting.specs.declared.fault.LinkFault.TheVariants.{Broken, Memory}
 
 -- The fault says that this rule is broken here, with this label. Want of memory says nothing.
 abbrev pub Refuses : LinkFault → Span → Rule → Path → Type 0

@@ -5,7 +5,7 @@ use Rattle.link_meaning.specs.Assignments.{Assigned, Covering, Sharing, Giving}
 use Rattle.link_meaning.specs.Passes.{rest_behind, by_rest, by_equal, equal_paths}
 use Rattle.link_meaning.specs.Passes as passes
 use Rattle.mmt_syntax.specs.Readings.{read_expr, read_span}
-use Rattle.morphism.specs.Below.Readings.{read_link}
+use Rattle.link_setting.specs.Below.Readings.{read_link}
 use Rattle.link_passes.specs.declared.reached.Rest.{Rest}
 use Rattle.link_passes.specs.declared.reached.Reached.{Reached}
 use Rattle.link_passes.specs.declared.reached.Reached.TheVariants.{ByValue, ByStructure}

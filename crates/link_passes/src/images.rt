@@ -1,20 +1,18 @@
 //! The third pass: the images of the domain's own constants.
-ghost use Rattle.std.specs.Prelude.{◌≡◌, ◌∷◌, ◌++◌, [], None, OnOk};
-ghost use Rattle.lf_meaning.specs.HeadMaps.{image_of};
 ghost use Rattle.library_meaning.specs.Faces.{own_part};
 ghost use Rattle.mapping_laws.specs.NextImages.{IsNext, StandsBefore};
 ghost use Rattle.link_meaning.specs.LinkMaps.{IsSettled};
 ghost use Rattle.link_meaning.specs.Passes as passes;
-ghost use Rattle.term_trees.specs.Readings.{read_constant, read_declaration, read_image, read_map, read_mapping, read_signature};
-ghost use Rattle.morphism.specs.Readings.{read_all_assigned, read_setting};
-ghost use Rattle.morphism.specs.Answers.{Links};
+ghost use Rattle.term_trees.specs.Readings.{read_declaration, read_image, read_map, read_signature};
+ghost use Rattle.link_setting.specs.Readings.{read_all_assigned, read_setting};
+ghost use Rattle.link_setting.specs.Answers.{Links};
 ghost use Rattle.link_passes.specs.Steps.{AreOwn, image_over, with_own_image};
 
 use crate::reached::reached_by;
 use crate::translated::translated_class;
 use crate::values::own_value;
-use lf_terms::{FlatDecl, FlatSig, HeadMap, Image, MapFault, Memory, QName};
-use morphism::{Assigned, LinkFault, Setting};
+use lf_terms::{FlatDecl, FlatSig, HeadMap, Image};
+use link_setting::{Assigned, LinkFault, Setting};
 use std::alloc::Global;
 
 /// Adds the images of the domain's own constants, over those of what it includes.
@@ -68,9 +66,12 @@ fn add_image(
     requires { IsNext (read_map along.old) (read_declaration decl.now) }
     ensures { Links (λ _. read_map along.new) result (with_own_image (read_setting setting.now) (read_all_assigned assigned.now) (read_map along.old) (read_declaration decl.now)) }
 {
-    let name = decl.name.copy(alloc)?;
     let image = image_over(alloc, setting, assigned, along, decl)?;
-    Ok(add(along, name, image)?)
+    let Ok(name) = decl.name.copy(alloc) else {
+        drop(image);
+        return Err(LinkFault::Memory);
+    };
+    Ok(along.push_new(name, image)?)
 }
 
 /// The image of an own constant over a map.
@@ -92,21 +93,5 @@ fn image_over(
             drop(class);
             Err(fault)
         }
-    }
-}
-
-/// Adds a constant that has no image yet, with its image.
-fn add(along: &mut HeadMap, name: QName, image: Image) -> Result<(), Memory>
-    requires { image_of (read_map along.old) (read_constant name) ≡ None }
-    ensures { OnOk result (read_map along.new ≡ read_map along.old ++ read_mapping (name, image) ∷ []) }
-{
-    match along.push(name, image) {
-        Ok(()) => Ok(()),
-        Err(MapFault::Memory(name, image)) => {
-            drop(name);
-            drop(image);
-            Err(Memory)
-        }
-        Err(MapFault::Twice(_, _)) => unreachable!(),
     }
 }

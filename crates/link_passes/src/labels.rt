@@ -3,13 +3,13 @@ ghost use Rattle.link_meaning.specs.Assignments.{label_along};
 ghost use Rattle.link_meaning.specs.Refusals as refusals;
 ghost use Rattle.mmt_syntax.specs.Readings.{read_span};
 ghost use Rattle.mmt_interface.specs.ReadRules.{read_rule};
-ghost use Rattle.morphism.specs.Readings.{read_setting};
-ghost use Rattle.morphism.specs.Answers.{Links};
+ghost use Rattle.link_setting.specs.Readings.{read_setting};
+ghost use Rattle.link_setting.specs.Answers.{Links};
 ghost use Rattle.link_passes.specs.Answers.{Refuses};
 
 use lf_terms::{Memory, Path, Span};
+use link_setting::{LinkFault, Setting, label_along};
 use mmt_interface::{Refusal, Rule};
-use morphism::{LinkFault, Setting, label_along};
 use std::alloc::Global;
 
 /// A rule that is broken at a place, with the label of an assignment of this link.

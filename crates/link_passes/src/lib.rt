@@ -1,16 +1,19 @@
-//! The third and the fourth pass over a link, and the map of a link (Rabe and Kohlhase 2013, section 3: what a morphism assigns;
-//! the order of tests is this profile).
+//! The third and the fourth pass over a link (Rabe and Kohlhase 2013, section 3: what a morphism assigns; the order of tests is
+//! this profile).
 #![tactic(auto)]
 
 mod images;
 mod induced;
 mod labels;
-mod links;
+mod passes;
 mod reached;
 mod sharing;
 mod translated;
 mod values;
 
 pub use induced::induced_constant;
-pub use links::link_map;
-pub use morphism::{LinkFault, Setting};
+pub use link_setting::{
+    Assigned, Link, LinkFault, MorphFault, Scope, Setting, includes, label_along, meaning,
+    structures_link,
+};
+pub use passes::own_passes;

@@ -2,12 +2,12 @@
 ghost use Rattle.std.specs.Prelude.{◌≡◌};
 ghost use Rattle.std.specs.Option.{option_map};
 ghost use Rattle.link_meaning.specs.Passes as passes;
-ghost use Rattle.morphism.specs.Readings.{read_all_assigned, read_assigned};
+ghost use Rattle.link_setting.specs.Readings.{read_all_assigned, read_assigned};
 ghost use Rattle.link_passes.specs.Reaching.{read_rest, or_reached, reached_through};
 
 use lf_terms::{Name, Path, Span};
+use link_setting::{Assigned, Link};
 use mmt_syntax::Expr;
-use morphism::{Assigned, Link};
 
 /// A path that is not empty, in its parts.
 #[derive(Clone, Copy)]

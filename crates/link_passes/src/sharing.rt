@@ -10,17 +10,17 @@ ghost use Rattle.link_meaning.specs.Passes as passes;
 ghost use Rattle.link_meaning.specs.Refusals.{each};
 ghost use Rattle.term_trees.specs.Readings.{read_declaration, read_map, read_signature, read_value};
 ghost use Rattle.mmt_interface.specs.Readings.{environment_of};
-ghost use Rattle.morphism.specs.Below.Readings.{read_link};
-ghost use Rattle.morphism.specs.Readings.{read_all_assigned, read_assigned, read_setting};
-ghost use Rattle.morphism.specs.Answers.{Links};
+ghost use Rattle.link_setting.specs.Below.Readings.{read_link};
+ghost use Rattle.link_setting.specs.Readings.{read_all_assigned, read_assigned, read_setting};
+ghost use Rattle.link_setting.specs.Answers.{Links};
 ghost use Rattle.link_passes.specs.SharedImages.{SharesMapped};
 ghost use Rattle.link_passes.specs.Steps.{share};
 
 use crate::labels::demand;
 use crate::translated::translated_value;
 use lf_terms::{FlatDecl, FlatSig, HeadMap, Memory, Name, Value, same_value};
+use link_setting::{Assigned, Link, LinkFault, Setting};
 use mmt_interface::{Faces, Rule};
-use morphism::{Assigned, Link, LinkFault, Setting};
 use std::alloc::Global;
 
 /// The tests of all sharing assignments, in order.

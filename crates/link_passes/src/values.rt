@@ -8,9 +8,9 @@ ghost use Rattle.link_meaning.specs.Refusals as refusals;
 ghost use Rattle.mapping_laws.specs.NextImages.{unmapped_definition};
 ghost use Rattle.term_trees.specs.Readings.{read_class, read_declaration, read_map, read_value};
 ghost use Rattle.mmt_syntax.specs.Readings.{read_expr, read_span};
-ghost use Rattle.morphism.specs.Below.Readings.{read_link};
-ghost use Rattle.morphism.specs.Readings.{read_setting};
-ghost use Rattle.morphism.specs.Answers.{Links};
+ghost use Rattle.link_setting.specs.Below.Readings.{read_link};
+ghost use Rattle.link_setting.specs.Readings.{read_setting};
+ghost use Rattle.link_setting.specs.Answers.{Links};
 ghost use Rattle.link_passes.specs.Reaching.{read_rest, or_reached};
 ghost use Rattle.link_passes.specs.Steps.{assigned_value, shared_value, translated_definition, value_if_definition, value_reached};
 
@@ -20,9 +20,9 @@ use crate::reached::{Reached, Rest};
 use crate::translated::translated_value;
 use elaborate::{ElabFault, elab_value};
 use lf_terms::{Class, FlatDecl, HeadMap, Memory, Path, QName, Span, Value, same_value};
+use link_setting::{Link, LinkFault, Setting};
 use mmt_interface::{Refusal, Rule};
 use mmt_syntax::Expr;
-use morphism::{Link, LinkFault, Setting};
 use std::alloc::Global;
 
 /// The value of an own constant, by what reaches it. Its class is translated already.

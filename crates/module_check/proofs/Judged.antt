@@ -16,9 +16,9 @@ use Rattle.verdict_laws.proofs.Verdicts.{verdict_is_judged, not_ungrounded}
 use Rattle.module_graph.specs.Subjects.{IsGiven, read_answers}
 use Rattle.mmt_interface.specs.Readings.{read_verdict, environment_of}
 use Rattle.mmt_interface.specs.declared.verdict.Verdict.{Verdict}
-use Rattle.morphism.specs.Answers.{IsFirstRefusal}
-use Rattle.morphism.specs.declared.fault.LinkFault.{LinkFault}
-use Rattle.morphism.specs.declared.fault.LinkFault.TheVariants.{Broken, Memory}
+use Rattle.link_setting.specs.Answers.{IsFirstRefusal}
+use Rattle.link_setting.specs.declared.fault.LinkFault.{LinkFault}
+use Rattle.link_setting.specs.declared.fault.LinkFault.TheVariants.{Broken, Memory}
 use Rattle.twelf_expressions.specs.Going.{Fails}
 use Rattle.twelf_expressions.specs.declared.fault.ReadFault.{ReadFault}
 use Rattle.twelf_expressions.specs.declared.fault.ReadFault.TheVariants as faults

@@ -3,8 +3,8 @@ use Rattle.std.specs.Prelude.{◌≡◌, ℕ, [], ◌∷◌}
 use Rattle.name_meaning.specs.Names.{Name}
 use Rattle.expansion_meaning.specs.Rules.{Rule}
 use Rattle.link_meaning.specs.Refusals.{Refusal}
-use Rattle.morphism.specs.declared.fault.LinkFault.{LinkFault}
-use Rattle.morphism.specs.declared.fault.LinkFault.TheVariants.{Memory}
+use Rattle.link_setting.specs.declared.fault.LinkFault.{LinkFault}
+use Rattle.link_setting.specs.declared.fault.LinkFault.TheVariants.{Memory}
 use Rattle.twelf_expressions.specs.declared.fault.ReadFault.{ReadFault}
 use Rattle.twelf_expressions.specs.declared.fault.ReadFault.TheVariants as faults
 use Rattle.module_verdicts.specs.Answers.{IsRefusalOf}

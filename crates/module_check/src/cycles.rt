@@ -13,7 +13,7 @@ ghost use Rattle.verdict_meaning.specs.Verdicts.{cycle_at, judge_answer};
 ghost use Rattle.mmt_syntax.specs.Readings as syntax;
 ghost use Rattle.mmt_interface.specs.Readings.{read_verdict};
 ghost use Rattle.module_graph.specs.Subjects.{IsCyclic};
-ghost use Rattle.morphism.specs.Answers.{IsFirstRefusal};
+ghost use Rattle.link_setting.specs.Answers.{IsFirstRefusal};
 ghost use Rattle.module_verdicts.specs.Answers.{IsRefusalOf};
 ghost use Rattle.module_check.specs.Mentions.{first_among, read_mention};
 
@@ -21,10 +21,10 @@ use crate::mentions::{Mention, in_module};
 use crate::reading::{read, refused_at, unread};
 use crate::verdicts::verdict_by;
 use lf_terms::{Memory, Name, Names, Path};
+use link_setting::LinkFault;
 use mmt_interface::{Rule, Verdict};
 use mmt_syntax::Module;
 use module_verdicts::refused;
-use morphism::LinkFault;
 use std::alloc::Global;
 
 /// The verdict on an ungrounded module, from its text and the ungrounded names: where the text reads, a cycle at its first

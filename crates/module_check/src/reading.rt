@@ -10,10 +10,10 @@ ghost use Rattle.module_verdicts.specs.Answers.{IsRefusalOf};
 ghost use Rattle.module_check.specs.Unread.{IsUnread};
 
 use lf_terms::{Memory, Name, Path, Span};
+use link_setting::LinkFault;
 use mmt_interface::Rule;
 use mmt_syntax::Module;
 use module_verdicts::refused;
-use morphism::LinkFault;
 use std::alloc::Global;
 use twelf_reader::{ReadFault, read_module};
 

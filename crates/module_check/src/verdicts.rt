@@ -9,13 +9,13 @@ ghost use Rattle.link_meaning.specs.Refusals.{Outcome};
 ghost use Rattle.verdict_meaning.specs.Verdicts as meaning;
 ghost use Rattle.mmt_interface.specs.CoherentFaces.{AreCoherent};
 ghost use Rattle.mmt_interface.specs.Readings.{environment_of, read_interface, read_verdict};
-ghost use Rattle.morphism.specs.Answers.{Links};
+ghost use Rattle.link_setting.specs.Answers.{Links};
 
 use crate::reading::{read, unread};
 use lf_terms::{Arc, Memory, Name};
+use link_setting::LinkFault;
 use mmt_interface::{Faces, Interface, Verdict};
 use module_verdicts::tested;
-use morphism::LinkFault;
 use std::alloc::Global;
 
 /// The verdict on a text that is put under this name and is grounded, over coherent faces, which do not have the name.

@@ -23,9 +23,9 @@ use Rattle.mmt_interface.specs.Readings.{environment_of, read_theory}
 use Rattle.mmt_interface.specs.declared.face.TheoryFace.{TheoryFace}
 use Rattle.mmt_interface.specs.declared.verdict.Verdict.{Verdict}
 use Rattle.mmt_interface.proofs.Known.{lacked_is_absent}
-use Rattle.morphism.specs.Answers.{IsFirstRefusal}
-use Rattle.morphism.specs.declared.fault.LinkFault.{LinkFault}
-use Rattle.morphism.proofs.FirstRefusals.{refuses_then}
+use Rattle.link_setting.specs.Answers.{IsFirstRefusal}
+use Rattle.link_setting.specs.declared.fault.LinkFault.{LinkFault}
+use Rattle.link_setting.proofs.FirstRefusals.{refuses_then}
 use Rattle.module_verdicts.specs.Answers.{Declares, IsNamed}
 
 -- Its own constants have its name.

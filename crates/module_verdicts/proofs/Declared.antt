@@ -14,9 +14,9 @@ use Rattle.link_meaning.specs.Induced.{with_structure}
 use Rattle.verdict_meaning.specs.Modules.{declare, declared_value, scope_in, unused_test, is_used, module_test, known_theory}
 use Rattle.mmt_syntax.specs.Readings.{read_written, read_assigns}
 use Rattle.mmt_syntax.specs.declared.decl.StructDecl as code
-use Rattle.morphism.specs.Answers.{IsFirstRefusal}
-use Rattle.morphism.specs.declared.fault.LinkFault.{LinkFault}
-use Rattle.morphism.proofs.FirstRefusals.{refuses_then}
+use Rattle.link_setting.specs.Answers.{IsFirstRefusal}
+use Rattle.link_setting.specs.declared.fault.LinkFault.{LinkFault}
+use Rattle.link_setting.proofs.FirstRefusals.{refuses_then}
 use Rattle.struct_flatten.specs.Answers.{Flattens, setting_of}
 use Rattle.module_verdicts.specs.Answers.{Declares}
 use Rattle.module_verdicts.specs.Steps.{constant_answer, with_declaration}

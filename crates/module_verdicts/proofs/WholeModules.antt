@@ -8,9 +8,9 @@ use Rattle.expansion_meaning.specs.Rules.{Rule}
 use Rattle.link_meaning.specs.Refusals.{demand}
 use Rattle.verdict_meaning.specs.Modules.{declare_all, empty_theory}
 use Rattle.verdict_meaning.specs.Verdicts.{Theory, checked, judge_tree, written_name}
-use Rattle.morphism.specs.Answers.{IsFirstRefusal}
-use Rattle.morphism.specs.declared.fault.LinkFault.{LinkFault}
-use Rattle.morphism.specs.declared.fault.LinkFault.TheVariants.{Broken, Memory}
+use Rattle.link_setting.specs.Answers.{IsFirstRefusal}
+use Rattle.link_setting.specs.declared.fault.LinkFault.{LinkFault}
+use Rattle.link_setting.specs.declared.fault.LinkFault.TheVariants.{Broken, Memory}
 use Rattle.module_verdicts.specs.Answers.{IsRefusalOf}
 
 -- The interface of a theory from its face and its size.

@@ -10,9 +10,9 @@ use Rattle.mmt_interface.specs.ReadRules.{read_rule}
 use Rattle.mmt_interface.specs.Readings.{read_refusal}
 use Rattle.elaborate.specs.declared.fault.ElabFault.{ElabFault}
 use Rattle.elaborate.specs.declared.fault.ElabFault.TheVariants as expressions
-use Rattle.morphism.specs.Answers.{IsFirstRefusal}
-use Rattle.morphism.specs.declared.fault.LinkFault.{LinkFault}
-use Rattle.morphism.specs.declared.fault.LinkFault.TheVariants.{Broken, Memory}
+use Rattle.link_setting.specs.Answers.{IsFirstRefusal}
+use Rattle.link_setting.specs.declared.fault.LinkFault.{LinkFault}
+use Rattle.link_setting.specs.declared.fault.LinkFault.TheVariants.{Broken, Memory}
 
 -- The fault is this refusal. Want of memory says nothing.
 abbrev pub IsRefusalOf : LinkFault → Refusal → Type 0

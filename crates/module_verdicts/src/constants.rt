@@ -9,16 +9,16 @@ ghost use Rattle.term_trees.specs.Readings.{read_class, read_declaration, read_v
 ghost use Rattle.mmt_syntax.specs.Readings.{read_expr, read_written};
 ghost use Rattle.mmt_interface.specs.Readings.{read_theory};
 ghost use Rattle.names.specs.Readings.{read_scope};
-ghost use Rattle.morphism.specs.Answers.{Links};
+ghost use Rattle.link_setting.specs.Answers.{Links};
 ghost use Rattle.module_verdicts.specs.Steps.{constant_answer, with_declaration};
 
 use crate::fault::labelled;
 use crate::used::own_name;
 use elaborate::{elab_class, elab_value};
 use lf_terms::{Class, FlatDecl, Memory, Name, Path, PushFault, Value};
+use link_setting::LinkFault;
 use mmt_interface::TheoryFace;
 use mmt_syntax::{Expr, Written, first_name};
-use morphism::LinkFault;
 use names::Scope;
 use std::alloc::Global;
 

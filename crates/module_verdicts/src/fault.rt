@@ -5,8 +5,8 @@ ghost use Rattle.module_verdicts.specs.Answers.{IsRefusalOf, IsLabelled};
 
 use elaborate::ElabFault;
 use lf_terms::{Path, Span};
+use link_setting::LinkFault;
 use mmt_interface::{Refusal, Rule};
-use morphism::LinkFault;
 use std::alloc::Global;
 
 /// The refusal for this rule, which is broken at this part of the text, with a copy of this label; or want of memory.

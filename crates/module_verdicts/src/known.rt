@@ -2,13 +2,13 @@
 ghost use Rattle.verdict_meaning.specs.Modules as modules;
 ghost use Rattle.mmt_syntax.specs.Readings.{read_written};
 ghost use Rattle.mmt_interface.specs.Readings.{environment_of, read_theory};
-ghost use Rattle.morphism.specs.Answers.{Links};
+ghost use Rattle.link_setting.specs.Answers.{Links};
 
 use crate::fault::refused;
 use lf_terms::Path;
+use link_setting::LinkFault;
 use mmt_interface::{Faces, Interface, Rule, TheoryFace, Verdict};
 use mmt_syntax::{Written, first_name};
-use morphism::LinkFault;
 use std::alloc::Global;
 
 /// The accepted theory that is named here; else it is absent, refused, or a view.

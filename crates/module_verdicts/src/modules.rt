@@ -9,16 +9,16 @@ ghost use Rattle.verdict_meaning.specs.Verdicts as verdicts;
 ghost use Rattle.mmt_syntax.specs.Readings.{read_assigns, read_decls, read_module, read_written};
 ghost use Rattle.mmt_interface.specs.CoherentFaces.{AreCoherent};
 ghost use Rattle.mmt_interface.specs.Readings.{environment_of, read_interface, read_theory, read_view};
-ghost use Rattle.morphism.specs.Answers.{Links};
+ghost use Rattle.link_setting.specs.Answers.{Links};
 
 use crate::declarations::declare_all;
 use crate::fault::refused;
 use crate::known::module_test;
 use crate::sizes::size;
 use lf_terms::{FlatSig, Memory, Name, Names};
+use link_setting::LinkFault;
 use mmt_interface::{Faces, Interface, Rule, Structs, TheoryFace, ViewFace};
 use mmt_syntax::{Decls, Module, ViewDecl, Written, first_name};
-use morphism::LinkFault;
 use std::alloc::Global;
 use view_check::check_view;
 

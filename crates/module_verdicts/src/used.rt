@@ -10,9 +10,9 @@ ghost use Rattle.module_verdicts.specs.Answers.{IsNamed, Passes};
 
 use crate::fault::refused;
 use lf_terms::{Memory, Name, Path, QName};
+use link_setting::LinkFault;
 use mmt_interface::{Rule, StructFace, TheoryFace};
 use mmt_syntax::{Written, first_name};
-use morphism::LinkFault;
 use std::alloc::Global;
 
 /// The test that no constant and no structure declared above has the declared name.

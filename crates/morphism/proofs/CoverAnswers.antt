@@ -1,5 +1,5 @@
 -- From what the second pass answers to what its public call says.
-use Rattle.std.proofs.Common.{List, [], Ok, Err, Result, IfOk, sym, ap, ◌∙◌, true≢false}
+use Rattle.std.proofs.Common.{◌≡◌, List, [], Ok, Err, Result, IfOk, sym, ap, ◌∙◌, subst, true≢false}
 use Rattle.std.specs.Prelude.{IfErr}
 use Rattle.std.specs.Result.{IsOk}
 use Rattle.lf_meaning.specs.HeadMaps.{HeadMap}
@@ -14,13 +14,17 @@ use Rattle.link_meaning.specs.LinkMaps.{IsSettled}
 use Rattle.row_typing.proofs.Below.Reading.{assignments_are_read}
 use Rattle.row_typing.proofs.Below.CoveringMaps.{covering_map_meets_coverings, coverings_refuse_by_tests, covering_rules}
 use Rattle.mmt_interface.specs.Readings.{read_refusal}
-use Rattle.morphism.specs.Answers.{IsFirstRefusal, Links, RefusesNothing}
-use Rattle.morphism.specs.CoverCalls.{BreaksCoveringRule}
-use Rattle.morphism.specs.declared.fault.LinkFault.{LinkFault}
-use Rattle.morphism.specs.declared.fault.LinkFault.TheVariants.{Broken, Memory}
-use Rattle.morphism.proofs.Refusing.{links_same}
+use Rattle.link_passes.specs.Below.Answers.{IsFirstRefusal, Links, RefusesNothing}
+use Rattle.morphism.specs.CoverCalls.{first_passes, BreaksCoveringRule}
+use Rattle.link_passes.specs.Below.LinkFault.{LinkFault}
+use Rattle.link_passes.specs.Below.TheVariants.{Broken, Memory}
+use Rattle.link_passes.proofs.Below.Refusing.{links_same}
 
 module _ {A : Type 0} (read : A → HeadMap) (setting : Setting) (assigns : List Assign) where
+  -- In a setting that is read as this link.
+  pub as_read : (result : Result A LinkFault) (at : Setting) → at ≡ setting → Links read result (first_passes at assigns) → Links read result (first_passes setting assigns)
+  as_read result at e h = subst (λ s. Links read result (first_passes s assigns)) e h
+
   -- Over what the assignments give.
   pub answered : (result : Result A LinkFault) → Links read result (read_assigns setting [] assigns >>= covering_map setting)
       → (assigned : List Assigned) → AssignsRead setting [] assigns assigned → Links read result (covering_map setting assigned)

@@ -11,8 +11,8 @@ use Rattle.link_meaning.specs.Refusals.{Outcome}
 use Rattle.link_meaning.specs.Assignments.{Setting, read_assigns}
 use Rattle.link_meaning.specs.CoveringMaps.{covering_map}
 use Rattle.mmt_interface.specs.ReadRules.{read_rule}
-use Rattle.morphism.specs.declared.fault.LinkFault.{LinkFault}
-use Rattle.morphism.specs.declared.fault.LinkFault.TheVariants.{Broken, Memory}
+use Rattle.link_passes.specs.Below.LinkFault.{LinkFault}
+use Rattle.link_passes.specs.Below.TheVariants.{Broken, Memory}
 
 -- A link between these theories, of which the codomain includes these so far. It has this name, at its place; no value stands in it.
 abbrev pub link_between : faces.Environment → Option faces.TheoryFace → Name → Name → List Name → Written → Setting

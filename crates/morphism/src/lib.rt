@@ -1,33 +1,15 @@
-//! The first two passes over a link (this profile): what its assignments give, and how the theories that its domain includes are
-//! covered; and the words of morphisms, which are had from `morphism_words`.
+//! The map of a link, from its four passes; and the second pass alone, over what the first gives (this profile). The words of
+//! morphisms are had from `morphism_words`.
 #![tactic(auto)]
 
-mod assigned;
-mod assignments;
-mod chosen;
-mod cover_tables;
-mod covering;
-mod covering_refusals;
-mod coverings;
-mod ends;
-mod fault;
-mod identity;
-mod images;
-mod link_coverings;
-mod refusals;
+mod links;
 mod second_pass;
-mod seen;
-mod setting;
-mod shared_images;
-mod tables;
-mod targets;
 
-pub use assigned::Assigned;
-pub use assignments::read_assigns;
-pub use coverings::covering_map;
-pub use ends::{codomain_sees, is_or_includes};
-pub use fault::LinkFault;
-pub use morphism_words::{Link, MorphFault, includes, meaning, structures_link};
-pub use refusals::label_along;
+pub use assignment_pass::{codomain_sees, is_or_includes, read_assigns};
+pub use covering_pass::covering_map;
+pub use link_passes::{
+    Assigned, Link, LinkFault, MorphFault, Scope, Setting, includes, induced_constant, label_along,
+    meaning, structures_link,
+};
+pub use links::link_map;
 pub use second_pass::cover;
-pub use setting::Setting;

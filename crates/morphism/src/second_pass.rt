@@ -3,7 +3,6 @@ ghost use Rattle.std.specs.Prelude.{◌≡◌, [], List, IfErr, IfOk, IsSome};
 ghost use Rattle.std.specs.Result.{IsOk};
 ghost use Rattle.std.specs.Option.{option_copied, option_map};
 ghost use Rattle.lf_meaning.specs.HeadMaps.{HeadMap as MeantMap};
-ghost use Rattle.library_meaning.specs.Coherence.{IsCoherent};
 ghost use Rattle.library_meaning.specs.Faces.{theory_of};
 ghost use Rattle.link_meaning.specs.Assignments.{Assigned as MeantAssigned};
 ghost use Rattle.link_meaning.specs.Assignments as links;
@@ -18,15 +17,16 @@ ghost use Rattle.mmt_syntax.specs.Readings as trees;
 ghost use Rattle.mmt_syntax.specs.Readings.{read_written};
 ghost use Rattle.mmt_interface.specs.CoherentFaces.{AreCoherent, MayBeHere};
 ghost use Rattle.mmt_interface.specs.Readings.{environment_of, read_theory};
-ghost use Rattle.morphism.specs.Readings.{read_setting};
-ghost use Rattle.morphism.specs.Answers.{Links, IsFirstRefusal, RefusesNothing};
+ghost use Rattle.link_passes.specs.Below.Readings.{read_setting};
+ghost use Rattle.link_passes.specs.Below.Answers.{Links, IsFirstRefusal, RefusesNothing};
 ghost use Rattle.morphism.specs.CoverCalls.{first_passes, link_between, BreaksCoveringRule, IsCodomain, AreSeen};
 
-use crate::{LinkFault, Setting, covering_map, read_assigns};
+use assignment_pass::read_assigns;
+use covering_pass::covering_map;
 use lf_terms::{FlatSig, HeadMap, Name, Names};
+use link_passes::{LinkFault, Scope, Setting};
 use mmt_interface::{Faces, TheoryFace};
 use mmt_syntax::{Assigns, Written};
-use names::Scope;
 use std::alloc::Global;
 
 /// The images that the coverings of a link give to the constants that its domain includes, theory by theory in the order of the
@@ -60,38 +60,26 @@ pub fn cover(
     ensures rules { IfErr result (λ fault. BreaksCoveringRule fault) }
 {
     let no_constants = FlatSig::new(alloc);
-    cover_between(
-        alloc,
-        faces,
-        here,
-        &no_constants,
-        domain,
-        codomain,
-        seen,
-        assigns,
-        at,
-    )
+    let setting = setting_between(faces, here, &no_constants, domain, codomain, seen, at);
+    let map = cover_link(alloc, &setting, assigns);
+    drop(no_constants);
+    map
 }
 
-/// Both passes over the link between these ends, in a setting without own constants.
-fn cover_between<'a>(
-    alloc: Global,
+/// The link between these ends, in which no value stands: a setting without own constants.
+fn setting_between<'a>(
     faces: &'a Faces,
     here: Option<&'a TheoryFace>,
     no_constants: &'a FlatSig,
     domain: &'a Name,
     codomain: &'a Name,
     seen: &'a Names,
-    assigns: &'a Assigns,
     at: &'a Written,
-) -> Result<HeadMap, LinkFault>
-    requires coherent { IsCoherent (environment_of faces.now) }
-    requires here { HereHolds (environment_of faces.now) (option_map (λ face. read_theory face.now) here) }
-    requires domain { IsSome (theory_of (environment_of faces.now) domain.now) }
-    requires no_constants { no_constants.now ≡ [] }
-    ensures { Links read_map result (first_passes (link_between (environment_of faces.now) (option_map (λ face. read_theory face.now) here.entry) domain.now codomain.now seen.now (read_written at.now)) (trees.read_assigns assigns.now)) }
+) -> Setting<'a>
+    requires { no_constants.now ≡ [] }
+    ensures { read_setting result ≡ link_between (environment_of faces.now) (option_map (λ face. read_theory face.now) here.entry) domain.now codomain.now seen.now (read_written at.now) }
 {
-    let setting = Setting {
+    Setting {
         here,
         domain,
         codomain,
@@ -102,8 +90,7 @@ fn cover_between<'a>(
         },
         structure: None,
         at,
-    };
-    cover_link(alloc, &setting, assigns)
+    }
 }
 
 /// The second pass over what the first gives.
@@ -117,5 +104,7 @@ fn cover_link<'a>(
     ensures { Links read_map result (first_passes (read_setting setting.now) (trees.read_assigns assigns.now)) }
 {
     let assigned = read_assigns(alloc, setting, assigns)?;
-    covering_map(alloc, setting, assigned.as_slice())
+    let map = covering_map(alloc, setting, assigned.as_slice());
+    drop(assigned);
+    map
 }

@@ -11,8 +11,8 @@ use Rattle.face_typing.specs.Below.TypedFaces.{IsTypedEnvironment, IsTypedTheory
 use Rattle.face_typing.specs.CarryingMaps.{CarriesTyping}
 use Rattle.mmt_syntax.specs.Readings.{read_written}
 use Rattle.mmt_syntax.specs.declared.decl.StructDecl.{StructDecl}
-use Rattle.link_passes.specs.Below.Answers.{IsFirstRefusal}
-use Rattle.link_passes.specs.Below.LinkFault.{LinkFault}
+use Rattle.morphism.specs.Below.Answers.{IsFirstRefusal}
+use Rattle.morphism.specs.Below.LinkFault.{LinkFault}
 
 -- Where the link of a structure stands.
 abbrev pub setting_of : Environment → TheoryFace → StructDecl → Setting

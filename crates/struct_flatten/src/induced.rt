@@ -12,8 +12,8 @@ ghost use Rattle.link_laws.proofs.Onces.{Once};
 ghost use Rattle.struct_flatten.specs.Steps.{induced_into};
 
 use lf_terms::{Class, FlatDecl, FlatSig, Image, Memory, Name, Path, PushFault, QName, Value};
-use link_passes::induced_constant;
 use mmt_interface::{Faces, StructFace};
+use morphism::induced_constant;
 use std::alloc::Global;
 
 /// Adds the constants that a structure of the theory with this name induces: one for each own constant of its domain that

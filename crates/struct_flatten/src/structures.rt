@@ -11,16 +11,15 @@ ghost use Rattle.term_trees.specs.Readings.{read_map, read_signature};
 ghost use Rattle.mmt_syntax.specs.Readings.{read_assigns};
 ghost use Rattle.mmt_interface.specs.CoherentFaces.{AreCoherent, IsCoherentHere};
 ghost use Rattle.mmt_interface.specs.Readings.{environment_of, read_structure, read_theory};
-ghost use Rattle.link_passes.specs.Below.Answers.{Links, RefusesNothing};
+ghost use Rattle.morphism.specs.Below.Answers.{Links, RefusesNothing};
 ghost use Rattle.struct_flatten.specs.Answers.{setting_of, Flattens, HasStructure, KeepsTyped};
 ghost use Rattle.struct_flatten.specs.Steps.{induced_into, with_face, IsBegunFrom};
 
 use crate::induced::add_induced;
 use lf_terms::{HeadMap, Memory};
-use link_passes::{LinkFault, Setting, link_map};
 use mmt_interface::{Faces, StructFace, TheoryFace};
 use mmt_syntax::{StructDecl, first_name};
-use names::Scope;
+use morphism::{LinkFault, Scope, Setting, link_map};
 use std::alloc::Global;
 
 /// Adds a structure to the theory that is being built: one induced constant for each own constant of its domain, in order,
@@ -126,6 +125,11 @@ fn add_parts(
     ensures ok { OnOk result (read_theory here.new ≡ with_face (environment_of faces.now) (read_theory here.old) (read_structure face)) }
     ensures err { OnErr result (IsBegunFrom here.old here.new) }
 {
-    add_induced(alloc, faces, &here.name, &face, &mut here.own)?;
-    here.structs.add(face)
+    match add_induced(alloc, faces, &here.name, &face, &mut here.own) {
+        Ok(()) => here.structs.add(face),
+        Err(fault) => {
+            drop(face);
+            Err(fault)
+        }
+    }
 }

@@ -12,14 +12,13 @@ ghost use Rattle.term_trees.specs.Readings.{read_map};
 ghost use Rattle.mmt_syntax.specs.Readings.{read_assigns, read_written};
 ghost use Rattle.mmt_interface.specs.CoherentFaces.{AreCoherent};
 ghost use Rattle.mmt_interface.specs.Readings.{environment_of, read_view};
-ghost use Rattle.link_passes.specs.Below.Answers.{Links, RefusesNothing};
+ghost use Rattle.morphism.specs.Below.Answers.{Links, RefusesNothing};
 ghost use Rattle.view_check.specs.Answers.{face_with, setting_of};
 
-use lf_terms::HeadMap;
-use link_passes::{LinkFault, Setting, link_map};
+use lf_terms::{HeadMap, Memory};
 use mmt_interface::{Faces, ViewFace};
 use mmt_syntax::{ViewDecl, first_name};
-use names::Scope;
+use morphism::{LinkFault, Scope, Setting, link_map};
 use std::alloc::Global;
 
 /// The face of a view whose ends are accepted theories, over coherent faces. Ok exactly where a map meets the equations of
@@ -35,10 +34,32 @@ pub fn check_view(alloc: Global, faces: &Faces, view: &ViewDecl) -> Result<ViewF
     ensures typed { IfOk result (λ face. IsTypedEnvironment (environment_of faces.now) → ViewCarriesTyping (environment_of faces.now) (read_view face)) }
 {
     let map = map_of(alloc, faces, view)?;
+    Ok(view_with(alloc, view, map)?)
+}
+
+/// The face of a view with this map.
+fn view_with(alloc: Global, view: &ViewDecl, map: HeadMap) -> Result<ViewFace, Memory>
+    ensures { IfOk result (λ face. read_view face ≡ face_with view.now (read_map map)) }
+{
+    let Ok(name) = first_name(&view.name).copy(alloc) else {
+        drop(map);
+        return Err(Memory);
+    };
+    let Ok(domain) = first_name(&view.domain).copy(alloc) else {
+        drop(map);
+        drop(name);
+        return Err(Memory);
+    };
+    let Ok(codomain) = first_name(&view.codomain).copy(alloc) else {
+        drop(map);
+        drop(name);
+        drop(domain);
+        return Err(Memory);
+    };
     Ok(ViewFace {
-        name: first_name(&view.name).copy(alloc)?,
-        domain: first_name(&view.domain).copy(alloc)?,
-        codomain: first_name(&view.codomain).copy(alloc)?,
+        name,
+        domain,
+        codomain,
         map,
     })
 }

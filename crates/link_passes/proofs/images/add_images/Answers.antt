@@ -5,9 +5,9 @@ use Rattle.std.proofs.lemmas.Result.{err_from_is_err_and}
 use Rattle.answer_meaning.specs.Answers.{◌>>=◌}
 use Rattle.link_meaning.specs.Passes.{map_all}
 use Rattle.term_trees.specs.Readings.{read_declaration, read_map, read_signature}
-use Rattle.morphism.specs.Readings.{read_all_assigned, read_setting}
-use Rattle.link_passes.proofs.Chained.{same_fault}
-use Rattle.morphism.proofs.FirstRefusals.{refuses_then}
+use Rattle.link_setting.specs.Readings.{read_all_assigned, read_setting}
+use Rattle.link_setting.proofs.Chained.{same_fault}
+use Rattle.link_setting.proofs.FirstRefusals.{refuses_then}
 use Rattle.list_laws.proofs.Places.{drop_here}
 use Rattle.mapping_laws.specs.NextImages.{StandsBefore}
 use Rattle.mapping_laws.proofs.NextMapped.{next_is_mapped, next_stands_before}

@@ -2,7 +2,7 @@ use Rattle.std.proofs.Common.{◌≡◌, drop}
 use Rattle.link_meaning.specs.Passes.{map_all}
 use Rattle.mapping_laws.specs.NextImages.{StandsBefore}
 use Rattle.term_trees.specs.Readings.{read_map, read_signature}
-use Rattle.morphism.specs.Readings.{read_all_assigned, read_setting}
+use Rattle.link_setting.specs.Readings.{read_all_assigned, read_setting}
 use Rattle.link_passes.proofs.images.add_images.Given as goal
 
 -- The declarations that are left go on from the map so far, which has images for all that stands before them.

@@ -4,7 +4,7 @@ use Rattle.library_meaning.specs.Faces.{own_of}
 use Rattle.mapping_laws.specs.NextImages.{StandsBefore}
 use Rattle.term_trees.specs.Readings.{read_map, read_signature}
 use Rattle.mmt_interface.specs.Readings.{read_theory}
-use Rattle.morphism.specs.Readings.{read_setting}
+use Rattle.link_setting.specs.Readings.{read_setting}
 use Rattle.link_passes.proofs.Imaging.{own_are_own}
 use Rattle.link_passes.proofs.images.add_own_images.Goals as goal
 

@@ -1,6 +1,6 @@
 use Rattle.std.proofs.Common.{◌+◌, drop, sym, ◌∙◌}
 use Rattle.link_meaning.specs.Passes.{reached_by}
-use Rattle.morphism.specs.Readings.{read_all_assigned, read_assigned}
+use Rattle.link_setting.specs.Readings.{read_all_assigned, read_assigned}
 use Rattle.link_passes.proofs.Reaching.{reached_at, reached_nowhere}
 use Rattle.link_passes.proofs.reached.reached_by.Goals as goal
 

@@ -1,6 +1,6 @@
 use Rattle.std.proofs.Common.{◌≡◌, drop}
 use Rattle.link_meaning.specs.Passes.{reached_by}
-use Rattle.morphism.specs.Readings.{read_all_assigned}
+use Rattle.link_setting.specs.Readings.{read_all_assigned}
 use Rattle.link_passes.proofs.reached.reached_by.Given as goal
 
 -- The assignments that are left decide.

@@ -1,7 +1,7 @@
 use Rattle.std.proofs.Common.{◌≡◌, true, false, sym, ap, ◌∙◌}
 use Rattle.link_meaning.specs.Passes.{by_equal, equal_paths}
 use Rattle.mmt_syntax.specs.Readings.{read_expr}
-use Rattle.morphism.specs.Readings.{read_assigned}
+use Rattle.link_setting.specs.Readings.{read_assigned}
 use Rattle.link_passes.specs.Reaching.{reached_through}
 use Rattle.link_passes.proofs.Reaching.{equal_as_names}
 use Rattle.link_passes.proofs.reached.reached_through_one.Goals as goal

@@ -2,7 +2,7 @@ use Rattle.std.proofs.Common.{◌≡◌, suc, ◌+◌, ◌&&◌, true, false, dr
 use Rattle.std.specs.Prelude.{slice_get}
 use Rattle.link_meaning.specs.Passes.{shares}
 use Rattle.term_trees.specs.Readings.{read_declaration, read_map, read_signature}
-use Rattle.morphism.specs.Below.Readings.{read_link}
+use Rattle.link_setting.specs.Below.Readings.{read_link}
 use Rattle.link_passes.specs.Steps.{share}
 use Rattle.link_passes.proofs.SharedParts.{share_constant}
 use Rattle.link_passes.proofs.sharing.constants_shared.Goals as goal

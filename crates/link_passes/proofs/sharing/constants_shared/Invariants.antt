@@ -1,6 +1,6 @@
 use Rattle.std.proofs.Common.{◌≡◌, drop}
 use Rattle.term_trees.specs.Readings.{read_map, read_signature}
-use Rattle.morphism.specs.Below.Readings.{read_link}
+use Rattle.link_setting.specs.Below.Readings.{read_link}
 use Rattle.link_passes.specs.Steps.{share}
 use Rattle.link_passes.proofs.sharing.constants_shared.Given as goal
 

@@ -1,6 +1,6 @@
 use Rattle.std.proofs.Common.{subst}
 use Rattle.term_trees.specs.Readings.{read_map}
-use Rattle.morphism.specs.Readings.{read_assigned}
+use Rattle.link_setting.specs.Readings.{read_assigned}
 use Rattle.link_passes.specs.SharedImages.{SharesMapped}
 use Rattle.link_passes.proofs.sharing.shared_test.Goals as goal
 

@@ -1,7 +1,7 @@
 use Rattle.std.proofs.Common.{◌≡◌, Some, slice_get, sym, ap, ◌∙◌}
 use Rattle.std.proofs.lemmas.Option.{slice_get-get_or}
 use Rattle.list_laws.proofs.Members.{map_in, place_member}
-use Rattle.morphism.specs.Readings.{read_assigned}
+use Rattle.link_setting.specs.Readings.{read_assigned}
 use Rattle.link_passes.proofs.sharing.shared_tests.Goals as goal
 
 pub shared_test-requires : goal.shared_test-requires

@@ -2,7 +2,7 @@ use Rattle.std.proofs.Common.{◌≡◌, drop}
 use Rattle.link_meaning.specs.Passes.{shared_test}
 use Rattle.link_meaning.specs.Refusals.{each}
 use Rattle.term_trees.specs.Readings.{read_map}
-use Rattle.morphism.specs.Readings.{read_all_assigned, read_setting}
+use Rattle.link_setting.specs.Readings.{read_all_assigned, read_setting}
 use Rattle.link_passes.proofs.sharing.shared_tests.Given as goal
 
 -- The tests that are left decide.

@@ -2,7 +2,7 @@ use Rattle.std.proofs.Common.{◌≡◌, drop}
 use Rattle.library_meaning.specs.Faces.{own_parts}
 use Rattle.term_trees.specs.Readings.{read_map}
 use Rattle.mmt_interface.specs.Readings.{environment_of}
-use Rattle.morphism.specs.Below.Readings.{read_link}
+use Rattle.link_setting.specs.Below.Readings.{read_link}
 use Rattle.link_passes.specs.Steps.{share}
 use Rattle.link_passes.proofs.sharing.theories_shared.Given as goal
 

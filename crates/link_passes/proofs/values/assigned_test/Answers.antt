@@ -2,8 +2,8 @@ use Rattle.std.proofs.Common.{sym, ap₂}
 use Rattle.expansion_meaning.specs.Rules.{DefinitionClash}
 use Rattle.link_meaning.specs.Assignments.{label_along}
 use Rattle.link_meaning.specs.Refusals.{demand}
-use Rattle.morphism.specs.Readings.{read_setting}
-use Rattle.link_passes.proofs.Chained.{same_answer}
+use Rattle.link_setting.specs.Readings.{read_setting}
+use Rattle.link_setting.proofs.Chained.{same_answer}
 use Rattle.link_passes.proofs.Spans.{span_is}
 use Rattle.link_passes.proofs.values.assigned_test.Goals as goal
 

@@ -5,7 +5,7 @@ use Rattle.text_meaning.specs.TextAnswers as texts
 use Rattle.library_meaning.specs.Faces.{IsAbsent}
 use Rattle.verdict_meaning.specs.Verdicts.{judge_answer, judge_tree}
 use Rattle.mmt_syntax.specs.Readings.{read_module}
-use Rattle.morphism.specs.Answers.{IsFirstRefusal}
+use Rattle.link_setting.specs.Answers.{IsFirstRefusal}
 use Rattle.module_check.proofs.Judged.{unread_refused}
 use Rattle.module_check.proofs.cycles.refusal.Goals as goal
 

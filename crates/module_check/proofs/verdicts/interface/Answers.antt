@@ -3,7 +3,7 @@ use Rattle.text_meaning.specs.Reading.{ModuleText}
 use Rattle.text_meaning.specs.TextAnswers as texts
 use Rattle.verdict_meaning.specs.Verdicts as meaning
 use Rattle.mmt_interface.specs.Readings.{environment_of, read_interface}
-use Rattle.morphism.specs.Answers.{Links}
+use Rattle.link_setting.specs.Answers.{Links}
 use Rattle.module_check.proofs.Judged.{unread_refused}
 use Rattle.module_check.proofs.verdicts.interface.Goals as goal
 

@@ -14,7 +14,7 @@ use Rattle.term_trees.specs.Readings.{read_map}
 use Rattle.mmt_syntax.specs.Readings.{read_assigns, read_written}
 use Rattle.mmt_interface.proofs.Known.{lacked_is_absent}
 use Rattle.mmt_interface.specs.Readings.{environment_of, read_theory}
-use Rattle.link_passes.proofs.Chained.{refuses_nothing}
+use Rattle.morphism.proofs.Below.Chained.{refuses_nothing}
 use Rattle.struct_flatten.specs.Answers.{setting_of}
 use Rattle.struct_flatten.specs.Steps.{induced_into, with_face}
 use Rattle.struct_flatten.proofs.TypedStructures.{structure_keeps_typed}

@@ -1,17 +1,14 @@
-use Rattle.std.proofs.Common.{◌≡◌, Ok, ap, sym, subst, ◌∙◌}
+use Rattle.std.proofs.Common.{Ok, ap, sym, subst, ◌∙◌}
 use Rattle.std.proofs.lemmas.Result.{err_from_is_err_and}
 use Rattle.link_meaning.specs.LinkMaps.{IsSettled}
 use Rattle.link_meaning.specs.Passes.{link_map}
 use Rattle.link_laws.proofs.Linked.{link_map_meets_equations}
-use Rattle.lf_meaning.specs.HeadMaps.{HeadMap}
-use Rattle.library_meaning.specs.Faces.{ViewFace}
-use Rattle.name_meaning.specs.Names.{Name}
 use Rattle.term_trees.specs.Readings.{read_map}
 use Rattle.mmt_syntax.specs.Readings.{read_assigns}
 use Rattle.face_typing.specs.CarryingMaps.{ViewCarriesTyping}
 use Rattle.mmt_interface.specs.Readings.{environment_of}
 use Rattle.mmt_interface.specs.declared.face.ViewFace as code
-use Rattle.link_passes.proofs.Chained.{refuses_nothing}
+use Rattle.morphism.proofs.Below.Chained.{refuses_nothing}
 use Rattle.view_check.specs.Answers.{setting_of}
 use Rattle.view_check.proofs.CheckedViews.{checked_face}
 use Rattle.view_check.proofs.TypedViews.{linked_view_carries}
@@ -31,26 +28,16 @@ returns-clause-map c =
     let assigns = read_assigns c.args.view.now.assigns in
     let along = read_map c.in_ok-map.map in
     let settled : IsSettled setting = record { coherent = c.requires.coherent.known; theory = c.requires.domain } in
-    let named : Name → Name → Name → ViewFace = λ n d e. record { name = n; domain = d; codomain = e; map = along } in (
-      along,
-      (link_map_meets_equations setting assigns along settled).0 c.in_ok-map.ensures,
-      (λ i. named ((c.in_ok-copy.ensures ∙ c.first_name.ensures) i) ((c.in_ok-copy-2.ensures ∙ c.first_name-2.ensures) i) ((c.in_ok-copy-3.ensures ∙ c.first_name-3.ensures) i)),
-    )
-
-faces_same : (along : HeadMap) {n m d e f g : Name} → n ≡ m → d ≡ e → f ≡ g
-    → ◌≡◌ {A = ViewFace} (record { name = n; domain = d; codomain = f; map = along }) (record { name = m; domain = e; codomain = g; map = along })
-faces_same along p q r = λ i. record { name = p i; domain = q i; codomain = r i; map = along }
+    (along, (link_map_meets_equations setting assigns along settled).0 c.in_ok-map.ensures, c.in_ok-view_with.ensures)
 
 pub returns-clause-answer : goal.returns-clause-answer
 returns-clause-answer c =
     let along = read_map c.in_ok-map.map in
-    checked_face (environment_of c.args.faces.now) c.args.view.now along c.requires.domain c.requires.codomain c.in_ok-map.ensures
-    ∙ ap Ok (sym (faces_same along (c.in_ok-copy.ensures ∙ c.first_name.ensures) (c.in_ok-copy-2.ensures ∙ c.first_name-2.ensures) (c.in_ok-copy-3.ensures ∙ c.first_name-3.ensures)))
+    checked_face (environment_of c.args.faces.now) c.args.view.now along c.requires.domain c.requires.codomain c.in_ok-map.ensures ∙ ap Ok (sym c.in_ok-view_with.ensures)
 
 pub returns-clause-typed : goal.returns-clause-typed
 returns-clause-typed c = λ known.
     let environment = environment_of c.args.faces.now in
     let along = read_map c.in_ok-map.map in
-    subst (ViewCarriesTyping environment)
-    (sym (faces_same along (c.in_ok-copy.ensures ∙ c.first_name.ensures) (c.in_ok-copy-2.ensures ∙ c.first_name-2.ensures) (c.in_ok-copy-3.ensures ∙ c.first_name-3.ensures)))
+    subst (ViewCarriesTyping environment) (sym c.in_ok-view_with.ensures)
     (linked_view_carries environment c.args.view.now along c.requires.coherent.known c.requires.domain c.requires.codomain c.in_ok-map.ensures known)

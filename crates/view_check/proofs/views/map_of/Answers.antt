@@ -3,7 +3,7 @@ use Rattle.std.specs.Prelude.{IsSome}
 use Rattle.name_meaning.specs.Names.{Name}
 use Rattle.library_meaning.specs.Faces.{theory_of}
 use Rattle.mmt_interface.specs.Readings.{environment_of}
-use Rattle.morphism_words.proofs.CoherentLinks.{here_holds}
+use Rattle.morphism.proofs.Below.CoherentLinks.{here_holds}
 use Rattle.view_check.proofs.views.map_of.Goals as goal
 
 pub link_map-requires-clause-here : goal.link_map-requires-clause-here

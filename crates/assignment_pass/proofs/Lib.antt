@@ -1,0 +1,4 @@
+mod AssignmentsLeft
+mod FirstNames
+mod FreeTargets
+mod SharedStructures

@@ -1,0 +1,5 @@
+mod NameTables
+mod Identities
+mod CoverLists
+mod AllCovered
+mod NextImages

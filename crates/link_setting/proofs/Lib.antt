@@ -1,0 +1,5 @@
+pub mod Below
+pub mod FirstRefusals
+pub mod Refusing
+pub mod Chained
+pub mod NewImages

@@ -1,0 +1,4 @@
+pub mod Below
+pub mod Readings
+pub mod Answers
+pub mod Labels

@@ -1,7 +1,0 @@
-use Rattle.std.proofs.Common.{◌≡◌, drop}
-use Rattle.link_meaning.specs.Coverings.{first_map}
-use Rattle.morphism.specs.CoverTables.{covers_in}
-use Rattle.morphism.proofs.cover_tables.Covers.first_map.Given as goal
-
-abbrev pub invariant-loop-cover : goal.invariant-loop-cover
-invariant-loop-cover l = first_map (covers_in (drop l.cover-index l.self.covers.items) l.theory) ≡ first_map (covers_in l.self.covers.items l.theory)
