@@ -39,8 +39,8 @@ use Rattle.elaborate.specs.declared.fault.ElabFault.{ElabFault}
 use Rattle.elaborate.specs.declared.fault.ElabFault.TheVariants as expansion
 use Rattle.judgement_carrying.specs.Expanded.{IsFirstIll, ill_of}
 use Rattle.judgement_carrying.specs.OneLibrary.{HoldReachOf}
+use Rattle.mapping_laws.proofs.Mapped.{object_mapped, family_mapped}
 use Rattle.judgement_carrying.proofs.OneLibraryKnown.{known_alone}
-use Rattle.judgement_carrying.proofs.Mapped.{object_mapped, family_mapped}
 
 -- ---- the view, and the theory that it is from
 
@@ -117,13 +117,13 @@ module _ (environment : Environment) (view : faces.ViewFace) (source : faces.The
 
       pub family_images : unmapped_family view.map family ≡ None
       family_images =
-          family_mapped (flat_signature environment source) (flat_of environment view.codomain) view.map
-          (coherent_maps_into (flat_signature environment source) (flat_of environment view.codomain) view.map map) family 0 family_stands_holds
+          family_mapped (flat_signature environment source) view.map
+          (λ c class there. ap is_some (coherent_maps_into (flat_signature environment source) (flat_of environment view.codomain) view.map map c class there).is) family 0 family_stands_holds
 
       pub object_images : (object : Object) → expand_object (scope_in environment source) [] judgement.object family ≡ Ok object → unmapped_object view.map object ≡ None
       object_images object h =
-          object_mapped (flat_signature environment source) (flat_of environment view.codomain) view.map
-          (coherent_maps_into (flat_signature environment source) (flat_of environment view.codomain) view.map map) object 0
+          object_mapped (flat_signature environment source) view.map
+          (λ c class there. ap is_some (coherent_maps_into (flat_signature environment source) (flat_of environment view.codomain) view.map map c class there).is) object 0
           (standing_object_holds (scope_in environment source) [] judgement.object family object scope tt family_stands_holds
           (object_sound judgement.object (scope_in environment source) [] family object h))
 

@@ -1,4 +1,3 @@
 pub mod Below
-pub mod Mapped
 pub mod OneLibraryKnown
 pub mod CarriedJudgements
