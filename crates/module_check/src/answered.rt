@@ -34,8 +34,13 @@ pub fn faces_with(
     ensures { IfOk result (λ faces. faces ≡ present_rows answers.now ++ (name.now, verdict.now) ∷ []) }
 {
     let mut faces = faces_of(alloc, answers)?;
-    add(&mut faces, name.copy(alloc)?, verdict.share()?)?;
-    Ok(faces)
+    match add_present(alloc, &mut faces, name, Some(verdict)) {
+        Ok(()) => Ok(faces),
+        Err(fault) => {
+            drop(faces);
+            Err(fault)
+        }
+    }
 }
 
 /// Adds the verdict of a module that is present.

@@ -33,11 +33,47 @@ pub fn scratch(alloc: Global, log: &Log) -> Result<Faces, Memory>
     ensures coherent { IfOk result (λ faces. AreCoherent faces) }
 {
     let graph = graph_of(alloc, log)?;
-    let known = grounded(alloc, &graph)?;
-    let mut faces = Faces::new(alloc);
-    add_ungrounded(alloc, log, &graph, &known, &mut faces)?;
-    add_grounded(alloc, log, &graph, &known, &mut faces)?;
+    let found = faces_over(alloc, log, &graph);
+    drop(graph);
+    let faces = found?;
     Ok(faces)
+}
+
+/// The verdict on each module, where this is the graph of the library.
+fn faces_over(alloc: Global, log: &Log, graph: &Graph) -> Result<Faces, Memory>
+    requires { HoldsDependencies graph.now dependencies (library_of log.now) }
+    ensures verdicts { IfOk result (λ faces. AreVerdicts (library_of log.now) faces) }
+    ensures all { IfOk result (λ faces. HaveAll (library_of log.now) (row_names faces)) }
+{
+    let known = grounded(alloc, graph)?;
+    let mut faces = Faces::new(alloc);
+    let added = add_all(alloc, log, graph, &known, &mut faces);
+    drop(known);
+    match added {
+        Ok(()) => Ok(faces),
+        Err(fault) => {
+            drop(faces);
+            Err(fault)
+        }
+    }
+}
+
+/// Adds the verdicts on all modules, where the grounded names are these and there is no verdict yet.
+fn add_all(
+    alloc: Global,
+    log: &Log,
+    graph: &Graph,
+    known: &Names,
+    faces: &mut Faces,
+) -> Result<(), Memory>
+    requires holds { HoldsDependencies graph.now dependencies (library_of log.now) }
+    requires grounded { known.now ≡ graph_grounded graph.now }
+    requires nothing { faces.old ≡ [] }
+    ensures verdicts { OnOk result (AreVerdicts (library_of log.now) faces.new) }
+    ensures all { OnOk result (HaveAll (library_of log.now) (row_names faces.new)) }
+{
+    add_ungrounded(alloc, log, graph, known, faces)?;
+    add_grounded(alloc, log, graph, known, faces)
 }
 
 /// Adds the verdicts on the ungrounded modules, where the grounded names are these and there is no verdict yet.

@@ -1,8 +1,8 @@
 //! The answers of a name's reach, where they are known.
-ghost use Rattle.std.specs.Prelude.{◌≡◌, true, IfOk};
+ghost use Rattle.std.specs.Prelude.{◌≡◌, ◌∷◌, ◌++◌, [], true, IfOk, OnOk};
 ghost use Rattle.std.specs.Option.{option_map};
 ghost use Rattle.name_meaning.specs.Names.{is_among};
-ghost use Rattle.name_meaning.specs.Rows.{row_names};
+ghost use Rattle.name_meaning.specs.Rows.{row_names, IsTable};
 ghost use Rattle.log_meaning.specs.Log.{is_present, library_of};
 ghost use Rattle.text_meaning.specs.Dependencies.{dependencies};
 ghost use Rattle.walk_meaning.specs.Graphs.{HoldsDependencies};
@@ -32,19 +32,39 @@ pub(crate) fn known_answers(
     requires reach { HasReachOf (library_of log.now) (row_names faces.now) name.now }
     ensures { IfOk result (λ answers. read_answers read_verdict answers ≡ answers_of modules (library_of log.now) name.now) }
 {
-    let mut answers = Answers::new(alloc);
     let reached = reach(alloc, graph, name)?;
+    let mut answers = Answers::new(alloc);
     for other in reached.as_slice() {
         if name == other {
             continue;
         }
         let answer = known_answer(log, faces, other)?;
-        match answers.push(other.copy(alloc)?, answer) {
-            Ok(()) => {}
-            Err(_) => return Err(Memory),
-        }
+        push_answer(alloc, &mut answers, other, answer)?;
     }
     Ok(answers)
+}
+
+/// Adds the answer of a name that comes next in byte order.
+fn push_answer(
+    alloc: Global,
+    answers: &mut Answers<Verdict>,
+    name: &Name,
+    answer: Option<Verdict>,
+) -> Result<(), Memory>
+    requires { IsTable (answers.old ++ (name.now, answer) ∷ []) }
+    ensures { OnOk result (answers.new ≡ answers.old ++ (name.now, answer) ∷ []) }
+{
+    let Ok(name) = name.copy(alloc) else {
+        drop(answer);
+        return Err(Memory);
+    };
+    match answers.push(name, answer) {
+        Ok(()) => Ok(()),
+        Err(back) => {
+            drop(back);
+            Err(Memory)
+        }
+    }
 }
 
 /// The verdict of a name; none of an absent name.

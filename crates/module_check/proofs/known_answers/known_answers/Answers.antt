@@ -23,16 +23,16 @@ known_answer-requires-clause-there c =
     let reached = c.as_slice-other-items.ensures ∙ c.in_ok-reached.ensures ∙ graph_reaches c.args.graph.now dependencies L c.requires.holds c.args.name.now in
     c.requires.reach other (in_reach L c.args.name.now other (subst (Member other) reached (place_member xs c.loop-other.other-index other here)) (sym c.eq.ensures ∙ c.if-eq.false))
 
-pub push-requires : goal.push-requires
-push-requires c =
+pub push_answer-requires : goal.push_answer-requires
+push_answer-requires c =
     let L = library_of c.args.log.now in
     let xs = c.as_slice-other-items.result.now in
     let here : slice_get xs c.loop-other.other-index ≡ Some c.other-item.result = slice_get-get_or xs c.loop-other.other-index c.other-item.result c.loop-other-test.true ∙ ap Some (sym c.other-item.is) in
     let f = present_answer modules L in
     let p = λ (other : Name). not (same_name c.args.name.now other) in
-    rw c.in_ok-copy.ensures (answers_table read_verdict f p xs (suc c.loop-other.other-index) _
+    answers_table read_verdict f p xs (suc c.loop-other.other-index) _
     (ap is_ascending (c.as_slice-other-items.ensures ∙ c.in_ok-reached.ensures ∙ graph_reaches c.args.graph.now dependencies L c.requires.holds c.args.name.now) ∙ reach_ascending dependencies L c.args.name.now)
-    (answers_more read_verdict f p xs c.loop-other.other-index c.other-item.result c.loop-other.answers c.in_ok-answer.answer here (ap not (sym c.eq.ensures ∙ c.if-eq.false)) c.in_ok-answer.ensures c.loop-other.invariant))
+    (answers_more read_verdict f p xs c.loop-other.other-index c.other-item.result c.loop-other.answers c.in_ok-answer.answer here (ap not (sym c.eq.ensures ∙ c.if-eq.false)) c.in_ok-answer.ensures c.loop-other.invariant)
 
 pub loop-other-preserved : goal.loop-other-preserved
 loop-other-preserved c =
@@ -41,7 +41,7 @@ loop-other-preserved c =
     let f = present_answer modules (library_of c.args.log.now) in
     let p = λ (other : Name). not (same_name c.args.name.now other) in
     let one : c.loop-other.other-index + 1 ≡ suc c.loop-other.other-index = omega arith in
-    rw (one, c.in-Ok.ensures.ok, c.in_ok-copy.ensures)
+    rw (one, c.in_ok-push_answer.ensures)
     (answers_more read_verdict f p xs c.loop-other.other-index c.other-item.result c.loop-other.answers c.in_ok-answer.answer here (ap not (sym c.eq.ensures ∙ c.if-eq.false)) c.in_ok-answer.ensures c.loop-other.invariant)
 
 pub returns : goal.returns
