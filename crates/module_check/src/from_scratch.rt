@@ -116,7 +116,11 @@ fn add_cyclic(
         unreachable!();
     };
     let verdict = cyclic(alloc, name, text, bad)?;
-    add(faces, name.copy(alloc)?, verdict)
+    let Ok(name) = name.copy(alloc) else {
+        drop(verdict);
+        return Err(Memory);
+    };
+    add(faces, name, verdict)
 }
 
 /// Adds the verdicts on the grounded modules, whose names these are, where those on the ungrounded ones are there.
@@ -161,6 +165,12 @@ fn add_judged(
         unreachable!();
     };
     let answers = known_answers(alloc, log, graph, faces, name)?;
-    let verdict = judged(alloc, name, text, &answers)?;
-    add(faces, name.copy(alloc)?, verdict)
+    let found = judged(alloc, name, text, &answers);
+    drop(answers);
+    let verdict = found?;
+    let Ok(name) = name.copy(alloc) else {
+        drop(verdict);
+        return Err(Memory);
+    };
+    add(faces, name, verdict)
 }

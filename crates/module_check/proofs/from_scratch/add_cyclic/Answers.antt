@@ -26,14 +26,14 @@ returns-clause-verdicts c =
     let L = library_of c.args.log.now in
     let here = cyclic_here c.args.log.now c.args.name.now c.in-Some.text.now c.args.bad.now c.in-Some.ensures.text c.requires.ungrounded c.requires.others in
     OnOk-map c.add.result _ _
-    (λ h. subst (AreVerdicts L) (sym (h ∙ ap (λ n. c.args.faces.now ++ (n, c.in_ok-verdict.verdict) ∷ []) c.in_ok-copy.ensures)) (verdicts_more L c.args.faces.now c.args.name.now c.in_ok-verdict.verdict c.requires.verdicts (c.in_ok-verdict.ensures L here)))
+    (λ h. subst (AreVerdicts L) (sym (h ∙ ap (λ n. c.args.faces.now ++ (n, c.in_ok-verdict.verdict) ∷ []) c.in-Ok.ensures)) (verdicts_more L c.args.faces.now c.args.name.now c.in_ok-verdict.verdict c.requires.verdicts (c.in_ok-verdict.ensures L here)))
     c.add.ensures
 
 pub returns-clause-names : goal.returns-clause-names
 returns-clause-names c =
     OnOk-map c.add.result _ _
-    (λ h. ap row_names (h ∙ ap (λ n. c.args.faces.now ++ (n, c.in_ok-verdict.verdict) ∷ []) c.in_ok-copy.ensures) ∙ map_last (λ (row : Name × Verdict). row.0) c.args.faces.now (c.args.name.now, c.in_ok-verdict.verdict))
+    (λ h. ap row_names (h ∙ ap (λ n. c.args.faces.now ++ (n, c.in_ok-verdict.verdict) ∷ []) c.in-Ok.ensures) ∙ map_last (λ (row : Name × Verdict). row.0) c.args.faces.now (c.args.name.now, c.in_ok-verdict.verdict))
     c.add.ensures
 
 pub add-requires : goal.add-requires
-add-requires c = ap (is_among (row_names c.args.faces.now)) c.in_ok-copy.ensures ∙ c.requires.new
+add-requires c = ap (is_among (row_names c.args.faces.now)) c.in-Ok.ensures ∙ c.requires.new

@@ -19,8 +19,8 @@ unreachable-requires c =
     let n = c.args.name.now in
     text_there L n (option_copied c.text.result) c.text.ensures.text (and_parts (is_present L n) (not (is_ungrounded dependencies L n)) c.requires.grounded).0 (ap option_copied c.in_default.is)
 
-pub judged-requires-clause-given : goal.judged-requires-clause-given
-judged-requires-clause-given c =
+pub judged-found-requires-clause-given : goal.judged-found-requires-clause-given
+judged-found-requires-clause-given c =
     (library_of c.args.log.now, given_here c.args.log.now c.args.name.now c.in-Some.text.now c.in_ok-answers.answers c.in-Some.ensures.text c.requires.grounded c.in_ok-answers.ensures)
 
 pub returns-clause-verdicts : goal.returns-clause-verdicts
@@ -28,14 +28,14 @@ returns-clause-verdicts c =
     let L = library_of c.args.log.now in
     let here = given_here c.args.log.now c.args.name.now c.in-Some.text.now c.in_ok-answers.answers c.in-Some.ensures.text c.requires.grounded c.in_ok-answers.ensures in
     OnOk-map c.add.result _ _
-    (λ h. subst (AreVerdicts L) (sym (h ∙ ap (λ n. c.args.faces.now ++ (n, c.in_ok-verdict.verdict) ∷ []) c.in_ok-copy.ensures)) (verdicts_more L c.args.faces.now c.args.name.now c.in_ok-verdict.verdict c.requires.verdicts (c.in_ok-verdict.ensures L here)))
+    (λ h. subst (AreVerdicts L) (sym (h ∙ ap (λ n. c.args.faces.now ++ (n, c.in_ok-verdict.verdict) ∷ []) c.in-Ok.ensures)) (verdicts_more L c.args.faces.now c.args.name.now c.in_ok-verdict.verdict c.requires.verdicts (c.in_ok-verdict.ensures L here)))
     c.add.ensures
 
 pub returns-clause-names : goal.returns-clause-names
 returns-clause-names c =
     OnOk-map c.add.result _ _
-    (λ h. ap row_names (h ∙ ap (λ n. c.args.faces.now ++ (n, c.in_ok-verdict.verdict) ∷ []) c.in_ok-copy.ensures) ∙ map_last (λ (row : Name × Verdict). row.0) c.args.faces.now (c.args.name.now, c.in_ok-verdict.verdict))
+    (λ h. ap row_names (h ∙ ap (λ n. c.args.faces.now ++ (n, c.in_ok-verdict.verdict) ∷ []) c.in-Ok.ensures) ∙ map_last (λ (row : Name × Verdict). row.0) c.args.faces.now (c.args.name.now, c.in_ok-verdict.verdict))
     c.add.ensures
 
 pub add-requires : goal.add-requires
-add-requires c = ap (is_among (row_names c.args.faces.now)) c.in_ok-copy.ensures ∙ c.requires.new
+add-requires c = ap (is_among (row_names c.args.faces.now)) c.in-Ok.ensures ∙ c.requires.new
