@@ -2,7 +2,9 @@
 #![tactic(auto)]
 
 mod all_turns;
+mod hall;
 mod one_turn;
 
 pub use all_turns::work;
+pub use hall::Hall;
 pub use one_turn::{TurnEnd, turn};
