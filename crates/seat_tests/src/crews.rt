@@ -15,6 +15,7 @@ use std::sync::Wait;
 use std::thread::{Threads, join_mut};
 use verdict_board::Board;
 use worker_crew::{dismiss, hire, work_all};
+use worker_loop::Hall;
 
 /// A front and so many workers, in threads of their own. Where no thread can be made the last of the two comes first, so the front is
 /// that one. The answer is the board, and whether all verdicts were told and all work was done.
@@ -32,12 +33,19 @@ pub fn by_crew<R: Threads + Wait + Sync>(
 {
     let mut crew = hire(alloc, &board, &mut first, workers)?;
     let shared = &board;
+    let hall = Hall {
+        rt,
+        alloc,
+        board: shared,
+        subject: &Sizes,
+        gate: &OpenGate,
+    };
     let ((), told) = join_mut(
         rt,
         &mut ||
-            requires { AreWorkers sizes.dependencies shared.now crew }
-            ensures { AreWorkers sizes.dependencies shared.entry.now crew.exit × (length crew.exit ≡ length crew.entry) }
-        { work_all(rt, alloc, shared, &Sizes, &OpenGate, &mut crew) },
+            requires { AreWorkers sizes.dependencies hall.board.now crew }
+            ensures { AreWorkers sizes.dependencies hall.entry.board.now crew.exit × (length crew.exit ≡ length crew.entry) }
+        { work_all(&hall, &mut crew) },
         &mut || -> bool
             requires { IsIdleOf shared.now first × (first.number ≡ 0) }
             ensures { Keeps first.entry first.exit × IsLegal sizes.dependencies first.exit.seen }

@@ -6,11 +6,11 @@ ghost use Rattle.board_meaning.specs.Legal.{IsLegal};
 ghost use Rattle.board_meaning.specs.Ready.{is_closed};
 ghost use Rattle.board_seats.specs.Seats.{Keeps};
 
-use board_seats::{BoardPass, SharedBoard};
+use board_seats::BoardPass;
 use mmt_outside::Gate;
 use module_graph::Subject;
-use std::alloc::Global;
 use std::sync::Wait;
+use worker_loop::Hall;
 
 /// A front plays on a board through pass 0, while workers bring verdicts. It takes from an input and gives to an output.
 pub trait Front<S: Subject, I, O> {
@@ -23,15 +23,12 @@ pub trait Front<S: Subject, I, O> {
     /// Plays on a board that has no entries, and closes it, for which the workers wait.
     fn lead<R: Wait, G: Gate>(
         &self,
-        rt: &R,
-        alloc: Global,
-        gate: &G,
-        board: &SharedBoard<S>,
+        hall: &Hall<'_, R, S, G>,
         pass: &mut BoardPass<S>,
         input: &mut I,
         output: &mut O,
     ) -> Self::End
-        requires idle { IsIdleOf board.now pass.old }
+        requires idle { IsIdleOf hall.now.board.now pass.old }
         requires first { pass.old.number ≡ 0 }
         requires empty { pass.old.seen ≡ [] }
         ensures keeps { Keeps pass.old pass.new }

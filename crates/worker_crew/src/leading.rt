@@ -13,6 +13,7 @@ use std::sync::Wait;
 use std::thread::{Threads, join_mut};
 use turn_lock::NewFault;
 use verdict_board::Board;
+use worker_loop::Hall;
 
 /// A board after its front, and how the front ended. None: memory was wanting for the lock or for the workers, and the front did
 /// not begin.
@@ -22,14 +23,17 @@ pub struct Led<S: Subject, E: Drop> {
     pub end: Option<E>,
 }
 
-/// What the front and its workers share.
+/// What a front and its workers will share, beside the board.
 #[derive(Drop)]
-struct Hall<'a, R, S: Subject, G> {
-    rt: &'a R,
-    alloc: Global,
-    board: &'a SharedBoard<S>,
-    subject: &'a S,
-    gate: &'a G,
+pub struct Setting<'a, R, S: Subject, G> {
+    /// The handle by which threads are made and waited for.
+    pub rt: &'a R,
+    /// The allocator of whatever is made on the way.
+    pub alloc: Global,
+    /// What the board is of: by it a worker judges modules.
+    pub subject: &'a S,
+    /// The gate, which is told of each module before its verdict is brought.
+    pub gate: &'a G,
 }
 
 /// The front leads and the crew works, each in a thread of its own where one can be made, until both are done. Where none can be made
@@ -42,7 +46,6 @@ fn lead_beside<
     F: Front<S, I, O> + Sync,
     G: Gate + Sync,
 >(
-    rt: &R,
     hall: &Hall<'_, R, S, G>,
     first: &mut BoardPass<S>,
     crew: &mut Crew<S>,
@@ -60,25 +63,12 @@ fn lead_beside<
     let mut leading = || -> F::End
         requires { IsIdleOf hall.now.board.now first.now × (first.now.number ≡ 0) × (first.now.seen ≡ []) }
         ensures { HasLed S.subject.dependencies first.entry.now (F.leads front.entry.now result input.entry.now input.exit.now output.entry.now output.exit.now) first.exit.now }
-    {
-        front.lead(
-            hall.rt, hall.alloc, hall.gate, hall.board, first, input, output,
-        )
-    };
+    { front.lead(hall, first, input, output) };
     let mut working = ||
         requires { AreWorkers S.subject.dependencies hall.now.board.now crew.now }
         ensures { AreWorkers S.subject.dependencies hall.entry.now.board.now crew.exit.now × (length crew.exit.now ≡ length crew.entry.now) }
-    {
-        work_all(
-            hall.rt,
-            hall.alloc,
-            hall.board,
-            hall.subject,
-            hall.gate,
-            crew,
-        )
-    };
-    let ((), end) = join_mut(rt, &mut working, &mut leading);
+    { work_all(hall, crew) };
+    let ((), end) = join_mut(hall.rt, &mut working, &mut leading);
     end
 }
 
@@ -91,10 +81,7 @@ fn lead_shared<
     F: Front<S, I, O> + Sync,
     G: Gate + Sync,
 >(
-    rt: &R,
-    alloc: Global,
-    subject: &S,
-    gate: &G,
+    setting: &Setting<'_, R, S, G>,
     board: SharedBoard<S>,
     first: BoardPass<S>,
     workers: u32,
@@ -108,20 +95,20 @@ fn lead_shared<
     ensures none { IsNone result.end → (result.board ≡ []) × (input.new ≡ input.old) × (output.new ≡ output.old) }
 {
     let mut first = first;
-    let Ok(mut crew) = hire(alloc, &board, &mut first, workers) else {
+    let Ok(mut crew) = hire(setting.alloc, &board, &mut first, workers) else {
         return Led {
             board: board.end(first),
             end: None,
         };
     };
     let hall = Hall {
-        rt,
-        alloc,
+        rt: setting.rt,
+        alloc: setting.alloc,
         board: &board,
-        subject,
-        gate,
+        subject: setting.subject,
+        gate: setting.gate,
     };
-    let end = lead_beside(rt, &hall, &mut first, &mut crew, front, input, output);
+    let end = lead_beside(&hall, &mut first, &mut crew, front, input, output);
     dismiss(&board, &mut first, crew);
     Led {
         board: board.end(first),
@@ -139,10 +126,7 @@ pub fn lead<
     F: Front<S, I, O> + Sync,
     G: Gate + Sync,
 >(
-    rt: &R,
-    alloc: Global,
-    subject: &S,
-    gate: &G,
+    setting: &Setting<'_, R, S, G>,
     board: Board<S>,
     workers: u32,
     front: &F,
@@ -154,10 +138,10 @@ pub fn lead<
     ensures led { IfSome result.end (λ end. WasLed S.subject.dependencies (F.leads front.now end input.old input.new output.old output.new) result.board) }
     ensures none { IsNone result.end → (result.board ≡ []) × (input.new ≡ input.old) × (output.new ≡ output.old) }
 {
-    match SharedBoard::new(alloc, board) {
-        Ok((shared, first)) => lead_shared(
-            rt, alloc, subject, gate, shared, first, workers, front, input, output,
-        ),
+    match SharedBoard::new(setting.alloc, board) {
+        Ok((shared, first)) => {
+            lead_shared(setting, shared, first, workers, front, input, output)
+        }
         Err(NewFault::Memory(board)) => Led { board, end: None },
     }
 }

@@ -3,15 +3,14 @@ ghost use Rattle.std.specs.Prelude.{◌≡◌, ◌<◌, Ok};
 ghost use Rattle.turn_meaning.specs.Passes.{IsIdleOf};
 ghost use Rattle.worker_crew.specs.Worked.{HasWorked};
 
-use board_seats::{BoardPass, SharedBoard};
+use board_seats::BoardPass;
 use lf_terms::{Memory, Steps};
 use mmt_outside::Gate;
 use module_graph::Subject;
-use std::alloc::Global;
 use std::marker::{Brand, Model};
 use std::sync::Wait;
 use std::sync::ledger::{Blank, Ledger};
-use worker_loop::work;
+use worker_loop::{Hall, work};
 
 /// A worker: a pass of a shared board, and whether memory was wanting when the pass worked.
 #[derive(Drop)]
@@ -48,37 +47,30 @@ impl<S: Subject> Worker<S> {
     }
 
     /// Works until the board is closed, or until memory is wanting.
-    pub(crate) fn work<R: Wait, G: Gate>(
-        &mut self,
-        rt: &R,
-        alloc: Global,
-        board: &SharedBoard<S>,
-        subject: &S,
-        gate: &G,
-    )
-        requires { IsIdleOf board.now self.old.pass }
+    pub(crate) fn work<R: Wait, G: Gate>(&mut self, hall: &Hall<'_, R, S, G>)
+        requires { IsIdleOf hall.now.board.now self.old.pass }
         ensures { HasWorked S.subject self.old self.new }
     {
-        self.work_on::<Brand, R, G>(rt, alloc, board, subject, gate, Blank::new(1));
+        self.work_on::<Brand, R, G>(hall, Blank::new(1));
     }
 
     /// The same, with a counter of steps on this ledger.
-    fn work_on<L: Ledger, R: Wait, G: Gate>(
-        &mut self,
-        rt: &R,
-        alloc: Global,
-        board: &SharedBoard<S>,
-        subject: &S,
-        gate: &G,
-        blank: Blank,
-    )
+    fn work_on<L: Ledger, R: Wait, G: Gate>(&mut self, hall: &Hall<'_, R, S, G>, blank: Blank)
         requires name { blank.name ≡ L.name }
         requires parts { blank.parts ≡ L.parts }
         requires some { 0 < blank.parts }
-        requires idle { IsIdleOf board.now self.old.pass }
+        requires idle { IsIdleOf hall.now.board.now self.old.pass }
         ensures { HasWorked S.subject self.old self.new }
     {
         let mut steps = Steps::<L>::new(blank);
-        self.outcome = work(rt, alloc, board, subject, &mut self.pass, gate, &mut steps);
+        self.outcome = work(
+            hall.rt,
+            hall.alloc,
+            hall.board,
+            hall.subject,
+            &mut self.pass,
+            hall.gate,
+            &mut steps,
+        );
     }
 }

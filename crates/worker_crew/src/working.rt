@@ -6,38 +6,33 @@ ghost use Rattle.worker_crew.specs.Worked.{HasWorked};
 ghost use Rattle.worker_crew.specs.Workers.{AreWorkers};
 
 use crate::{Crew, Worker};
-use board_seats::SharedBoard;
 use mmt_outside::Gate;
 use module_graph::Subject;
-use std::alloc::Global;
 use std::sync::Wait;
 use std::thread::{Threads, for_each_mut};
+use worker_loop::Hall;
 
 /// Each worker works, in a thread of its own where one can be made, until the board is closed. One that finds no memory ends, and
 /// the others go on.
 pub fn work_all<R: Threads + Wait + Sync, S: Subject, G: Gate + Sync>(
-    rt: &R,
-    alloc: Global,
-    board: &SharedBoard<S>,
-    subject: &S,
-    gate: &G,
+    hall: &Hall<'_, R, S, G>,
     crew: &mut Crew<S>,
 )
-    requires { AreWorkers S.subject.dependencies board.now crew.old }
+    requires { AreWorkers S.subject.dependencies hall.now.board.now crew.old }
     ensures worked { AllZip (HasWorked S.subject) crew.old crew.new }
     ensures as_many { length crew.new ≡ length crew.old }
-    ensures workers { AreWorkers S.subject.dependencies board.now crew.new }
+    ensures workers { AreWorkers S.subject.dependencies hall.now.board.now crew.new }
 {
     let threads = crew.workers.len().max(1);
     for_each_mut(
-        rt,
+        hall.rt,
         crew.workers.as_mut_slice(),
         threads,
         &|_: usize, worker: &mut Worker<S>|
-            requires { IsIdleOf board.now worker.old.pass }
+            requires { IsIdleOf hall.now.board.now worker.old.pass }
             ensures { HasWorked S.subject worker.old worker.new }
         {
-            worker.work(rt, alloc, board, subject, gate);
+            worker.work(hall);
         },
     );
 }

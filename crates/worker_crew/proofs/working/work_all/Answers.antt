@@ -21,4 +21,4 @@ pub returns-clause-as_many : goal.returns-clause-as_many
 returns-clause-as_many g c = sym (length_all_zip (HasWorked g.S.Subject.subject) c.args.crew.now _ (returns-clause-worked g c))
 
 pub returns-clause-workers : goal.returns-clause-workers
-returns-clause-workers g c = are_still g.S.Subject.subject c.args.board.now c.args.crew.now _ (returns-clause-worked g c) c.requires
+returns-clause-workers g c = are_still g.S.Subject.subject c.args.hall.now.board.now c.args.crew.now _ (returns-clause-worked g c) c.requires
