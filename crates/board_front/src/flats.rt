@@ -26,7 +26,7 @@ ghost use Rattle.board_front.specs.Staying.{IsAtFront, IsFront, StandsIfGrounded
 use crate::calls::answers;
 use crate::reports::line;
 use crate::verdict::told;
-use board_seats::{BoardPass, SharedBoard};
+use board_seats::BoardPass;
 use edit_log::Log;
 use lf_terms::{Bytes, Memory, Name};
 use mmt_interface::{Carried, CarryFault, Faces, Verdict};
@@ -36,46 +36,41 @@ use report_text::{carry_text, flat_text};
 use std::alloc::Global;
 use std::sync::Wait;
 use verdict_board::Told;
+use worker_loop::Hall;
 
 /// The flat text of an accepted module, else its verdict line. The name is brought to a verdict.
 pub fn flat_lines<R: Wait, G: Gate>(
-    rt: &R,
-    alloc: Global,
-    gate: &G,
-    board: &SharedBoard<Mmt>,
+    hall: &Hall<'_, R, Mmt, G>,
     pass: &mut BoardPass<Mmt>,
     log: &Log,
     name: &Name,
 ) -> Result<Bytes, Memory>
-    requires at_front { IsAtFront board.now pass.old }
+    requires at_front { IsAtFront hall.now.board.now pass.old }
     requires front { IsFront log.now pass.old.seen }
     ensures keeps { Keeps pass.old pass.new }
     ensures stays { Stays pass.old.seen pass.new.seen }
     ensures lines { IfOk result (λ lines. lines ≡ output.flat_text rules log.now name.now) }
     ensures stands { OnOk result (StandsIfGrounded pass.new.seen name.now) }
 {
-    let told = told(rt, alloc, gate, board, pass, name)?;
+    let told = told(hall, pass, name)?;
     match accepted(&told) {
         Some(verdict) => {
-            let faces = faces_of(rt, alloc, board, pass, name, verdict)?;
-            flat_text(alloc, &faces, name, log.version())
+            let faces = faces_of(hall, pass, name, verdict)?;
+            flat_text(hall.alloc, &faces, name, log.version())
         }
-        None => line(alloc, log, name, &told),
+        None => line(hall.alloc, log, name, &told),
     }
 }
 
 /// What a judgement comes to that is carried along a view. The view is brought to a verdict.
 pub fn carry_lines<R: Wait, G: Gate>(
-    rt: &R,
-    alloc: Global,
-    gate: &G,
-    board: &SharedBoard<Mmt>,
+    hall: &Hall<'_, R, Mmt, G>,
     pass: &mut BoardPass<Mmt>,
     log: &Log,
     view: &Name,
     judgement: &[u8],
 ) -> Result<Bytes, Memory>
-    requires at_front { IsAtFront board.now pass.old }
+    requires at_front { IsAtFront hall.now.board.now pass.old }
     requires front { IsFront log.now pass.old.seen }
     requires short { length judgement.now ≤ line_limit }
     ensures keeps { Keeps pass.old pass.new }
@@ -83,13 +78,13 @@ pub fn carry_lines<R: Wait, G: Gate>(
     ensures line { IfOk result (λ line. line ≡ output.carry_text rules log.now view.now judgement.now) }
     ensures stands { OnOk result (StandsIfGrounded pass.new.seen view.now) }
 {
-    let told = told(rt, alloc, gate, board, pass, view)?;
+    let told = told(hall, pass, view)?;
     match accepted(&told) {
         Some(verdict) => {
-            let faces = faces_of(rt, alloc, board, pass, view, verdict)?;
-            carried_line(alloc, &faces, view, log.version(), judgement)
+            let faces = faces_of(hall, pass, view, verdict)?;
+            carried_line(hall.alloc, &faces, view, log.version(), judgement)
         }
-        None => carried_nowhere(alloc, view, log.version(), judgement),
+        None => carried_nowhere(hall.alloc, view, log.version(), judgement),
     }
 }
 
@@ -153,15 +148,13 @@ fn accepted(told: &Told<Verdict>) -> Option<&Verdict>
 }
 
 /// The verdicts of what a grounded module reaches whose verdict stands, itself included.
-fn faces_of<R: Wait>(
-    rt: &R,
-    alloc: Global,
-    board: &SharedBoard<Mmt>,
+fn faces_of<R: Wait, G>(
+    hall: &Hall<'_, R, Mmt, G>,
     pass: &mut BoardPass<Mmt>,
     name: &Name,
     verdict: &Verdict,
 ) -> Result<Faces, Memory>
-    requires at_front { IsAtFront board.now pass.old }
+    requires at_front { IsAtFront hall.now.board.now pass.old }
     requires legal { IsLegal dependencies pass.old.seen }
     requires grounded { is_grounded dependencies (library_after pass.old.seen) name.now ≡ true }
     requires standing { stands dependencies pass.old.seen name.now ≡ true }
@@ -170,8 +163,8 @@ fn faces_of<R: Wait>(
     ensures stays { Stays pass.old.seen pass.new.seen }
     ensures faces { IfOk result (AreFacesOf (library_after pass.old.seen) name.now verdict.now) }
 {
-    let Some(answers) = answers(rt, alloc, board, pass, name)? else {
+    let Some(answers) = answers(hall, pass, name)? else {
         unreachable!();
     };
-    faces_with(alloc, &answers, name, verdict)
+    faces_with(hall.alloc, &answers, name, verdict)
 }

@@ -13,3 +13,4 @@ pub use flats::{carry_lines, flat_lines};
 pub use module_check::{Mmt, scratch};
 pub use reports::{check_lines, edit_lines, make_edit, report_lines};
 pub use verdict::told;
+pub use worker_loop::Hall;

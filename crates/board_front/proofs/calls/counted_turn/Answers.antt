@@ -1,7 +1,6 @@
 use denote.Exit.{yes}
 use denote.Param.Send.{arg_send, arg_sync, param_send, param_sync}
 use Rattle.module_check.proofs.Crossing.{verdict_row_send, verdict_row_sync}
-use Rattle.board_front.proofs.CallPoints.{ended_stays}
 use Rattle.board_front.proofs.calls.counted_turn.Goals as goal
 
 pub turn-requires-send-S-Answer : goal.turn-requires-send-S-Answer
@@ -9,6 +8,3 @@ turn-requires-send-S-Answer g c κs within = param_send _ _ (arg_send _ yes _ ve
 
 pub turn-requires-sync-S-Answer : goal.turn-requires-sync-S-Answer
 turn-requires-sync-S-Answer g c κs within = param_sync _ _ (arg_sync _ yes _ verdict_row_sync)
-
-pub returns-clause-stays : goal.returns-clause-stays
-returns-clause-stays g c = ended_stays c.args.pass.now c.turn.new.pass c.requires.front.first c.turn.result c.turn.ensures.ends c.turn.ensures.wants

@@ -1,4 +1,4 @@
-use Rattle.board_front.proofs.calls.take_turn.Given as goal
+use Rattle.board_front.proofs.calls.next_turn.Given as goal
 
 abbrev pub ghosts-counted_turn : goal.ghosts-counted_turn
 ghosts-counted_turn g a = record { name = a.blank.name; parts = a.blank.parts }

@@ -1,39 +1,42 @@
-use Rattle.std.proofs.Common.{Result, Ok, Err, sym, ap, ◌∙◌, subst}
+use Rattle.std.proofs.Common.{◌≡◌, IfOk, inr, sym, ◌∙◌, subst}
 use Rattle.log_meaning.specs.Append.{append_answer}
 use Rattle.log_meaning.specs.Append as answers
+use Rattle.printing_meaning.specs.EditLines.{edit_word}
 use Rattle.board_meaning.specs.Events.{log_of}
-use Rattle.edit_log.specs.Readings.{read_edit, IsAnswer}
-use Rattle.edit_log.specs.declared.answers.Edited.{Edited}
-use Rattle.edit_log.specs.declared.answers.EditFault.{EditFault}
-use Rattle.board_front.proofs.EditAnswers.{appended_is}
+use Rattle.edit_log.specs.Readings.{read_edit}
+use Rattle.board_front.proofs.EditAnswers.{answered_edits, answered_may, answered_word, front_answer, made_edits, made_is, unmade_log}
 use Rattle.board_front.proofs.reports.make_edit.Goals as goal
 
-pub returns-in-Ok-Same-clause-log : goal.returns-in-Ok-Same-clause-log
-returns-in-Ok-Same-clause-log g c =
-    sym
-    (appended_is c.args.log.now c.args.pass.now.seen (read_edit c.args.edit) (answers.Same c.in-Ok-Same.field-0-0) c.requires.front
-    (subst (λ (r : Result Edited EditFault). IsAnswer r (append_answer (log_of c.args.pass.now.seen) (read_edit c.args.edit))) (c.in-Ok-Same.is ∙ ap Ok c.in-Ok-Same.field-0-is) c.edit-2.ensures.answer))
+pub returns-then-not-is_made-clause-edits : goal.returns-then-not-is_made-clause-edits
+returns-then-not-is_made-clause-edits g c =
+    answered_edits (λ word. word.now) c.args.log.now c.args.pass.now.seen c.edit-answer.new.pass.seen (read_edit c.args.edit) c.made_word-word.result.now c.answer_word.result c.edit-answer.result
+    c.edit-answer.ensures.goes c.answer_word.ensures.word
 
-pub returns-in-Ok-Absent-clause-log : goal.returns-in-Ok-Absent-clause-log
-returns-in-Ok-Absent-clause-log g c =
-    sym
-    (appended_is c.args.log.now c.args.pass.now.seen (read_edit c.args.edit) (answers.Absent c.in-Ok-Absent.field-0-0) c.requires.front
-    (subst (λ (r : Result Edited EditFault). IsAnswer r (append_answer (log_of c.args.pass.now.seen) (read_edit c.args.edit))) (c.in-Ok-Absent.is ∙ ap Ok c.in-Ok-Absent.field-0-is) c.edit-2.ensures.answer))
+pub returns-then-not-is_made-clause-log : goal.returns-then-not-is_made-clause-log
+returns-then-not-is_made-clause-log g c =
+    unmade_log (λ word. word.now) c.args.log.now c.args.pass.now.seen c.edit-answer.new.pass.seen (read_edit c.args.edit) c.made_word-word.result.now c.answer_word.result c.edit-answer.result
+    (sym c.is_made.ensures ∙ c.if-not-is_made.true) c.requires.front c.edit-answer.ensures.answer c.answer_word.ensures.word
 
-pub returns-in-Err-Full-clause-log : goal.returns-in-Err-Full-clause-log
-returns-in-Err-Full-clause-log g c =
-    sym
-    (appended_is c.args.log.now c.args.pass.now.seen (read_edit c.args.edit) answers.Full c.requires.front
-    (subst (λ (r : Result Edited EditFault). IsAnswer r (append_answer (log_of c.args.pass.now.seen) (read_edit c.args.edit))) (c.in-Err-Full.is ∙ ap Err c.in-Err-Full.field-0-is) c.edit-2.ensures.answer))
+pub returns-then-not-is_made-clause-word : goal.returns-then-not-is_made-clause-word
+returns-then-not-is_made-clause-word g c =
+    subst (λ (means : answers.Edited). IfOk c.answer_word.result (λ word. word.now ≡ edit_word (read_edit c.args.edit) means)) (front_answer c.args.log.now c.args.pass.now.seen (read_edit c.args.edit) c.requires.front)
+    (answered_word (λ word. word.now) (read_edit c.args.edit) c.edit-answer.result (append_answer (log_of c.args.pass.now.seen) (read_edit c.args.edit)) c.made_word-word.result.now c.answer_word.result
+    c.edit-answer.ensures.answer c.made_word-word.ensures c.answer_word.ensures.word)
 
-pub returns-in-Err-TooLong-clause-log : goal.returns-in-Err-TooLong-clause-log
-returns-in-Err-TooLong-clause-log g c =
-    sym
-    (appended_is c.args.log.now c.args.pass.now.seen (read_edit c.args.edit) answers.TooLong c.requires.front
-    (subst (λ (r : Result Edited EditFault). IsAnswer r (append_answer (log_of c.args.pass.now.seen) (read_edit c.args.edit))) (c.in-Err-TooLong.is ∙ ap Err c.in-Err-TooLong.field-0-is) c.edit-2.ensures.answer))
+pub returns-then-not-is_made-clause-so_far : goal.returns-then-not-is_made-clause-so_far
+returns-then-not-is_made-clause-so_far g c =
+    answered_may (λ word. word.now) c.args.log.now c.args.pass.now.seen c.edit-answer.new.pass.seen (read_edit c.args.edit) c.made_word-word.result.now c.answer_word.result c.edit-answer.result c.edit-answer.ensures.goes
 
-pub returns-in-Err-TooMany-clause-log : goal.returns-in-Err-TooMany-clause-log
-returns-in-Err-TooMany-clause-log g c =
-    sym
-    (appended_is c.args.log.now c.args.pass.now.seen (read_edit c.args.edit) answers.TooMany c.requires.front
-    (subst (λ (r : Result Edited EditFault). IsAnswer r (append_answer (log_of c.args.pass.now.seen) (read_edit c.args.edit))) (c.in-Err-TooMany.is ∙ ap Err c.in-Err-TooMany.field-0-is) c.edit-2.ensures.answer))
+pub returns-in-Ok-append-clause-edits : goal.returns-in-Ok-append-clause-edits
+returns-in-Ok-append-clause-edits g c =
+    made_edits c.args.pass.now.seen c.edit-answer.new.pass.seen (read_edit c.args.edit) c.edit-answer.result (sym c.is_made.ensures ∙ c.if-not-is_made.false) c.edit-answer.ensures.goes
+
+pub returns-in-Ok-append-clause-word : goal.returns-in-Ok-append-clause-word
+returns-in-Ok-append-clause-word g c =
+    subst (λ (means : answers.Edited). c.made_word-word.result.now ≡ edit_word (read_edit c.args.edit) means) (front_answer c.args.log.now c.args.pass.now.seen (read_edit c.args.edit) c.requires.front)
+    (c.made_word-word.ensures
+    ∙ made_is (read_edit c.args.edit) c.edit-answer.result (append_answer (log_of c.args.pass.now.seen) (read_edit c.args.edit)) (sym c.is_made.ensures ∙ c.if-not-is_made.false) c.edit-answer.ensures.answer)
+
+pub returns-in-Err-clause-so_far : goal.returns-in-Err-clause-so_far
+returns-in-Err-clause-so_far g c =
+    inr (made_edits c.args.pass.now.seen c.edit-answer.new.pass.seen (read_edit c.args.edit) c.edit-answer.result (sym c.is_made.ensures ∙ c.if-not-is_made.false) c.edit-answer.ensures.goes)
