@@ -15,26 +15,22 @@ use crate::edits::make_edits;
 use crate::printing::print;
 use crate::sheet::Sheet;
 use crate::stop::Stop;
-use board_front::{Mmt, close};
-use board_seats::{BoardPass, SharedBoard};
+use board_front::{Hall, Mmt, close};
+use board_seats::BoardPass;
 use folder_load::load;
 use mmt_outside::{Folder, Gate, Sink};
 use run_status::Status;
-use std::alloc::Global;
 use std::sync::Wait;
 
 /// Loads the folder, puts its modules on a board that has no entries, brings each to a verdict, and writes the lines.
 fn check<R: Wait, F: Folder, K: Sink, G: Gate>(
-    rt: &R,
-    alloc: Global,
-    gate: &G,
-    board: &SharedBoard<Mmt>,
+    hall: &Hall<'_, R, Mmt, G>,
     pass: &mut BoardPass<Mmt>,
     path: &str,
     folder: &mut F,
     sink: &mut K,
 ) -> Result<Status, Stop>
-    requires at_front { IsAtFront board.now pass.old }
+    requires at_front { IsAtFront hall.now.board.now pass.old }
     requires empty { pass.old.seen ≡ [] }
     ensures keeps { Keeps pass.old pass.new }
     ensures legal { IsLegal dependencies pass.new.seen }
@@ -48,10 +44,10 @@ fn check<R: Wait, F: Folder, K: Sink, G: Gate>(
     ensures took { TookOn (K.taken sink.old) (K.taken sink.new) }
     ensures same { F.files folder.new ≡ F.files folder.old }
 {
-    let loaded = load(alloc, folder, path)?;
-    let log = make_edits(rt, alloc, board, pass, &loaded.log)?;
-    let sheet = Sheet::new(alloc, log, loaded)?;
-    print(rt, alloc, gate, board, pass, &sheet, sink)
+    let loaded = load(hall.alloc, folder, path)?;
+    let log = make_edits(hall, pass, &loaded.log)?;
+    let sheet = Sheet::new(hall.alloc, log, loaded)?;
+    print(hall, pass, &sheet, sink)
 }
 
 /// The front of a checked folder. It loads the files of the folder and puts their modules on a board that has no entries, through
@@ -62,23 +58,20 @@ fn check<R: Wait, F: Folder, K: Sink, G: Gate>(
 /// `Done` where no module and no file is refused, and else `Refused`. `ReadFault` is an error of the folder and `WriteFault` one of
 /// the sink: their counts rose. `Memory` is want of memory, as which more files than a `u32` counts are answered too.
 pub fn lead_check<R: Wait, F: Folder, K: Sink, G: Gate>(
-    rt: &R,
-    alloc: Global,
-    gate: &G,
-    board: &SharedBoard<Mmt>,
+    hall: &Hall<'_, R, Mmt, G>,
     pass: &mut BoardPass<Mmt>,
     path: &str,
     folder: &mut F,
     sink: &mut K,
 ) -> Status
-    requires at_front { IsAtFront board.now pass.old }
+    requires at_front { IsAtFront hall.now.board.now pass.old }
     requires empty { pass.old.seen ≡ [] }
     ensures keeps { Keeps pass.old pass.new }
     ensures led { IsFolderLed result path.now (F.files folder.old) (F.files folder.new) (F.faults folder.old) (F.faults folder.new)
         (K.taken sink.old) (K.taken sink.new) (K.faults sink.old) (K.faults sink.new) pass.new.seen }
 {
-    let checked = check(rt, alloc, gate, board, pass, path, folder, sink);
-    close(rt, board, pass);
+    let checked = check(hall, pass, path, folder, sink);
+    close(hall, pass);
     match checked {
         Ok(status) => status,
         Err(stop) => stop.status(),

@@ -12,8 +12,8 @@ use crate::sheet::Sheet;
 use crate::stop::Stop;
 use crate::tally::Tally;
 use crate::verdicts::write_verdicts;
-use board_front::Mmt;
-use board_seats::{BoardPass, SharedBoard};
+use board_front::{Hall, Mmt};
+use board_seats::BoardPass;
 use mmt_outside::{Gate, Sink};
 use report_text::files_line;
 use run_status::{Status, write_last};
@@ -36,15 +36,12 @@ fn write_counts<K: Sink>(alloc: Global, files: u32, tally: Tally, sink: &mut K) 
 /// Brings each module to a verdict and writes all lines: those of the files that were not loaded, those of the modules, and that of
 /// the counts.
 pub(crate) fn print<R: Wait, K: Sink, G: Gate>(
-    rt: &R,
-    alloc: Global,
-    gate: &G,
-    board: &SharedBoard<Mmt>,
+    hall: &Hall<'_, R, Mmt, G>,
     pass: &mut BoardPass<Mmt>,
     sheet: &Sheet,
     sink: &mut K,
 ) -> Result<Status, Stop>
-    requires at_front { IsAtFront board.now pass.old }
+    requires at_front { IsAtFront hall.now.board.now pass.old }
     requires front { IsFront sheet.now.log pass.old.seen }
     ensures keeps { Keeps pass.old pass.new }
     ensures stays { Stays pass.old.seen pass.new.seen }
@@ -52,8 +49,8 @@ pub(crate) fn print<R: Wait, K: Sink, G: Gate>(
     ensures flush { OnOk result (IsFlushed (K.taken sink.new)) }
     ensures cause { StopHasCause (K.faults sink.old) (K.faults sink.new) result }
 {
-    write_faults(alloc, &sheet.faults, sink)?;
-    let tally = write_verdicts(rt, alloc, gate, board, pass, sheet, sink)?;
-    write_counts(alloc, sheet.files, tally, sink)?;
+    write_faults(hall.alloc, &sheet.faults, sink)?;
+    let tally = write_verdicts(hall, pass, sheet, sink)?;
+    write_counts(hall.alloc, sheet.files, tally, sink)?;
     Ok(sheet.status(tally))
 }

@@ -15,8 +15,8 @@ ghost use Rattle.folder_front.specs.Written.{Writes};
 use crate::sheet::Sheet;
 use crate::stop::Stop;
 use crate::tally::Tally;
-use board_front::{Mmt, told};
-use board_seats::{BoardPass, SharedBoard};
+use board_front::{Hall, Mmt, told};
+use board_seats::BoardPass;
 use edit_log::Log;
 use lf_terms::{Bytes, Memory, Name};
 use mmt_interface::Verdict;
@@ -73,16 +73,13 @@ fn verdict_line(
 
 /// Brings a module to a verdict and writes its line. The answer is whether it is accepted.
 fn write_verdict<R: Wait, K: Sink, G: Gate>(
-    rt: &R,
-    alloc: Global,
-    gate: &G,
-    board: &SharedBoard<Mmt>,
+    hall: &Hall<'_, R, Mmt, G>,
     pass: &mut BoardPass<Mmt>,
     sheet: &Sheet,
     sink: &mut K,
     name: &Name,
 ) -> Result<bool, Stop>
-    requires at_front { IsAtFront board.now pass.old }
+    requires at_front { IsAtFront hall.now.board.now pass.old }
     requires front { IsFront sheet.now.log pass.old.seen }
     ensures keeps { Keeps pass.old pass.new }
     ensures stays { Stays pass.old.seen pass.new.seen }
@@ -90,23 +87,20 @@ fn write_verdict<R: Wait, K: Sink, G: Gate>(
     ensures accepted { IfOk result (λ accepted. accepted ≡ not (meant.is_refused (rules.judged (library_of sheet.now.log) name.now))) }
     ensures cause { StopHasCause (K.faults sink.old) (K.faults sink.new) result }
 {
-    let told = told(rt, alloc, gate, board, pass, name)?;
-    let line = verdict_line(alloc, sheet, name, &told)?;
+    let told = told(hall, pass, name)?;
+    let line = verdict_line(hall.alloc, sheet, name, &told)?;
     write_all(sink, line.as_slice())?;
     Ok(is_accepted(&told))
 }
 
 /// Brings each module to a verdict and writes its line, in byte order of names.
 pub(crate) fn write_verdicts<R: Wait, K: Sink, G: Gate>(
-    rt: &R,
-    alloc: Global,
-    gate: &G,
-    board: &SharedBoard<Mmt>,
+    hall: &Hall<'_, R, Mmt, G>,
     pass: &mut BoardPass<Mmt>,
     sheet: &Sheet,
     sink: &mut K,
 ) -> Result<Tally, Stop>
-    requires at_front { IsAtFront board.now pass.old }
+    requires at_front { IsAtFront hall.now.board.now pass.old }
     requires front { IsFront sheet.now.log pass.old.seen }
     ensures keeps { Keeps pass.old pass.new }
     ensures stays { Stays pass.old.seen pass.new.seen }
@@ -123,7 +117,7 @@ pub(crate) fn write_verdicts<R: Wait, K: Sink, G: Gate>(
         let Some(name) = sheet.log.name_at(place) else {
             break;
         };
-        let is_accepted = write_verdict(rt, alloc, gate, board, pass, sheet, sink, name)?;
+        let is_accepted = write_verdict(hall, pass, sheet, sink, name)?;
         tally.count(is_accepted);
     }
     Ok(tally)

@@ -9,25 +9,22 @@ ghost use Rattle.script_reader.specs.Generating.{gave_one};
 ghost use Rattle.generator_front.specs.Generated.{HasBegun, IsBegun, IsLogOfGiven, IsSettled};
 
 use crate::settle::settle;
-use board_front::{Mmt, make_edit};
-use board_seats::{BoardPass, SharedBoard};
+use board_front::{Hall, Mmt, make_edit};
+use board_seats::BoardPass;
 use edit_log::Log;
 use lf_terms::Memory;
 use mmt_outside::Gate;
 use script_reader::Gen;
-use std::alloc::Global;
 use std::sync::Wait;
 
 /// Makes the generator's next edit on the board, and on the log what the board made.
-pub(crate) fn make_next<R: Wait>(
-    rt: &R,
-    alloc: Global,
-    board: &SharedBoard<Mmt>,
+pub(crate) fn make_next<R: Wait, G>(
+    hall: &Hall<'_, R, Mmt, G>,
     pass: &mut BoardPass<Mmt>,
     log: &mut Log,
     generator: &mut Gen,
 ) -> Result<(), Memory>
-    requires at_front { IsAtFront board.now pass.old }
+    requires at_front { IsAtFront hall.now.board.now pass.old }
     requires front { IsFront log.old pass.old.seen }
     requires room { generator.old.given < generator.old.modules + 1000 }
     requires given { IsLogOfGiven generator.old log.old }
@@ -38,22 +35,20 @@ pub(crate) fn make_next<R: Wait>(
     ensures given { OnOk result (IsLogOfGiven generator.new log.new) }
     ensures begun { OnErr result (HasBegun generator.old (log_of pass.new.seen)) }
 {
-    let edit = generator.next_edit(alloc)?;
-    make_edit(rt, alloc, board, pass, log, edit)?;
+    let edit = generator.next_edit(hall.alloc)?;
+    make_edit(hall, pass, log, edit)?;
     Ok(())
 }
 
 /// Puts the modules of the library, one after another.
-pub(crate) fn put_modules<R: Wait>(
-    rt: &R,
-    alloc: Global,
-    board: &SharedBoard<Mmt>,
+pub(crate) fn put_modules<R: Wait, G>(
+    hall: &Hall<'_, R, Mmt, G>,
     pass: &mut BoardPass<Mmt>,
     log: &mut Log,
     generator: &mut Gen,
     modules: u32,
 ) -> Result<(), Memory>
-    requires at_front { IsAtFront board.now pass.old }
+    requires at_front { IsAtFront hall.now.board.now pass.old }
     requires empty { pass.old.seen ≡ [] }
     requires log { log.old ≡ [] }
     requires generator { generator.old ≡ record { start = generator.old.start; modules = modules; given = 0 } }
@@ -65,23 +60,20 @@ pub(crate) fn put_modules<R: Wait>(
     ensures begun { OnErr result ((edits : ℕ) → IsBegun generator.old.start modules edits (log_of pass.new.seen)) }
 {
     for _ in 0..modules {
-        make_next(rt, alloc, board, pass, log, generator)?;
+        make_next(hall, pass, log, generator)?;
     }
     Ok(())
 }
 
 /// Makes so many later edits. Behind each, every module is brought to a verdict.
 pub(crate) fn edit_modules<R: Wait, G: Gate>(
-    rt: &R,
-    alloc: Global,
-    gate: &G,
-    board: &SharedBoard<Mmt>,
+    hall: &Hall<'_, R, Mmt, G>,
     pass: &mut BoardPass<Mmt>,
     log: &mut Log,
     generator: &mut Gen,
     edits: u32,
 ) -> Result<(), Memory>
-    requires at_front { IsAtFront board.now pass.old }
+    requires at_front { IsAtFront hall.now.board.now pass.old }
     requires front { IsFront log.old pass.old.seen }
     requires few { edits ≤ 1000 }
     requires gave { generator.old.given ≡ generator.old.modules }
@@ -94,8 +86,8 @@ pub(crate) fn edit_modules<R: Wait, G: Gate>(
     ensures begun { OnErr result (IsBegun generator.old.start generator.old.modules edits (log_of pass.new.seen)) }
 {
     for _ in 0..edits {
-        make_next(rt, alloc, board, pass, log, generator)?;
-        settle(rt, alloc, gate, board, pass, log)?;
+        make_next(hall, pass, log, generator)?;
+        settle(hall, pass, log)?;
     }
     Ok(())
 }

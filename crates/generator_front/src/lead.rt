@@ -10,28 +10,24 @@ use crate::counts::Counts;
 use crate::edits::{edit_modules, put_modules};
 use crate::settle::settle;
 use crate::verdicts::verdicts;
-use board_front::{Mmt, close};
-use board_seats::{BoardPass, SharedBoard};
+use board_front::{Hall, Mmt, close};
+use board_seats::BoardPass;
 use edit_log::Log;
 use lf_terms::Memory;
 use mmt_outside::Gate;
 use script_reader::Gen;
-use std::alloc::Global;
 use std::sync::Wait;
 
 /// Makes the edits of the generator on a board that has no entries: first it puts each module, and every module is brought to a
 /// verdict; and then again behind each later edit. The modules of the last library are counted.
 fn generate<R: Wait, G: Gate>(
-    rt: &R,
-    alloc: Global,
-    gate: &G,
-    board: &SharedBoard<Mmt>,
+    hall: &Hall<'_, R, Mmt, G>,
     pass: &mut BoardPass<Mmt>,
     start: u32,
     modules: u32,
     edits: u32,
 ) -> Result<Counts, Memory>
-    requires at_front { IsAtFront board.now pass.old }
+    requires at_front { IsAtFront hall.now.board.now pass.old }
     requires empty { pass.old.seen ≡ [] }
     requires some { 1 ≤ modules }
     requires few { modules ≤ 1000 }
@@ -40,21 +36,12 @@ fn generate<R: Wait, G: Gate>(
     ensures legal { IsLegal dependencies pass.new.seen }
     ensures ends { Ends start modules edits result pass.new.seen }
 {
-    let mut log = Log::new(alloc);
+    let mut log = Log::new(hall.alloc);
     let mut generator = Gen::new(start, modules);
-    put_modules(rt, alloc, board, pass, &mut log, &mut generator, modules)?;
-    settle(rt, alloc, gate, board, pass, &log)?;
-    edit_modules(
-        rt,
-        alloc,
-        gate,
-        board,
-        pass,
-        &mut log,
-        &mut generator,
-        edits,
-    )?;
-    verdicts(rt, alloc, gate, board, pass, &log)
+    put_modules(hall, pass, &mut log, &mut generator, modules)?;
+    settle(hall, pass, &log)?;
+    edit_modules(hall, pass, &mut log, &mut generator, edits)?;
+    verdicts(hall, pass, &log)
 }
 
 /// Makes the edits of the generator on a board that has no entries, and closes the board. First it puts each module in order, and
@@ -63,16 +50,13 @@ fn generate<R: Wait, G: Gate>(
 /// is below 2^31.
 #[tactic(auto, using(crate::proofs::LaterHistories::closed_led))]
 pub fn lead_generator<R: Wait, G: Gate>(
-    rt: &R,
-    alloc: Global,
-    gate: &G,
-    board: &SharedBoard<Mmt>,
+    hall: &Hall<'_, R, Mmt, G>,
     pass: &mut BoardPass<Mmt>,
     start: u32,
     modules: u32,
     edits: u32,
 ) -> Result<Counts, Memory>
-    requires at_front { IsAtFront board.now pass.old }
+    requires at_front { IsAtFront hall.now.board.now pass.old }
     requires empty { pass.old.seen ≡ [] }
     requires start { start < 2 ^ 31 }
     requires some { 1 ≤ modules }
@@ -81,7 +65,7 @@ pub fn lead_generator<R: Wait, G: Gate>(
     ensures keeps { Keeps pass.old pass.new }
     ensures led { IsGenerated start modules edits result pass.new.seen }
 {
-    let counts = generate(rt, alloc, gate, board, pass, start, modules, edits);
-    close(rt, board, pass);
+    let counts = generate(hall, pass, start, modules, edits);
+    close(hall, pass);
     counts
 }

@@ -7,12 +7,11 @@ ghost use Rattle.board_seats.specs.Seats.{Keeps};
 ghost use Rattle.board_front.specs.Staying.{IsAtFront, IsFront, Stays};
 
 use crate::verdicts::MODULE_LIMIT;
-use board_front::{Mmt, told};
-use board_seats::{BoardPass, SharedBoard};
+use board_front::{Hall, Mmt, told};
+use board_seats::BoardPass;
 use edit_log::Log;
 use lf_terms::Memory;
 use mmt_outside::Gate;
-use std::alloc::Global;
 use std::sync::Wait;
 
 /// A number of modules that the library does not pass: a log keeps to its limits, as `version` says.
@@ -26,14 +25,11 @@ fn most_modules(log: &Log) -> usize
 /// Brings every module of the library to a verdict, and looks up those alone whose verdict is to come: behind an edit these are
 /// those that reach what was edited. The log is the front's own: it has the edits of the board.
 pub(crate) fn settle<R: Wait, G: Gate>(
-    rt: &R,
-    alloc: Global,
-    gate: &G,
-    board: &SharedBoard<Mmt>,
+    hall: &Hall<'_, R, Mmt, G>,
     pass: &mut BoardPass<Mmt>,
     log: &Log,
 ) -> Result<(), Memory>
-    requires at_front { IsAtFront board.now pass.old }
+    requires at_front { IsAtFront hall.now.board.now pass.old }
     requires front { IsFront log.now pass.old.seen }
     ensures keeps { Keeps pass.old pass.new }
     ensures stays { Stays pass.old.seen pass.new.seen }
@@ -41,13 +37,13 @@ pub(crate) fn settle<R: Wait, G: Gate>(
 {
     let mut from = 0;
     for _ in 0..most_modules(log) {
-        let Some(place) = board.first_pending(rt, pass, from) else {
+        let Some(place) = hall.board.first_pending(hall.rt, pass, from) else {
             break;
         };
         let Some(name) = log.name_at(place) else {
             break;
         };
-        told(rt, alloc, gate, board, pass, name)?;
+        told(hall, pass, name)?;
         from = place + 1;
     }
     Ok(())

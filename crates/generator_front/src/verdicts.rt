@@ -8,12 +8,11 @@ ghost use Rattle.board_front.specs.Staying.{IsAtFront, IsFront, Stays};
 ghost use Rattle.generator_front.specs.Generated.{AreCountsOf};
 
 use crate::counts::Counts;
-use board_front::{Mmt, told};
-use board_seats::{BoardPass, SharedBoard};
+use board_front::{Hall, Mmt, told};
+use board_seats::BoardPass;
 use edit_log::Log;
 use lf_terms::Memory;
 use mmt_outside::Gate;
-use std::alloc::Global;
 use std::sync::Wait;
 
 /// The greatest number of modules in a library.
@@ -22,14 +21,11 @@ pub(crate) const MODULE_LIMIT: usize = 4_096;
 /// Brings every module of the library to a verdict, in byte order of names, with one look-up for each, and counts them. The log is
 /// the front's own: it has the edits of the board.
 pub(crate) fn verdicts<R: Wait, G: Gate>(
-    rt: &R,
-    alloc: Global,
-    gate: &G,
-    board: &SharedBoard<Mmt>,
+    hall: &Hall<'_, R, Mmt, G>,
     pass: &mut BoardPass<Mmt>,
     log: &Log,
 ) -> Result<Counts, Memory>
-    requires at_front { IsAtFront board.now pass.old }
+    requires at_front { IsAtFront hall.now.board.now pass.old }
     requires front { IsFront log.now pass.old.seen }
     ensures keeps { Keeps pass.old pass.new }
     ensures stays { Stays pass.old.seen pass.new.seen }
@@ -46,7 +42,7 @@ pub(crate) fn verdicts<R: Wait, G: Gate>(
         let Some(name) = log.name_at(place) else {
             break;
         };
-        let told = told(rt, alloc, gate, board, pass, name)?;
+        let told = told(hall, pass, name)?;
         counts.count(&told)?;
     }
     Ok(counts)
