@@ -1,6 +1,6 @@
 //! Threads that take turns, and what they leave.
-ghost use Rattle.std.specs.Prelude.{◌≡◌, [], ◌∷◌, OnOk, IfOk};
-ghost use Rattle.turn_meaning.specs.Passes.{IsIdleOf};
+ghost use Rattle.std.specs.Prelude.{◌≡◌, ◌<◌, ◌-◌, ◌^◌, [], ◌∷◌, OnOk, IfOk};
+ghost use Rattle.turn_meaning.specs.Passes.{IsIdleOf, Splits};
 
 use crate::marks::Marks;
 use lf_terms::Memory;
@@ -16,6 +16,18 @@ pub struct Left {
     pub marks: Vec<u32>,
     pub added: [u32; 4],
     pub made: u32,
+}
+
+/// A pass with the next number. That there is none never comes.
+pub fn split_off(turns: &Turns<Marks>, first: &mut Marked) -> Marked
+    requires first { IsIdleOf turns.now first.old × (first.old.number ≡ 0) }
+    requires room { first.old.made < 2 ^ 32 - 1 }
+    ensures { Splits (λ mark. mark) first.old first.new result }
+{
+    match turns.split(first) {
+        Ok(pass) => pass,
+        Err(_) => unreachable!(),
+    }
 }
 
 /// One turn, in which the pass adds its mark.
@@ -92,11 +104,11 @@ pub fn by_two<R: Threads + Wait + Sync>(
     mut first: Marked,
     rounds: u32,
     later_first: bool,
-) -> Result<Left, Memory>
+) -> Left
     requires { IsIdleOf turns first × (first.number ≡ 0) × (first.made ≡ 1) × (first.joined ≡ []) }
 {
-    let one = turns.split(&mut first)?;
-    let two = turns.split(&mut first)?;
+    let one = split_off(&turns, &mut first);
+    let two = split_off(&turns, &mut first);
     let (one, two) = add_by_two(rt, &turns, one, two, rounds);
     let added = [one.1, two.1, 0, 0];
     if later_first {
@@ -107,11 +119,11 @@ pub fn by_two<R: Threads + Wait + Sync>(
         turns.join(&mut first, two.0);
     }
     let made = Turns::made(&first);
-    Ok(Left {
+    Left {
         marks: turns.end(first).marks,
         added,
         made,
-    })
+    }
 }
 
 /// Four threads, of which two are joined through another.
@@ -120,13 +132,13 @@ pub fn by_four<R: Threads + Wait + Sync>(
     turns: Turns<Marks>,
     mut first: Marked,
     rounds: u32,
-) -> Result<Left, Memory>
+) -> Left
     requires { IsIdleOf turns first × (first.number ≡ 0) × (first.made ≡ 1) × (first.joined ≡ []) }
 {
-    let one = turns.split(&mut first)?;
-    let two = turns.split(&mut first)?;
-    let three = turns.split(&mut first)?;
-    let four = turns.split(&mut first)?;
+    let one = split_off(&turns, &mut first);
+    let two = split_off(&turns, &mut first);
+    let three = split_off(&turns, &mut first);
+    let four = split_off(&turns, &mut first);
     let shared = &turns;
     let ((one, two), (three, four)) = join(
         rt,
@@ -146,9 +158,9 @@ pub fn by_four<R: Threads + Wait + Sync>(
     turns.join(&mut first, four);
     turns.join(&mut first, one);
     let made = Turns::made(&first);
-    Ok(Left {
+    Left {
         marks: turns.end(first).marks,
         added,
         made,
-    })
+    }
 }
