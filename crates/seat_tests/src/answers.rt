@@ -2,13 +2,12 @@
 ghost use Rattle.std.specs.Prelude.{◌≡◌, ◌∷◌, ◌++◌, [], OnOk};
 ghost use Rattle.name_meaning.specs.Rows.{IsTable};
 
-use lf_terms::Name;
+use lf_terms::{Name, NameFault};
 use module_graph::Answers;
 use std::alloc::Global;
-use std::test::Fail;
 
 /// Adds an answer under a name that is above the others.
-fn add(answers: &mut Answers<usize>, name: Name, answer: Option<usize>) -> Result<(), Fail>
+fn add(answers: &mut Answers<usize>, name: Name, answer: Option<usize>) -> Result<(), NameFault>
     requires { IsTable (answers.old ++ (name, answer) ∷ []) }
     ensures { OnOk result (answers.new ≡ answers.old ++ (name, answer) ∷ []) }
 {
@@ -16,18 +15,19 @@ fn add(answers: &mut Answers<usize>, name: Name, answer: Option<usize>) -> Resul
         Ok(()) => Ok(()),
         Err(back) => {
             drop(back);
-            Err("no room".into())
+            Err(NameFault::Memory)
         }
     }
 }
 
-/// The answers 7 of A and 0 of C, and B, which is absent.
-fn three(alloc: Global) -> Result<Answers<usize>, Fail> {
-    let mut answers = Answers::new(alloc);
-    add(&mut answers, Name::new(alloc, "A")?, Some(7))?;
-    add(&mut answers, Name::new(alloc, "B")?, None)?;
-    add(&mut answers, Name::new(alloc, "C")?, Some(0))?;
-    Ok(answers)
+/// Adds the answers 7 of A and 0 of C, and B, which is absent.
+fn add_three(alloc: Global, answers: &mut Answers<usize>) -> Result<(), NameFault>
+    requires empty { answers.old ≡ [] }
+{
+    add(answers, Name::new(alloc, "A")?, Some(7))?;
+    add(answers, Name::new(alloc, "B")?, None)?;
+    add(answers, Name::new(alloc, "C")?, Some(0))?;
+    Ok(())
 }
 
 /// Whether this name with this answer is at a place.
@@ -39,9 +39,13 @@ fn is_at(answers: &Answers<usize>, place: usize, name: &str, answer: Option<usiz
 }
 
 /// Whether answers of modules that are present, of one that is absent, and none past the end are at their places.
-pub(crate) fn are_at_their_places(alloc: Global) -> Result<bool, Fail> {
-    let answers = three(alloc)?;
+pub(crate) fn are_at_their_places(alloc: Global) -> bool {
+    let mut answers = Answers::new(alloc);
+    add_three(alloc, &mut answers).is_ok() && are_three(&answers)
+}
+
+fn are_three(answers: &Answers<usize>) -> bool {
     let ends = answers.len() == 3 && answers.at(3).is_none();
-    let first = is_at(&answers, 0, "A", Some(7));
-    Ok(ends && first && is_at(&answers, 1, "B", None) && is_at(&answers, 2, "C", Some(0)))
+    let first = is_at(answers, 0, "A", Some(7));
+    ends && first && is_at(answers, 1, "B", None) && is_at(answers, 2, "C", Some(0))
 }

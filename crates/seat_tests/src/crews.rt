@@ -31,7 +31,11 @@ pub fn by_crew<R: Threads + Wait + Sync>(
     requires legal { IsLegal sizes.dependencies first.seen }
     requires workers { workers ≤ 16 }
 {
-    let mut crew = hire(alloc, &board, &mut first, workers)?;
+    let Ok(mut crew) = hire(alloc, &board, &mut first, workers) else {
+        drop(first);
+        drop(board);
+        return Err(Memory);
+    };
     let shared = &board;
     let hall = Hall {
         rt,

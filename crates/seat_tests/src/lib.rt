@@ -5,6 +5,8 @@
 #[cfg(test)]
 mod answers;
 #[cfg(test)]
+mod counts;
+#[cfg(test)]
 mod crews;
 #[cfg(test)]
 mod outside;

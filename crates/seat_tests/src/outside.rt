@@ -1,6 +1,6 @@
 //! Objects in memory, with ample memory, and calls that fail. What they hold is let go before anything is asserted.
 
-use lf_terms::Bytes;
+use lf_terms::{Bytes, Memory};
 use mmt_outside::{
     Failed, Folder, Gate, Inputs64, MemFiles, MemFolder, MemSink, MemSource, NoFolder, OpenGate,
     OutFault, Sink, Source, StdSink, StdSource, write_all,
@@ -9,83 +9,149 @@ use std::alloc::Global;
 use std::test::Fail;
 
 /// A source of these bytes. The reads with these numbers fail.
-fn source_of(alloc: Global, bytes: &[u8], numbers: &[u64]) -> Result<MemSource, Fail> {
+fn source_of(alloc: Global, bytes: &[u8], numbers: &[u64]) -> Result<MemSource, Memory> {
     let bytes = Bytes::from_vec(bytes.to_vec(alloc)?);
-    Ok(MemSource::new(bytes, numbers_of(alloc, numbers)?))
+    match numbers_of(alloc, numbers) {
+        Ok(numbers) => Ok(MemSource::new(bytes, numbers)),
+        Err(_) => {
+            drop(bytes);
+            Err(Memory)
+        }
+    }
 }
 
-fn numbers_of(alloc: Global, numbers: &[u64]) -> Result<Inputs64, Fail> {
+fn numbers_of(alloc: Global, numbers: &[u64]) -> Result<Inputs64, Memory> {
     let mut all = Inputs64::new(alloc);
-    for number in numbers {
-        all.add(*number)?;
+    if are_added(&mut all, numbers) {
+        Ok(all)
+    } else {
+        drop(all);
+        Err(Memory)
     }
-    Ok(all)
+}
+
+fn are_added(all: &mut Inputs64, numbers: &[u64]) -> bool {
+    for number in numbers {
+        if all.add(*number).is_err() {
+            return false;
+        }
+    }
+    true
 }
 
 /// A source gives its bytes in order, and then none.
-fn gives_in_order(alloc: Global) -> Result<bool, Fail> {
-    let mut source = source_of(alloc, b"abcde", &[])?;
+fn gives_in_order(alloc: Global) -> bool {
+    match source_of(alloc, b"abcde", &[]) {
+        Ok(mut source) => gives_five(&mut source),
+        Err(_) => false,
+    }
+}
+
+fn gives_five(source: &mut MemSource) -> bool {
     let mut into = [0u8; 3];
     let nothing = source.read(&mut []) == Ok(0);
     let first = source.read(&mut into) == Ok(3) && into == *b"abc";
     let second = source.read(&mut into) == Ok(2) && into.starts_with(b"de");
-    Ok(nothing && first && second && source.read(&mut into) == Ok(0))
+    nothing && first && second && source.read(&mut into) == Ok(0)
 }
 
 /// A read that is to fail takes nothing.
-fn fails_and_takes_nothing(alloc: Global) -> Result<bool, Fail> {
-    let mut source = source_of(alloc, b"ab", &[2, 4])?;
+fn fails_and_takes_nothing(alloc: Global) -> bool {
+    match source_of(alloc, b"ab", &[2, 4]) {
+        Ok(mut source) => fails_twice(&mut source),
+        Err(_) => false,
+    }
+}
+
+fn fails_twice(source: &mut MemSource) -> bool {
     let mut into = [0u8; 1];
     let first = source.read(&mut into) == Ok(1) && source.read(&mut into) == Err(Failed);
     let second = source.read(&mut into) == Ok(1) && into == *b"b";
-    Ok(first && second && source.read(&mut into) == Err(Failed) && source.read(&mut into) == Ok(0))
+    first && second && source.read(&mut into) == Err(Failed) && source.read(&mut into) == Ok(0)
 }
 
 /// A sink of this room. The calls with these numbers fail.
-fn sink_of(alloc: Global, room: usize, numbers: &[u64]) -> Result<MemSink, Fail> {
-    Ok(MemSink::new(alloc, room, numbers_of(alloc, numbers)?)?)
+fn sink_of(alloc: Global, room: usize, numbers: &[u64]) -> Result<MemSink, Memory> {
+    MemSink::new(alloc, room, numbers_of(alloc, numbers)?)
 }
 
 /// A sink takes what has room.
-fn takes_what_has_room(alloc: Global) -> Result<bool, Fail> {
-    let mut sink = sink_of(alloc, 4, &[])?;
-    let whole = write_all(&mut sink, b"abc") == Ok(()) && sink.flush() == Ok(());
+fn takes_what_has_room(alloc: Global) -> bool {
+    match sink_of(alloc, 4, &[]) {
+        Ok(mut sink) => takes_four(&mut sink),
+        Err(_) => false,
+    }
+}
+
+fn takes_four(sink: &mut MemSink) -> bool {
+    let whole = write_all(sink, b"abc") == Ok(()) && sink.flush() == Ok(());
     let part = sink.write(b"de") == Ok(1);
     let full = sink.write(b"e") == Err(Failed) && sink.write(b"") == Ok(0);
-    Ok(whole && part && full && sink.bytes() == b"abcd".as_slice())
+    whole && part && full && sink.bytes() == b"abcd".as_slice()
 }
 
 /// A full sink leaves a first part.
-fn leaves_a_first_part(alloc: Global) -> Result<bool, Fail> {
-    let mut sink = sink_of(alloc, 2, &[])?;
-    Ok(write_all(&mut sink, b"abc") == Err(Failed) && sink.bytes() == b"ab".as_slice())
+fn leaves_a_first_part(alloc: Global) -> bool {
+    match sink_of(alloc, 2, &[]) {
+        Ok(mut sink) => leaves_two(&mut sink),
+        Err(_) => false,
+    }
+}
+
+fn leaves_two(sink: &mut MemSink) -> bool {
+    write_all(sink, b"abc") == Err(Failed) && sink.bytes() == b"ab".as_slice()
 }
 
 /// A write or a flush that is to fail leaves what was there.
-fn leaves_what_was_there(alloc: Global) -> Result<bool, Fail> {
-    let mut sink = sink_of(alloc, 9, &[1, 3])?;
-    let failed = write_all(&mut sink, b"abc") == Err(Failed);
-    let written = write_all(&mut sink, b"abc") == Ok(());
-    let flushed = sink.flush() == Err(Failed) && sink.flush() == Ok(());
-    Ok(failed && written && flushed && sink.bytes() == b"abc".as_slice())
+fn leaves_what_was_there(alloc: Global) -> bool {
+    match sink_of(alloc, 9, &[1, 3]) {
+        Ok(mut sink) => leaves_three(&mut sink),
+        Err(_) => false,
+    }
 }
 
-fn numbers_grow(alloc: Global) -> Result<bool, Fail> {
-    let numbers = numbers_of(alloc, &[5, 1 << 40])?;
+fn leaves_three(sink: &mut MemSink) -> bool {
+    let failed = write_all(sink, b"abc") == Err(Failed);
+    let written = write_all(sink, b"abc") == Ok(());
+    let flushed = sink.flush() == Err(Failed) && sink.flush() == Ok(());
+    failed && written && flushed && sink.bytes() == b"abc".as_slice()
+}
+
+fn numbers_grow(alloc: Global) -> bool {
+    match numbers_of(alloc, &[5, 1 << 40]) {
+        Ok(numbers) => are_two(&numbers),
+        Err(_) => false,
+    }
+}
+
+fn are_two(numbers: &Inputs64) -> bool {
     let ends = numbers.len() == 2 && numbers.get(2) == None;
     let last = numbers.get(1) == Some(&(1 << 40));
-    Ok(ends && last && numbers.as_slice() == [5, 1 << 40].as_slice())
+    ends && last && numbers.as_slice() == [5, 1 << 40].as_slice()
 }
 
-/// No folder has no files, and of a folder in memory just the call fails that is to.
-fn folders_answer(alloc: Global) -> Result<bool, Fail> {
+/// No folder has no files, and a fault for each of them.
+fn no_folder_answers(alloc: Global) -> bool {
     let mut none = NoFolder::new();
-    let empty = none.list(alloc, "lib")?.len() == 0;
-    let read = none.read_file(alloc, "lib", "nat.elf").err() == Some(OutFault::Failed);
-    let mut folder = MemFolder::new(MemFiles::new(alloc), numbers_of(alloc, &[2])?);
+    let empty = none.list(alloc, "lib").is_ok_and(|names| names.len() == 0);
+    empty && none.read_file(alloc, "lib", "nat.elf").err() == Some(OutFault::Failed)
+}
+
+/// Of a folder in memory just the call fails that is to.
+fn folders_answer(alloc: Global) -> bool {
+    match numbers_of(alloc, &[2]) {
+        Ok(numbers) => {
+            let mut folder = MemFolder::new(MemFiles::new(alloc), numbers);
+            lists_but_once(alloc, &mut folder)
+        }
+        Err(_) => false,
+    }
+}
+
+fn lists_but_once(alloc: Global, folder: &mut MemFolder) -> bool {
     let first = folder.list(alloc, "lib").is_ok();
     let second = folder.list(alloc, "lib").is_err();
-    Ok(empty && read && first && second && folder.list(alloc, "lib").is_ok())
+    first && second && folder.list(alloc, "lib").is_ok()
 }
 
 /// Reads all of a source in pieces and writes them, by nothing but the traits.
@@ -102,27 +168,51 @@ fn copy_through<S: Source + Send, K: Sink + Send>(
     Ok(count)
 }
 
-fn is_copied(alloc: Global) -> Result<bool, Fail> {
-    let mut source = source_of(alloc, b"abc", &[])?;
-    let mut sink = sink_of(alloc, 9, &[])?;
-    Ok(copy_through(&mut source, &mut sink) == Ok(3) && sink.bytes() == b"abc".as_slice())
+fn is_copied(alloc: Global) -> bool {
+    match source_of(alloc, b"abc", &[]) {
+        Ok(mut source) => is_copied_from(alloc, &mut source),
+        Err(_) => false,
+    }
+}
+
+fn is_copied_from(alloc: Global, source: &mut MemSource) -> bool {
+    match sink_of(alloc, 9, &[]) {
+        Ok(mut sink) => is_copied_through(source, &mut sink),
+        Err(_) => false,
+    }
+}
+
+fn is_copied_through(source: &mut MemSource, sink: &mut MemSink) -> bool {
+    copy_through(source, sink) == Ok(3) && sink.bytes() == b"abc".as_slice()
 }
 
 fn pass<G: Gate + Sync, R: std::sync::Wait>(rt: &R, gate: &G) {
     gate.before_install(rt, 1, "Nat");
 }
 
+/// The first object that is not as it should be, if there is one.
+fn wrong_object(alloc: Global) -> &'static str {
+    if !gives_in_order(alloc) || !fails_and_takes_nothing(alloc) {
+        "a source"
+    } else if !takes_what_has_room(alloc)
+        || !leaves_a_first_part(alloc)
+        || !leaves_what_was_there(alloc)
+    {
+        "a sink"
+    } else if !numbers_grow(alloc) {
+        "numbers"
+    } else if !no_folder_answers(alloc) || !folders_answer(alloc) {
+        "a folder"
+    } else if !is_copied(alloc) {
+        "a copy"
+    } else {
+        ""
+    }
+}
+
 #[test]
 fn objects_in_memory(rt: HostRuntime) -> Result<(), Fail> {
-    let alloc = rt.alloc();
-    assert!(rt; gives_in_order(alloc)?);
-    assert!(rt; fails_and_takes_nothing(alloc)?);
-    assert!(rt; takes_what_has_room(alloc)?);
-    assert!(rt; leaves_a_first_part(alloc)?);
-    assert!(rt; leaves_what_was_there(alloc)?);
-    assert!(rt; numbers_grow(alloc)?);
-    assert!(rt; folders_answer(alloc)?);
-    assert!(rt; is_copied(alloc)?);
+    assert_eq!(rt; wrong_object(rt.alloc()), "");
     pass(&rt, &OpenGate);
     Ok(())
 }

@@ -3,16 +3,16 @@ ghost use Rattle.std.specs.Prelude.{◌≡◌, []};
 ghost use Rattle.turn_meaning.specs.Passes.{IsIdleOf};
 ghost use Rattle.board_seats.specs.Seats.{Keeps};
 
-use crate::runs::{Seat, Shared, empty_module, follow_by_two, shared_board};
+use crate::counts::{Counts, NO_COUNTS, counts, names};
+use crate::runs::{Seat, Shared, follow_by_two, put, shared_board, size_told, split_off};
 use crate::sizes::Sizes;
 use crossbeam_utils::Backoff;
-use edit_log::Edited;
 use lf_terms::{Memory, Name};
 use std::alloc::Global;
 use std::sync::Wait;
 use std::test::*;
 use std::thread::{Threads, join};
-use verdict_board::{Board, Told};
+use verdict_board::Board;
 
 /// Asks until the verdict of a name is told. None of its calls wakes a worker.
 fn poll<R: Wait>(rt: &R, board: &Shared, pass: &mut Seat, name: &Name) -> Result<usize, Memory>
@@ -21,8 +21,9 @@ fn poll<R: Wait>(rt: &R, board: &Shared, pass: &mut Seat, name: &Name) -> Result
 {
     let backoff = Backoff::new();
     for _ in rt.forever() {
-        if let Told::Verdict { answer, .. } = board.report_before_turn(rt, pass, name)? {
-            return Ok(answer);
+        let told = board.report_before_turn(rt, pass, name)?;
+        if let Some(size) = size_told(&told) {
+            return Ok(size);
         }
         backoff.snooze();
     }
@@ -37,15 +38,13 @@ fn put_and_poll<R: Wait>(
     board: &Shared,
     pass: &mut Seat,
     name: &Name,
-) -> Result<bool, Memory>
+) -> bool
     requires idle { IsIdleOf board.now pass.old }
     requires front { pass.old.number ≡ 0 }
     ensures { Keeps pass.old pass.new }
 {
-    let edit = empty_module(alloc, name)?;
-    let made = matches!(board.edit(rt, alloc, pass, edit), Ok(Edited::Made(_)));
-    let size = poll(rt, board, pass, name)?;
-    Ok(made && size == 0)
+    let made = put(rt, alloc, board, pass, name).is_some();
+    made && poll(rt, board, pass, name) == Ok(0)
 }
 
 /// The front: it puts one module after another, each once the verdict of the one before is told.
@@ -55,17 +54,17 @@ fn put_and_poll_all<R: Wait>(
     board: &Shared,
     pass: &mut Seat,
     names: &[Name],
-) -> Result<bool, Memory>
+) -> bool
     requires idle { IsIdleOf board.now pass.old }
     requires front { pass.old.number ≡ 0 }
     ensures { Keeps pass.old pass.new }
 {
     let mut all = true;
     for name in names {
-        let told = put_and_poll(rt, alloc, board, pass, name)?;
+        let told = put_and_poll(rt, alloc, board, pass, name);
         all = all && told;
     }
-    Ok(all)
+    all
 }
 
 /// The same with a pass of its own; then it closes the board.
@@ -80,10 +79,7 @@ fn lead_by_polls<R: Wait>(
     requires front { pass.number ≡ 0 }
     ensures { Keeps pass result.0 }
 {
-    let told = matches!(
-        put_and_poll_all(rt, alloc, board, &mut pass, names),
-        Ok(true)
-    );
+    let told = put_and_poll_all(rt, alloc, board, &mut pass, names);
     board.close(rt, &mut pass);
     (pass, told)
 }
@@ -96,11 +92,11 @@ fn by_polls<R: Threads + Wait + Sync>(
     board: Shared,
     mut first: Seat,
     names: &[Name],
-) -> Result<(Board<Sizes>, bool), Memory>
+) -> (Board<Sizes>, bool)
     requires { IsIdleOf board first × (first.number ≡ 0) × (first.made ≡ 1) × (first.joined ≡ []) }
 {
-    let one = board.split(&mut first)?;
-    let two = board.split(&mut first)?;
+    let one = split_off(&board, &mut first);
+    let two = split_off(&board, &mut first);
     let shared = &board;
     let ((one, two), (mut first, told)) = join(
         rt,
@@ -116,22 +112,26 @@ fn by_polls<R: Threads + Wait + Sync>(
     let done = told && one.1 && two.1;
     board.join(&mut first, one.0);
     board.join(&mut first, two.0);
-    Ok((board.end(first), done))
+    (board.end(first), done)
+}
+
+/// The names of the modules that this front puts.
+const NAMES: &str = "A B C D";
+
+/// What such a front and two workers leave.
+fn left_by_polls<R: Threads + Wait + Sync>(rt: &R, alloc: Global, names: &[Name]) -> Counts {
+    match shared_board(alloc) {
+        Ok((shared, first)) => counts(by_polls(rt, alloc, shared, first, names)),
+        Err(_) => NO_COUNTS,
+    }
 }
 
 /// Four edits, four claims with their installs, and the close.
 #[test]
 fn workers_come_though_nobody_wakes_them(rt: HostRuntime) -> Result<(), Fail> {
-    let alloc = rt.alloc();
-    let mut names = Vec::new(alloc);
-    for name in ["A", "B", "C", "D"] {
-        names.push(Name::new(alloc, name)?)?;
-    }
-    let (shared, first) = shared_board(alloc)?;
-    let (board, done) = by_polls(&rt, alloc, shared, first, names.as_slice())?;
-    let counts = (board.entries(), board.installs(), board.version());
-    let closed = board.closed();
-    drop(board);
-    assert!(rt; done && closed && counts == (13, 4, 4));
+    let names = names(rt.alloc(), NAMES)?;
+    let left = left_by_polls(&rt, rt.alloc(), names.as_slice());
+    drop(names);
+    assert_eq!(rt; left, (true, 13, 4, 4));
     Ok(())
 }

@@ -1,7 +1,8 @@
 //! Threads that share a board, and what they leave.
-ghost use Rattle.std.specs.Prelude.{◌≡◌, ◌<◌, IfOk, []};
-ghost use Rattle.turn_meaning.specs.Passes.{IsIdleOf};
+ghost use Rattle.std.specs.Prelude.{◌≡◌, ◌<◌, ◌-◌, ◌^◌, IfOk, []};
+ghost use Rattle.turn_meaning.specs.Passes.{IsIdleOf, Splits};
 ghost use Rattle.board_meaning.specs.Legal.{IsLegal};
+ghost use Rattle.board_meaning.specs.Points.{number_of};
 ghost use Rattle.board_seats.specs.Seats.{Keeps};
 ghost use Rattle.seat_tests.specs.Sizes.{sizes};
 
@@ -34,12 +35,47 @@ pub fn shared_board(alloc: Global) -> Result<(Shared, Seat), Memory>
     }
 }
 
+/// A pass with the next number. That there is none never comes.
+pub fn split_off(board: &Shared, first: &mut Seat) -> Seat
+    requires first { IsIdleOf board.now first.old × (first.old.number ≡ 0) }
+    requires room { first.old.made < 2 ^ 32 - 1 }
+    ensures { Splits number_of first.old first.new result }
+{
+    match board.split(first) {
+        Ok(pass) => pass,
+        Err(_) => unreachable!(),
+    }
+}
+
 /// The edit that puts a module with an empty text.
 pub fn empty_module(alloc: Global, name: &Name) -> Result<Edit, Memory> {
-    Ok(Edit::Put {
-        name: name.copy(alloc)?,
-        text: Arc::new(alloc, Bytes::new(alloc))?,
-    })
+    let text = Arc::new(alloc, Bytes::new(alloc))?;
+    match name.copy(alloc) {
+        Ok(name) => Ok(Edit::Put { name, text }),
+        Err(_) => {
+            drop(text);
+            Err(Memory)
+        }
+    }
+}
+
+/// Puts a module with an empty text under a name. The answer is the version, if the edit was made.
+pub fn put<R: Wait>(
+    rt: &R,
+    alloc: Global,
+    board: &Shared,
+    pass: &mut Seat,
+    name: &Name,
+) -> Option<u32>
+    requires idle { IsIdleOf board.now pass.old }
+    requires front { pass.old.number ≡ 0 }
+    ensures { Keeps pass.old pass.new }
+{
+    let edit = empty_module(alloc, name).ok()?;
+    match board.edit(rt, alloc, pass, edit) {
+        Ok(Edited::Made(version)) => Some(version),
+        _ => None,
+    }
 }
 
 /// Puts a module with an empty text under each of these names. The answer is whether each edit was made.
@@ -49,18 +85,17 @@ pub fn put_all<R: Wait>(
     board: &Shared,
     pass: &mut Seat,
     names: &[Name],
-) -> Result<bool, Memory>
+) -> bool
     requires idle { IsIdleOf board.now pass.old }
     requires front { pass.old.number ≡ 0 }
     ensures { Keeps pass.old pass.new }
 {
     let mut all = true;
     for name in names {
-        let edit = empty_module(alloc, name)?;
-        let made = matches!(board.edit(rt, alloc, pass, edit), Ok(Edited::Made(_)));
+        let made = put(rt, alloc, board, pass, name).is_some();
         all = all && made;
     }
-    Ok(all)
+    all
 }
 
 /// Claims a module and releases it. The answer is the number of the claim, if a module was ready.
@@ -81,6 +116,14 @@ pub fn claim_and_release<R: Wait>(
     Ok(Some(claim))
 }
 
+/// The size that is told, if it is a verdict.
+pub fn size_told(told: &Told<usize>) -> Option<usize> {
+    match told {
+        Told::Verdict { answer, .. } => Some(*answer),
+        _ => None,
+    }
+}
+
 /// Waits until the verdict of a name is told.
 pub fn wait_for<R: Wait>(
     rt: &R,
@@ -93,8 +136,9 @@ pub fn wait_for<R: Wait>(
 {
     let backoff = Backoff::new();
     for _ in rt.forever() {
-        if let Told::Verdict { answer, .. } = board.report(rt, pass, name)? {
-            return Ok(answer);
+        let told = board.report(rt, pass, name)?;
+        if let Some(size) = size_told(&told) {
+            return Ok(size);
         }
         backoff.snooze();
     }
@@ -126,7 +170,7 @@ pub fn lead<R: Wait>(rt: &R, alloc: Global, board: &Shared, pass: &mut Seat, nam
     ensures keeps { Keeps pass.old pass.new }
     ensures legal { IsLegal sizes.dependencies pass.new.seen }
 {
-    let put = matches!(put_all(rt, alloc, board, pass, names), Ok(true));
+    let put = put_all(rt, alloc, board, pass, names);
     let told = put && matches!(wait_for_all(rt, board, pass, names), Ok(true));
     board.close(rt, pass);
     told
@@ -208,11 +252,11 @@ pub fn by_three<R: Threads + Wait + Sync>(
     board: Shared,
     mut first: Seat,
     names: &[Name],
-) -> Result<(Board<Sizes>, bool), Memory>
+) -> (Board<Sizes>, bool)
     requires { IsIdleOf board first × (first.number ≡ 0) × (first.made ≡ 1) × (first.joined ≡ []) }
 {
-    let one = board.split(&mut first)?;
-    let two = board.split(&mut first)?;
+    let one = split_off(&board, &mut first);
+    let two = split_off(&board, &mut first);
     let shared = &board;
     let ((one, two), (mut first, told)) = join(
         rt,
@@ -228,5 +272,5 @@ pub fn by_three<R: Threads + Wait + Sync>(
     let done = told && one.1 && two.1;
     board.join(&mut first, one.0);
     board.join(&mut first, two.0);
-    Ok((board.end(first), done))
+    (board.end(first), done)
 }
