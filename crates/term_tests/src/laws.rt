@@ -11,13 +11,13 @@ ghost use Rattle.term_trees.specs.Readings.{read_context, read_family, read_map,
 
 use crate::rows::{Row, file};
 use hereditary_subst::{subst_fam, subst_obj};
-use lf_check::{LfFault, check_fam, check_obj, check_sig};
+use lf_check::{check_fam, check_obj, check_sig};
 use lf_laws::{law_commute, law_subst, law_translate};
 use lf_terms::{Ctx, Fam, FlatSig, HeadMap, Memory, Obj, Simple, erase, same_fam, same_obj};
 use lf_translate::{TranslateFault, translate_fam, translate_obj};
 use std::alloc::Global;
-use std::test::Fail;
-use test_texts::{Case, context, family, map, object, signature, simple};
+use test_texts::found::{context, family, map, object, signature, simple};
+use test_texts::{Case, succeeds};
 
 /// An object at a family.
 #[derive(Drop)]
@@ -27,12 +27,20 @@ struct Judgement {
 }
 
 /// The judgement of `M : A`.
-fn read_judgement(alloc: Global, text: &str) -> Result<Box<Judgement>, Fail> {
-    let (object_text, family_text) = text.split_once(" : ").ok_or("no family")?;
+fn read_judgement(alloc: Global, text: &str) -> Option<Box<Judgement>> {
+    let (object_text, family_text) = text.split_once(" : ")?;
     let object = object(alloc, "", object_text)?;
-    let family = Box::into_inner(family(alloc, "", family_text)?);
-    let object = Box::into_inner(object);
-    Ok(Box::new(alloc, Judgement { object, family })?)
+    match family(alloc, "", family_text) {
+        Some(family) => {
+            let object = Box::into_inner(object);
+            let family = Box::into_inner(family);
+            Box::new(alloc, Judgement { object, family }).ok()
+        }
+        None => {
+            drop(object);
+            None
+        }
+    }
 }
 
 fn same(one: &Judgement, other: &Judgement) -> bool {
@@ -41,13 +49,9 @@ fn same(one: &Judgement, other: &Judgement) -> bool {
 
 /// Whether the signature is well typed, the family is one in the context, and the object checks against it.
 fn is_typed(alloc: Global, sig: &FlatSig, ctx: &Ctx, judgement: &Judgement) -> bool {
-    check_sig(alloc, sig).is_ok()
-        && is_checked(&check_fam(alloc, sig, ctx, &judgement.family))
-        && is_checked(&check_obj(alloc, sig, ctx, &judgement.object, &judgement.family))
-}
-
-fn is_checked(answer: &Result<(), LfFault>) -> bool {
-    answer.is_ok()
+    succeeds(check_sig(alloc, sig))
+        && succeeds(check_fam(alloc, sig, ctx, &judgement.family))
+        && succeeds(check_obj(alloc, sig, ctx, &judgement.object, &judgement.family))
 }
 
 /// The judgement with the value substituted for the variable behind those of `after`. It is a typing judgement again.
@@ -136,49 +140,139 @@ fn in_both_orders(
     Ok((first, second))
 }
 
-/// Whether the value and the judgement are typed, the judgement behind a variable of the value's family and those of a context.
-fn are_typed(alloc: Global, sig: &FlatSig, row: Row<'_>) -> Result<bool, Fail> {
-    let (_, family) = row.second.split_once(" : ").ok_or("no family")?;
-    let whole = format!(in alloc; "h : {family}\n{}", row.first)?;
-    let whole = context(alloc, whole.as_str())?;
-    let into = read_judgement(alloc, row.third)?;
-    if !is_typed(alloc, sig, &whole, &into) {
-        return Ok(false);
+/// Whether the judgement of a text is typed.
+fn is_typed_text(alloc: Global, sig: &FlatSig, ctx: &Ctx, text: &str) -> bool {
+    match read_judgement(alloc, text) {
+        Some(judgement) => is_typed(alloc, sig, ctx, &judgement),
+        None => false,
     }
-    let before = context(alloc, "")?;
-    let value = read_judgement(alloc, row.second)?;
-    Ok(is_typed(alloc, sig, &before, &value))
+}
+
+/// Whether the judgement of a text is typed in the context of another text.
+fn is_typed_behind(alloc: Global, sig: &FlatSig, before: &str, text: &str) -> bool {
+    match context(alloc, before) {
+        Some(ctx) => is_typed_text(alloc, sig, &ctx, text),
+        None => false,
+    }
+}
+
+/// Whether the value and the judgement are typed, the judgement behind a variable of the value's family and those of a context.
+fn are_typed(alloc: Global, sig: &FlatSig, row: Row<'_>) -> bool {
+    let Some((_, family)) = row.second.split_once(" : ") else {
+        return false;
+    };
+    match format!(in alloc; "h : {family}\n{}", row.first) {
+        Ok(whole) => {
+            is_typed_behind(alloc, sig, whole.as_str(), row.third)
+                && is_typed_behind(alloc, sig, "", row.second)
+        }
+        Err(_) => false,
+    }
 }
 
 /// Whether the value substituted in the judgement gives the wanted one, and that is typed behind the variables of the context.
-fn gives(alloc: Global, sig: &FlatSig, row: Row<'_>) -> Result<bool, Fail> {
-    let before = context(alloc, "")?;
-    let after = context(alloc, row.first)?;
-    let value = read_judgement(alloc, row.second)?;
-    let into = read_judgement(alloc, row.third)?;
-    let found = substituted(alloc, sig, &before, &after, &value, &into)?;
-    let wanted = read_judgement(alloc, row.fourth)?;
-    Ok(is_typed(alloc, sig, &after, &found) && same(&found, &wanted))
+fn gives(alloc: Global, sig: &FlatSig, row: Row<'_>) -> bool {
+    match context(alloc, row.first) {
+        Some(after) => gives_behind(alloc, sig, &after, row),
+        None => false,
+    }
+}
+
+fn gives_behind(alloc: Global, sig: &FlatSig, after: &Ctx, row: Row<'_>) -> bool {
+    let value = read_judgement(alloc, row.second);
+    let into = read_judgement(alloc, row.third);
+    match (&value, &into) {
+        (Some(value), Some(into)) => {
+            let before = Ctx::new(alloc);
+            let found = substituted(alloc, sig, &before, after, value, into);
+            is_found(alloc, sig, after, found, row.fourth)
+        }
+        _ => false,
+    }
+}
+
+/// Whether what was found is typed, and the judgement of a text.
+fn is_found(
+    alloc: Global,
+    sig: &FlatSig,
+    ctx: &Ctx,
+    found: Result<Box<Judgement>, Memory>,
+    wanted: &str,
+) -> bool {
+    match found {
+        Ok(found) => is_typed(alloc, sig, ctx, &found) && is_judgement(alloc, &found, wanted),
+        Err(_) => false,
+    }
+}
+
+fn is_judgement(alloc: Global, found: &Judgement, wanted: &str) -> bool {
+    match read_judgement(alloc, wanted) {
+        Some(wanted) => same(found, &wanted),
+        None => false,
+    }
 }
 
 /// Whether substitution keeps typing: the parts are a context after the variable, a value, a judgement and what is wanted.
-pub(crate) fn keeps_typing(alloc: Global, written: &str, row: Row<'_>) -> Result<bool, Fail> {
-    let sig = signature(alloc, written)?;
-    Ok(are_typed(alloc, &sig, row)? && gives(alloc, &sig, row)?)
+pub(crate) fn keeps_typing(alloc: Global, written: &str, row: Row<'_>) -> bool {
+    match signature(alloc, written) {
+        Some(sig) => are_typed(alloc, &sig, row) && gives(alloc, &sig, row),
+        None => false,
+    }
+}
+
+/// A value at a simple type.
+#[derive(Drop)]
+struct Typed {
+    value: Box<Obj>,
+    simple: Box<Simple>,
+}
+
+/// The value of `M : A`, with the type to which A erases.
+fn read_typed(alloc: Global, text: &str) -> Option<Typed> {
+    let (value, written) = text.split_once(" : ")?;
+    let value = object(alloc, "", value)?;
+    match simple(alloc, written) {
+        Some(simple) => Some(Typed { value, simple }),
+        None => {
+            drop(value);
+            None
+        }
+    }
 }
 
 /// Whether both orders of substitution give the wanted object: of an outer value of a type, `M : A`, an inner one, and an object.
-pub(crate) fn both_give(alloc: Global, row: Row<'_>) -> Result<bool, Fail> {
-    let (outer, outer_type) = row.first.split_once(" : ").ok_or("no type")?;
-    let (inner, inner_type) = row.second.split_once(" : ").ok_or("no type")?;
-    let outer_type = simple(alloc, outer_type)?;
-    let inner_type = simple(alloc, inner_type)?;
-    let outer = object(alloc, "", outer)?;
-    let inner = object(alloc, "", inner)?;
-    let into = object(alloc, "", row.third)?;
-    let found = in_both_orders(alloc, &outer, &outer_type, &inner, &inner_type, &into)?;
-    let wanted = object(alloc, "", row.fourth)?;
-    Ok(same_obj(&found.0, &wanted) && same_obj(&found.1, &wanted))
+pub(crate) fn both_give(alloc: Global, row: Row<'_>) -> bool {
+    let outer = read_typed(alloc, row.first);
+    let inner = read_typed(alloc, row.second);
+    match (&outer, &inner) {
+        (Some(outer), Some(inner)) => both_give_in(alloc, outer, inner, row),
+        _ => false,
+    }
+}
+
+fn both_give_in(alloc: Global, outer: &Typed, inner: &Typed, row: Row<'_>) -> bool {
+    match object(alloc, "", row.third) {
+        Some(into) => {
+            let found = in_both_orders(
+                alloc,
+                &outer.value,
+                &outer.simple,
+                &inner.value,
+                &inner.simple,
+                &into,
+            );
+            are_both(alloc, found, row.fourth)
+        }
+        None => false,
+    }
+}
+
+fn are_both(alloc: Global, found: Result<(Box<Obj>, Box<Obj>), Memory>, wanted: &str) -> bool {
+    let wanted = object(alloc, "", wanted);
+    match (&found, &wanted) {
+        (Ok(found), Some(wanted)) => same_obj(&found.0, wanted) && same_obj(&found.1, wanted),
+        _ => false,
+    }
 }
 
 /// The judgement translated along the map. It is a typing judgement again.
@@ -200,25 +294,68 @@ fn translated(
     Ok(Box::new(alloc, Judgement { object, family })?)
 }
 
+/// What a case carries a judgement between: two signatures and a map.
+#[derive(Drop)]
+struct Way {
+    from: Box<FlatSig>,
+    to: Box<FlatSig>,
+    along: Box<HeadMap>,
+}
+
+fn read_way(alloc: Global, case: &Case<'_>) -> Option<Way> {
+    let from = signature(alloc, file(case, "from"))?;
+    match signature(alloc, file(case, "to")) {
+        Some(to) => way_along(from, to, map(alloc, file(case, "map"))),
+        None => {
+            drop(from);
+            None
+        }
+    }
+}
+
+fn way_along(from: Box<FlatSig>, to: Box<FlatSig>, along: Option<Box<HeadMap>>) -> Option<Way> {
+    match along {
+        Some(along) => Some(Way { from, to, along }),
+        None => {
+            drop(from);
+            drop(to);
+            None
+        }
+    }
+}
+
 /// Whether the judgement is typed over the one signature, and what comes of it is the wanted one, typed over the other.
-pub(crate) fn carries(
+pub(crate) fn carries(alloc: Global, case: &Case<'_>, text: &str, wanted: &str) -> bool {
+    match read_way(alloc, case) {
+        Some(way) => carries_along(alloc, &way, text, wanted),
+        None => false,
+    }
+}
+
+fn carries_along(alloc: Global, way: &Way, text: &str, wanted: &str) -> bool {
+    match read_judgement(alloc, text) {
+        Some(given) => {
+            let ctx = Ctx::new(alloc);
+            let found = translated(alloc, &way.from, &way.to, &way.along, &ctx, &given);
+            is_carried(alloc, &way.to, &ctx, found, wanted)
+                && is_typed(alloc, &way.from, &ctx, &given)
+        }
+        None => false,
+    }
+}
+
+fn is_carried(
     alloc: Global,
-    case: &Case<'_>,
-    text: &str,
+    to: &FlatSig,
+    ctx: &Ctx,
+    found: Result<Box<Judgement>, TranslateFault>,
     wanted: &str,
-) -> Result<bool, Fail> {
-    let from = signature(alloc, file(case, "from")?)?;
-    let to = signature(alloc, file(case, "to")?)?;
-    let ctx = context(alloc, "")?;
-    let along = map(alloc, file(case, "map")?)?;
-    let given = read_judgement(alloc, text)?;
-    let wanted = read_judgement(alloc, wanted)?;
-    match translated(alloc, &from, &to, &along, &ctx, &given) {
-        Ok(found) => Ok(
-            is_typed(alloc, &from, &ctx, &given)
-                && is_typed(alloc, &to, &ctx, &found)
-                && same(&found, &wanted),
-        ),
-        Err(_) => Ok(false),
+) -> bool {
+    match found {
+        Ok(found) => is_typed(alloc, to, ctx, &found) && is_judgement(alloc, &found, wanted),
+        Err(fault) => {
+            drop(fault);
+            false
+        }
     }
 }

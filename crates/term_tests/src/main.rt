@@ -15,9 +15,8 @@ mod translations;
 
 use rows::holds;
 use std::alloc::Global;
-use std::fs;
 use std::test::Fail;
-use test_texts::{Case, read_case};
+use test_texts::{Case, Tells, Told, tell_files};
 
 /// The files, in order.
 const FILES: &[&str] = &[
@@ -30,41 +29,30 @@ const FILES: &[&str] = &[
     "laws.cases",
 ];
 
-/// How many rows of a case hold, and those that do not.
-fn told(alloc: Global, case: &Case<'_>) -> Result<String, Fail> {
-    let rows = str::from_utf8(case.input.as_slice())?;
-    let mut told = format!(in alloc; "=={}\n", case.head)?;
-    count_all(alloc, case, &mut told, rows)?;
-    Ok(told)
-}
-
-fn count_all(alloc: Global, case: &Case<'_>, told: &mut String, rows: &str) -> Result<(), Fail> {
+/// How many rows hold, each of those that do not being told.
+fn count_all(alloc: Global, case: &Case<'_>, told: &mut Told, rows: &str) -> u32 {
     let mut held = 0u32;
     for row in rows.lines() {
-        if holds(alloc, case, row)? {
+        if holds(alloc, case, row) {
             held = held.saturating_add(1);
         } else {
-            write!(told, "wrong: {row}\n")?;
+            write!(told, "wrong: {row}\n");
         }
     }
-    Ok(write!(told, "{held} hold\n")?)
+    held
 }
 
-/// Prints what comes of the cases of a file.
-fn print_all<R: Print>(rt: &R, alloc: Global, text: &str) -> Result<(), Fail> {
-    let text = text.strip_suffix('\n').unwrap_or(text);
-    for written in text.split("\n==").skip(1) {
-        let case = read_case(alloc, written)?;
-        let told = told(alloc, &case)?;
-        print!(rt; "{}", told.as_str())?;
+struct Counted;
+
+impl Tells for Counted {
+    fn tell(&self, alloc: Global, case: &Case<'_>, told: &mut Told) {
+        write!(told, "=={}\n", case.head);
+        let rows = str::from_utf8(case.input.as_slice()).unwrap_or("no text");
+        let held = count_all(alloc, case, told, rows);
+        write!(told, "{held} hold\n");
     }
-    Ok(())
 }
 
 fn main(rt: HostRuntime) -> Result<(), Fail> {
-    for &file in FILES {
-        let text = fs::read_to_string(&rt, file)?;
-        print_all(&rt, rt.alloc(), text.as_str())?;
-    }
-    Ok(())
+    tell_files(&rt, rt.alloc(), &Counted, FILES)
 }

@@ -1,25 +1,36 @@
 //! Names by the rules of the formats, paths, and lists.
 
-use lf_terms::{Bytes, Name, NameFault, Path, Texts};
+use lf_terms::{Bytes, Memory, Name, NameFault, Path, Texts};
 use std::alloc::Global;
 use std::collections::{BTreeSet, HashSet};
-use std::test::Fail;
+use test_texts::succeeds;
 
 /// A text, in which signs that cannot be seen stand as in a text of Rust, and `\e` is an equals sign.
-fn plain(alloc: Global, written: &str) -> Result<String, Fail> {
+fn plain(alloc: Global, written: &str) -> Option<String> {
     let mut text = String::new(alloc);
+    if is_plain(&mut text, written) {
+        Some(text)
+    } else {
+        drop(text);
+        None
+    }
+}
+
+/// Whether memory was there for it.
+fn is_plain(text: &mut String, written: &str) -> bool {
     let mut is_behind = false;
+    let mut all = true;
     for sign in written.chars() {
         if is_behind {
-            text.push(named(sign))?;
+            all = all && text.push(named(sign)).is_ok();
             is_behind = false;
         } else if sign == '\\' {
             is_behind = true;
         } else {
-            text.push(sign)?;
+            all = all && text.push(sign).is_ok();
         }
     }
-    Ok(text)
+    all
 }
 
 /// The sign that stands behind a backslash by this one.
@@ -36,21 +47,38 @@ fn named(sign: char) -> char {
 }
 
 /// Whether a text is a name.
-pub(crate) fn is_name(alloc: Global, written: &str) -> Result<bool, Fail> {
-    let text = plain(alloc, written)?;
-    let name = Name::new(alloc, text.as_str())?;
-    let copy = name.copy(alloc)?;
-    Ok(copy.as_str() == text.as_str())
+pub(crate) fn is_name(alloc: Global, written: &str) -> bool {
+    match plain(alloc, written) {
+        Some(text) => is_name_of(alloc, text.as_str()),
+        None => false,
+    }
+}
+
+/// Whether there is a name of a text, and its copy has the same text.
+fn is_name_of(alloc: Global, text: &str) -> bool {
+    match Name::new(alloc, text) {
+        Ok(name) => is_text_of(name.copy(alloc), text),
+        Err(_) => false,
+    }
+}
+
+fn is_text_of(copy: Result<Name, Memory>, text: &str) -> bool {
+    match copy {
+        Ok(copy) => copy.as_str() == text,
+        Err(_) => false,
+    }
 }
 
 /// Whether a text is no name.
-pub(crate) fn is_no_name(alloc: Global, written: &str) -> Result<bool, Fail> {
-    let text = plain(alloc, written)?;
-    Ok(Name::new(alloc, text.as_str()).err() == Some(NameFault::NotAName))
+pub(crate) fn is_no_name(alloc: Global, written: &str) -> bool {
+    match plain(alloc, written) {
+        Some(text) => Name::new(alloc, text.as_str()).err() == Some(NameFault::NotAName),
+        None => false,
+    }
 }
 
 /// Whether what a row says of names, paths and lists is so.
-pub(crate) fn name_call(alloc: Global, line: &str) -> Result<bool, Fail> {
+pub(crate) fn name_call(alloc: Global, line: &str) -> bool {
     match line {
         "names stand in byte order" => are_in_order(alloc),
         "paths are different by their names" => are_different(alloc),
@@ -60,65 +88,144 @@ pub(crate) fn name_call(alloc: Global, line: &str) -> Result<bool, Fail> {
     }
 }
 
-fn are_in_order(alloc: Global) -> Result<bool, Fail> {
-    let mut names = Box::new(alloc, BTreeSet::new(alloc))?;
-    for text in ["b", "a", "Z", "ab", "a"] {
-        names.insert(Name::new(alloc, text)?)?;
-    }
+/// Names that are put into a set.
+const UNORDERED: &[&str] = &["b", "a", "Z", "ab", "a"];
+
+fn are_in_order(alloc: Global) -> bool {
+    let mut names = BTreeSet::new(alloc);
     let mut row = String::new(alloc);
-    for name in names.iter() {
-        row.push_str(name.as_str())?;
-        row.push_str(" ")?;
+    are_inserted(alloc, &mut names) && is_row(&names, &mut row) && row.as_str() == "Z a ab b "
+}
+
+fn are_inserted(alloc: Global, names: &mut BTreeSet<Name>) -> bool {
+    for &text in UNORDERED {
+        if !is_inserted(alloc, names, text) {
+            return false;
+        }
     }
-    Ok(row.as_str() == "Z a ab b ")
+    true
+}
+
+fn is_inserted(alloc: Global, names: &mut BTreeSet<Name>, text: &str) -> bool {
+    match Name::new(alloc, text) {
+        Ok(name) => succeeds(names.insert(name)),
+        Err(_) => false,
+    }
+}
+
+/// Whether memory was there for the row of the names, each with a blank behind it.
+fn is_row(names: &BTreeSet<Name>, row: &mut String) -> bool {
+    let mut all = true;
+    for name in names.iter() {
+        all = all && row.push_str(name.as_str()).is_ok() && row.push_str(" ").is_ok();
+    }
+    all
+}
+
+fn short_path(alloc: Global, text: &str) -> Option<Path> {
+    Path::new(alloc, Name::new(alloc, text).ok()?).ok()
+}
+
+/// Whether a name could be added to a path.
+fn is_longer(alloc: Global, path: &mut Path, text: &str) -> bool {
+    match Name::new(alloc, text) {
+        Ok(name) => succeeds(path.push(name)),
+        Err(_) => false,
+    }
 }
 
 /// The path `m.a.b.c`.
-fn long_path(alloc: Global) -> Result<Box<Path>, Fail> {
-    let mut path = Box::new(alloc, Path::new(alloc, Name::new(alloc, "m")?)?)?;
-    for text in ["a", "b", "c"] {
-        path.push(Name::new(alloc, text)?)?;
+fn long_path(alloc: Global) -> Option<Path> {
+    let mut path = short_path(alloc, "m")?;
+    if is_longer(alloc, &mut path, "a")
+        && is_longer(alloc, &mut path, "b")
+        && is_longer(alloc, &mut path, "c")
+    {
+        Some(path)
+    } else {
+        drop(path);
+        None
     }
-    Ok(path)
 }
 
 /// Whether a path of four names, its copy and its first name are two different paths.
-fn are_different(alloc: Global) -> Result<bool, Fail> {
-    let path = long_path(alloc)?;
-    let mut paths = Box::new(alloc, HashSet::new(alloc))?;
-    paths.insert(path.copy(alloc)?)?;
-    paths.insert(path.copy(alloc)?)?;
-    paths.insert(Path::new(alloc, Name::new(alloc, "m")?)?)?;
-    Ok(path.len() == 4 && paths.len() == 2)
+fn are_different(alloc: Global) -> bool {
+    match long_path(alloc) {
+        Some(path) => path.len() == 4 && count_different(alloc, &path) == 2,
+        None => false,
+    }
 }
 
-/// By how many names a copy of the path behind a name, which has grown by one, is longer than that path.
-fn grown(alloc: Global, path: &[Name]) -> Result<usize, Fail> {
-    let first = Box::new(alloc, Name::new(alloc, "s")?)?;
-    let behind = Box::new(alloc, Path::of(alloc, &first, path)?)?;
-    let mut copy = Box::new(alloc, behind.copy(alloc)?)?;
-    copy.push(Name::new(alloc, "d")?)?;
-    Ok(copy.len().wrapping_sub(behind.len()))
+fn count_different(alloc: Global, path: &Path) -> usize {
+    let mut paths = HashSet::new(alloc);
+    let all = is_put(&mut paths, path.copy(alloc).ok())
+        && is_put(&mut paths, path.copy(alloc).ok())
+        && is_put(&mut paths, short_path(alloc, "m"));
+    if all { paths.len() } else { 0 }
 }
 
-fn grow(alloc: Global) -> Result<bool, Fail> {
-    let path = long_path(alloc)?;
-    Ok(grown(alloc, path.as_slice())? == 1 && grown(alloc, &[])? == 1)
+fn is_put(paths: &mut HashSet<Path>, path: Option<Path>) -> bool {
+    match path {
+        Some(path) => succeeds(paths.insert(path)),
+        None => false,
+    }
 }
 
-fn bytes_grow(alloc: Global) -> Result<bool, Fail> {
-    let mut bytes = Box::new(alloc, Bytes::new(alloc))?;
-    bytes.push(7)?;
-    bytes.extend(&[8, 9])?;
-    let items = Box::into_inner(bytes).into_vec();
-    let mut again = Box::new(alloc, Bytes::from_vec(items))?;
-    again.add(10)?;
-    Ok(again.as_slice() == [7, 8, 9, 10].as_slice() && again.get(4) == None)
+fn grow(alloc: Global) -> bool {
+    match long_path(alloc) {
+        Some(path) => grows_behind(alloc, path.as_slice()) && grows_behind(alloc, &[]),
+        None => false,
+    }
 }
 
-fn texts_grow(alloc: Global) -> Result<bool, Fail> {
-    let mut texts = Box::new(alloc, Texts::new(alloc))?;
-    texts.push(String::from_str(alloc, "one")?)?;
-    texts.push(String::from_str(alloc, "")?)?;
-    Ok(texts.len() == 2 && texts.get(0).is_some_and(|text| text.as_str() == "one"))
+/// Whether a copy of the path behind a name, which has grown by one, is longer than that path by one name.
+fn grows_behind(alloc: Global, path: &[Name]) -> bool {
+    match path_behind(alloc, path) {
+        Some(behind) => is_copy_longer(alloc, &behind),
+        None => false,
+    }
+}
+
+fn path_behind(alloc: Global, path: &[Name]) -> Option<Path> {
+    let first = Name::new(alloc, "s").ok()?;
+    Path::of(alloc, &first, path).ok()
+}
+
+fn is_copy_longer(alloc: Global, path: &Path) -> bool {
+    match path.copy(alloc) {
+        Ok(mut copy) => {
+            is_longer(alloc, &mut copy, "d") && copy.len().wrapping_sub(path.len()) == 1
+        }
+        Err(_) => false,
+    }
+}
+
+fn bytes_grow(alloc: Global) -> bool {
+    let mut bytes = Bytes::new(alloc);
+    let grown = succeeds(bytes.push(7)) && bytes.extend(&[8, 9]).is_ok();
+    let mut again = Bytes::from_vec(bytes.into_vec());
+    grown && again.add(10).is_ok() && are_four(&again)
+}
+
+fn are_four(bytes: &Bytes) -> bool {
+    bytes.as_slice() == [7, 8, 9, 10].as_slice() && bytes.get(4) == None
+}
+
+fn texts_grow(alloc: Global) -> bool {
+    let mut texts = Texts::new(alloc);
+    is_added(alloc, &mut texts, "one") && is_added(alloc, &mut texts, "") && are_two(&texts)
+}
+
+fn is_added(alloc: Global, texts: &mut Texts, text: &str) -> bool {
+    match String::from_str(alloc, text) {
+        Ok(text) => succeeds(texts.push(text)),
+        Err(_) => false,
+    }
+}
+
+fn are_two(texts: &Texts) -> bool {
+    match texts.get(0) {
+        Some(text) => texts.len() == 2 && text.as_str() == "one",
+        None => false,
+    }
 }

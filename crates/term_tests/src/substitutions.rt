@@ -1,51 +1,97 @@
 //! Terms that are raised, and worked substitutions.
 
 use crate::rows::Row;
-use crate::terms::{copied, expanded, raised, read_term, same, substituted};
+use crate::terms::{Term, copied, expanded, is_wanted, raised, read_term, substituted};
 use hereditary_subst::reduce;
-use lf_terms::{Obj, Simple, same_obj};
+use lf_terms::{Memory, Obj, Simple, same_obj};
 use std::alloc::Global;
-use std::test::Fail;
-use test_texts::{object, simple, spine};
+use test_texts::found::{object, simple, spine};
 
 /// Whether a copy of a term with its variables raised by so many, from one on, is the wanted one.
-pub(crate) fn raises(alloc: Global, row: Row<'_>) -> Result<bool, Fail> {
-    let (by, from) = (row.second.parse::<u32>()?, row.third.parse::<u32>()?);
-    let term = read_term(alloc, row.first)?;
-    let wanted = read_term(alloc, row.fourth)?;
-    let copy = copied(alloc, &term)?;
-    let found = raised(alloc, &copy, by, from)?;
-    Ok(same(&found, &wanted))
+pub(crate) fn raises(alloc: Global, row: Row<'_>) -> bool {
+    match (row.second.parse::<u32>(), row.third.parse::<u32>()) {
+        (Ok(by), Ok(from)) => is_raised(alloc, row, by, from),
+        _ => false,
+    }
 }
 
-fn read_value(alloc: Global, text: &str) -> Result<Box<Obj>, Fail> {
+fn is_raised(alloc: Global, row: Row<'_>, by: u32, from: u32) -> bool {
+    match copy_of(alloc, row.first) {
+        Some(copy) => is_wanted(alloc, raised(alloc, &copy, by, from), row.fourth),
+        None => false,
+    }
+}
+
+fn copy_of(alloc: Global, text: &str) -> Option<Box<Term>> {
+    let term = read_term(alloc, text)?;
+    copied(alloc, &term)
+}
+
+fn read_value(alloc: Global, text: &str) -> Option<Box<Obj>> {
     let text = expanded(alloc, text)?;
     object(alloc, "", text.as_str())
 }
 
-fn read_type(alloc: Global, text: &str) -> Result<Box<Simple>, Fail> {
+fn read_type(alloc: Global, text: &str) -> Option<Box<Simple>> {
     let text = expanded(alloc, text)?;
     simple(alloc, text.as_str())
 }
 
 /// Whether a value, of the simple type to which a family erases, substituted for a variable of a term gives the wanted one.
-pub(crate) fn gives(alloc: Global, row: Row<'_>) -> Result<bool, Fail> {
-    let at = row.third.parse::<u32>()?;
-    let value = read_value(alloc, row.first)?;
-    let simple = read_type(alloc, row.second)?;
-    let into = read_term(alloc, row.fourth)?;
-    let wanted = read_term(alloc, row.fifth)?;
-    let found = substituted(alloc, &value, &simple, at, &into)?;
-    Ok(same(&found, &wanted))
+pub(crate) fn gives(alloc: Global, row: Row<'_>) -> bool {
+    let value = read_value(alloc, row.first);
+    let simple = read_type(alloc, row.second);
+    match (&value, &simple) {
+        (Some(value), Some(simple)) => is_given(alloc, value, simple, row),
+        _ => false,
+    }
+}
+
+fn is_given(alloc: Global, value: &Obj, simple: &Simple, row: Row<'_>) -> bool {
+    let Ok(at) = row.third.parse::<u32>() else {
+        return false;
+    };
+    match read_term(alloc, row.fourth) {
+        Some(into) => {
+            is_wanted(
+                alloc,
+                substituted(alloc, value, simple, at, &into),
+                row.fifth,
+            )
+        }
+        None => false,
+    }
 }
 
 /// Whether a value of a type, applied to arguments, comes to the wanted object.
-pub(crate) fn reduces(alloc: Global, row: Row<'_>) -> Result<bool, Fail> {
-    let value = read_value(alloc, row.first)?;
-    let simple = read_type(alloc, row.second)?;
-    let wanted = read_value(alloc, row.fourth)?;
-    let arguments = expanded(alloc, row.third)?;
-    let arguments = spine(alloc, "", arguments.as_str())?;
-    let found = Box::new(alloc, reduce(alloc, &value, &simple, arguments.as_slice())?)?;
-    Ok(same_obj(&found, &wanted))
+pub(crate) fn reduces(alloc: Global, row: Row<'_>) -> bool {
+    let value = read_value(alloc, row.first);
+    let simple = read_type(alloc, row.second);
+    match (&value, &simple) {
+        (Some(value), Some(simple)) => is_reduced(alloc, value, simple, row),
+        _ => false,
+    }
+}
+
+fn is_reduced(alloc: Global, value: &Obj, simple: &Simple, row: Row<'_>) -> bool {
+    let Some(text) = expanded(alloc, row.third) else {
+        return false;
+    };
+    match spine(alloc, "", text.as_str()) {
+        Some(arguments) => {
+            let found = reduce(alloc, value, simple, arguments.as_slice());
+            is_object(alloc, found, row.fourth)
+        }
+        None => false,
+    }
+}
+
+fn is_object(alloc: Global, found: Result<Obj, Memory>, wanted: &str) -> bool {
+    let wanted = read_value(alloc, wanted);
+    let holds = match (&found, &wanted) {
+        (Ok(found), Some(wanted)) => same_obj(found, wanted),
+        _ => false,
+    };
+    drop(found);
+    holds
 }

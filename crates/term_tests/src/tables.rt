@@ -1,11 +1,11 @@
 //! Tables and shared values: calls over values in memory.
 use lf_terms::{
-    Arc, FlatSig, HeadMap, Image, MapFault, MapPart, Name, Obj, PushFault, QName, Simple, Spine,
-    same_class, same_obj, same_value,
+    Arc, FlatDecl, FlatSig, HeadMap, Image, MapFault, MapPart, Memory, Name, Obj, PushFault, QName,
+    Simple, Spine, same_class, same_obj, same_value,
 };
 use std::alloc::Global;
-use std::test::Fail;
-use test_texts::{constant, map, object, signature, simple};
+use test_texts::found::{constant, map, object, signature, simple};
+use test_texts::{Told, succeeds};
 
 const DECLARED: &str = "\
 a : type
@@ -13,7 +13,7 @@ c : a
 d : a = same c";
 
 /// Whether what a row says of tables is so.
-pub(crate) fn table_call(alloc: Global, line: &str) -> Result<bool, Fail> {
+pub(crate) fn table_call(alloc: Global, line: &str) -> bool {
     match line {
         "declarations are found by name" => are_found_by_name(alloc),
         "declarations are found by path" => are_found_by_path(alloc),
@@ -26,35 +26,50 @@ pub(crate) fn table_call(alloc: Global, line: &str) -> Result<bool, Fail> {
     }
 }
 
-/// A copy of the declaration at an index, pushed again.
-fn pushed_again(
-    alloc: Global,
-    sig: &mut FlatSig,
-    i: usize,
-) -> Result<Box<Result<(), PushFault>>, Fail> {
-    let copy = Box::new(alloc, sig.at(i).ok_or("no declaration")?.copy(alloc)?)?;
-    Ok(Box::new(alloc, sig.push(Box::into_inner(copy)))?)
+/// A copy of the declaration at an index.
+fn declaration_at(alloc: Global, sig: &FlatSig, i: usize) -> Option<Box<FlatDecl>> {
+    Box::new(alloc, sig.at(i)?.copy(alloc).ok()?).ok()
 }
 
-/// Whether the declaration at an index came back.
-fn is_twice(sig: &FlatSig, pushed: &Result<(), PushFault>, i: usize) -> bool {
-    match pushed {
-        Err(PushFault::Twice(decl)) => {
-            sig.place(&decl.name) == Some(i)
-                && sig
-                    .get(&decl.name)
-                    .is_some_and(|found| same_class(&found.class, &decl.class))
+/// Whether a copy of the declaration at an index comes back where it is pushed again.
+fn comes_back(alloc: Global, sig: &mut FlatSig, i: usize) -> bool {
+    match declaration_at(alloc, sig, i) {
+        Some(copy) => {
+            let pushed = sig.push(Box::into_inner(copy));
+            is_twice(sig, pushed, i)
         }
-        _ => false,
+        None => false,
     }
 }
 
-fn are_found_by_name(alloc: Global) -> Result<bool, Fail> {
-    let mut sig = signature(alloc, DECLARED)?;
-    let first = pushed_again(alloc, &mut sig, 0)?;
-    let last = pushed_again(alloc, &mut sig, 2)?;
-    let twice = is_twice(&sig, &first, 0) && is_twice(&sig, &last, 2);
-    Ok(twice && sig.len() == 3 && sig.at(3).is_none())
+/// Whether the declaration at an index came back.
+fn is_twice(sig: &FlatSig, pushed: Result<(), PushFault>, i: usize) -> bool {
+    let holds = match &pushed {
+        Err(PushFault::Twice(decl)) => is_declared_at(sig, decl, i),
+        _ => false,
+    };
+    drop(pushed);
+    holds
+}
+
+fn is_declared_at(sig: &FlatSig, decl: &FlatDecl, i: usize) -> bool {
+    match sig.get(&decl.name) {
+        Some(found) => { sig.place(&decl.name) == Some(i) && same_class(&found.class, &decl.class) }
+        None => false,
+    }
+}
+
+fn are_found_by_name(alloc: Global) -> bool {
+    match signature(alloc, DECLARED) {
+        Some(mut sig) => {
+            comes_back(alloc, &mut sig, 0)
+                && comes_back(alloc, &mut sig, 2)
+                && comes_back(alloc, &mut sig, 0)
+                && sig.len() == 3
+                && sig.at(3).is_none()
+        }
+        None => false,
+    }
 }
 
 /// Of one theory, and of two: `c` of the first theory comes before that of the other, and `d` behind it.
@@ -88,73 +103,113 @@ const IN_TWO: &[(&str, Option<usize>)] = &[
 const IN_THREE: &[(&str, Option<usize>)] = &[("t.a", Some(0)), ("t.c", Some(1)), ("t.d", None)];
 
 /// Whether the first declaration of a path is at this place.
-fn is_first(
-    alloc: Global,
-    sig: &FlatSig,
-    written: &str,
-    place: Option<usize>,
-) -> Result<bool, Fail> {
-    let name = constant(alloc, written)?;
-    Ok(match sig.first_at(name.path.as_slice()) {
-        Some(decl) => sig.place(&decl.name) == place,
-        None => place.is_none(),
-    })
+fn is_first(alloc: Global, sig: &FlatSig, written: &str, place: Option<usize>) -> bool {
+    match constant(alloc, written) {
+        Some(name) => first_place(sig, name.path.as_slice()) == place,
+        None => false,
+    }
 }
 
-fn are_first(alloc: Global, sig: &FlatSig, wanted: &[(&str, Option<usize>)]) -> Result<bool, Fail> {
+/// The place of the first declaration of a path.
+fn first_place(sig: &FlatSig, path: &[Name]) -> Option<usize> {
+    sig.place(&sig.first_at(path)?.name)
+}
+
+fn are_first(alloc: Global, sig: &FlatSig, wanted: &[(&str, Option<usize>)]) -> bool {
     for &(written, place) in wanted {
-        if !is_first(alloc, sig, written, place)? {
-            return Ok(false);
+        if !is_first(alloc, sig, written, place) {
+            return false;
         }
     }
-    Ok(true)
+    true
 }
 
-fn are_found_by_path(alloc: Global) -> Result<bool, Fail> {
-    let one = signature(alloc, OF_ONE)?;
-    let in_one = are_first(alloc, &one, IN_ONE)?;
-    drop(one);
-    let mut two = signature(alloc, OF_TWO)?;
-    let in_two = are_first(alloc, &two, IN_TWO)?;
-    two.truncate(3);
-    Ok(in_one && in_two && are_first(alloc, &two, IN_THREE)?)
+fn are_found_by_path(alloc: Global) -> bool {
+    are_found_in_one(alloc) && are_found_in_two(alloc)
+}
+
+fn are_found_in_one(alloc: Global) -> bool {
+    match signature(alloc, OF_ONE) {
+        Some(one) => are_first(alloc, &one, IN_ONE),
+        None => false,
+    }
+}
+
+fn are_found_in_two(alloc: Global) -> bool {
+    match signature(alloc, OF_TWO) {
+        Some(mut two) => {
+            let in_two = are_first(alloc, &two, IN_TWO);
+            two.truncate(3);
+            in_two && are_first(alloc, &two, IN_THREE)
+        }
+        None => false,
+    }
 }
 
 const MAPPED: &str = "\
 c : a = same d
 f : a -> a = [x] g x x";
 
-/// Copies of a constant and its image, pushed again.
-fn mapped_again(
-    alloc: Global,
-    map: &mut HeadMap,
-    i: usize,
-) -> Result<Box<Result<(), MapFault>>, Fail> {
-    let (name, image) = map.at(i).ok_or("no image")?;
-    let name = Box::new(alloc, name.copy(alloc)?)?;
-    let image = Box::new(alloc, image.copy(alloc)?)?;
-    Ok(Box::new(
-        alloc,
-        map.push(Box::into_inner(name), Box::into_inner(image)),
-    )?)
+fn name_at(alloc: Global, map: &HeadMap, i: usize) -> Option<QName> {
+    map.at(i)?.0.copy(alloc).ok()
 }
 
-/// Whether the image of the constant came back.
-fn is_mapped_twice(map: &HeadMap, pushed: &Result<(), MapFault>) -> bool {
-    match pushed {
-        Err(MapFault::Twice(name, image)) => map.get(name).is_some_and(|found| {
-            same_class(&found.class, &image.class) && same_value(&found.value, &image.value)
-        }),
-        _ => false,
+fn image_at(alloc: Global, map: &HeadMap, i: usize) -> Option<Box<Image>> {
+    Box::new(alloc, map.at(i)?.1.copy(alloc).ok()?).ok()
+}
+
+/// Whether copies of a constant and its image come back where they are pushed again.
+fn image_comes_back(alloc: Global, map: &mut HeadMap, i: usize) -> bool {
+    let image = image_at(alloc, map, i);
+    match name_at(alloc, map, i) {
+        Some(name) => is_name_back(map, name, image),
+        None => false,
     }
 }
 
-fn are_images_found(alloc: Global) -> Result<bool, Fail> {
-    let mut map = map(alloc, MAPPED)?;
-    let first = mapped_again(alloc, &mut map, 0)?;
-    let last = mapped_again(alloc, &mut map, 1)?;
-    let twice = is_mapped_twice(&map, &first) && is_mapped_twice(&map, &last);
-    Ok(twice && map.len() == 2 && map.at(2).is_none())
+fn is_name_back(map: &mut HeadMap, name: QName, image: Option<Box<Image>>) -> bool {
+    match image {
+        Some(image) => {
+            let pushed = map.push(name, Box::into_inner(image));
+            is_mapped_twice(map, pushed)
+        }
+        None => {
+            drop(name);
+            false
+        }
+    }
+}
+
+/// Whether the image of the constant came back.
+fn is_mapped_twice(map: &HeadMap, pushed: Result<(), MapFault>) -> bool {
+    let holds = match &pushed {
+        Err(MapFault::Twice(name, image)) => is_image(map.get(name), image),
+        _ => false,
+    };
+    drop(pushed);
+    holds
+}
+
+fn is_image(found: Option<&Image>, image: &Image) -> bool {
+    match found {
+        Some(found) => {
+            same_class(&found.class, &image.class) && same_value(&found.value, &image.value)
+        }
+        None => false,
+    }
+}
+
+fn are_images_found(alloc: Global) -> bool {
+    match map(alloc, MAPPED) {
+        Some(mut map) => {
+            image_comes_back(alloc, &mut map, 0)
+                && image_comes_back(alloc, &mut map, 1)
+                && image_comes_back(alloc, &mut map, 0)
+                && map.len() == 2
+                && map.at(2).is_none()
+        }
+        None => false,
+    }
 }
 
 /// What the identity gives to the declared constants: an undefined one is itself, a defined one its own value.
@@ -178,90 +233,165 @@ fn is_same_map(map: &HeadMap, wanted: &HeadMap) -> bool {
 fn is_same_pair(pair: Option<(&QName, &Image)>, wanted: Option<(&QName, &Image)>) -> bool {
     match (pair, wanted) {
         (Some((name, image)), Some((other, given))) => {
-            name == other
-                && same_class(&image.class, &given.class)
-                && same_value(&image.value, &given.value)
+            name == other && is_image(Some(image), given)
         }
         _ => false,
     }
 }
 
 /// Whether a map that takes in this part alone, and its copy, are the map of a text, and the part is not taken in twice.
-fn shares(alloc: Global, part: &Arc<MapPart>, text: &str) -> Result<bool, Fail> {
-    let wanted = map(alloc, text)?;
-    let mut shared = HeadMap::new(alloc);
-    let first = shared.share_part(alloc, part)?;
-    let twice = shared.share_part(alloc, part)?;
-    let same = is_same_map(&shared, &wanted);
-    let copied = shared.copy(alloc)?;
-    Ok(first && !twice && same && is_same_map(&copied, &wanted))
+fn shares(alloc: Global, part: &Arc<MapPart>, text: &str) -> bool {
+    match map(alloc, text) {
+        Some(wanted) => is_shared_map(alloc, part, &wanted),
+        None => false,
+    }
 }
 
-fn do_maps_share(alloc: Global) -> Result<bool, Fail> {
-    let mut sig = signature(alloc, DECLARED)?;
-    let unfinished = sig.identity().is_none();
-    sig.finish(alloc)?;
-    let shared = shares(alloc, sig.identity().ok_or("no identity")?, KEPT)?;
-    Ok(unfinished && shared)
+fn is_shared_map(alloc: Global, part: &Arc<MapPart>, wanted: &HeadMap) -> bool {
+    let mut shared = HeadMap::new(alloc);
+    let first = shared.share_part(alloc, part) == Ok(true);
+    let again = shared.share_part(alloc, part) == Ok(false);
+    first && again && is_same_map(&shared, wanted) && is_same_copy(shared.copy(alloc), wanted)
+}
+
+fn is_same_copy(copy: Result<HeadMap, Memory>, wanted: &HeadMap) -> bool {
+    match copy {
+        Ok(copy) => is_same_map(&copy, wanted),
+        Err(_) => false,
+    }
+}
+
+fn do_maps_share(alloc: Global) -> bool {
+    match signature(alloc, DECLARED) {
+        Some(mut sig) => {
+            let unfinished = sig.identity().is_none();
+            unfinished && sig.finish(alloc).is_ok() && is_identity_shared(alloc, &sig)
+        }
+        None => false,
+    }
+}
+
+fn is_identity_shared(alloc: Global, sig: &FlatSig) -> bool {
+    match sig.identity() {
+        Some(part) => shares(alloc, part, KEPT),
+        None => false,
+    }
 }
 
 /// Whether a map with a pair of its own takes in no part, and stays as it was.
-fn is_part_left(alloc: Global) -> Result<bool, Fail> {
-    let mut sig = signature(alloc, DECLARED)?;
-    sig.finish(alloc)?;
-    let wanted = map(alloc, MAPPED_FIRST)?;
-    let mut behind = map(alloc, MAPPED_FIRST)?;
-    let shared = behind.share_part(alloc, sig.identity().ok_or("no identity")?)?;
-    Ok(!shared && is_same_map(&behind, &wanted))
+fn is_part_left(alloc: Global) -> bool {
+    match signature(alloc, DECLARED) {
+        Some(mut sig) => sig.finish(alloc).is_ok() && is_identity_left(alloc, &sig),
+        None => false,
+    }
 }
 
-fn is_shared(alloc: Global) -> Result<bool, Fail> {
-    let shared = Arc::new(alloc, Name::new(alloc, "n")?)?;
-    let again = shared.share()?;
-    Ok(again.get().as_str() == "n")
+fn is_identity_left(alloc: Global, sig: &FlatSig) -> bool {
+    match sig.identity() {
+        Some(part) => is_left_behind(alloc, part),
+        None => false,
+    }
+}
+
+fn is_left_behind(alloc: Global, part: &Arc<MapPart>) -> bool {
+    match map(alloc, MAPPED_FIRST) {
+        Some(mut behind) => {
+            behind.share_part(alloc, part) == Ok(false) && is_map_of(alloc, &behind, MAPPED_FIRST)
+        }
+        None => false,
+    }
+}
+
+fn is_map_of(alloc: Global, found: &HeadMap, text: &str) -> bool {
+    match map(alloc, text) {
+        Some(wanted) => is_same_map(found, &wanted),
+        None => false,
+    }
+}
+
+fn shared_name(alloc: Global) -> Option<Arc<Name>> {
+    Arc::new(alloc, Name::new(alloc, "n").ok()?).ok()
+}
+
+fn is_shared(alloc: Global) -> bool {
+    match shared_name(alloc) {
+        Some(shared) => is_n(shared.share()),
+        None => false,
+    }
+}
+
+fn is_n(shared: Result<Arc<Name>, Memory>) -> bool {
+    match shared {
+        Ok(again) => again.get().as_str() == "n",
+        Err(_) => false,
+    }
 }
 
 /// Whether arguments that were added one by one, and put into a vector and back, are there.
-fn do_arguments_grow(alloc: Global) -> Result<bool, Fail> {
-    let c = object(alloc, "", "c")?;
-    let spine = added(alloc)?;
-    Ok(spine.len() == 2 && is_second(&spine, &c))
+fn do_arguments_grow(alloc: Global) -> bool {
+    match Spine::with_capacity(alloc, 2) {
+        Ok(mut spine) => {
+            let all = is_added(alloc, &mut spine) && is_pushed(alloc, &mut spine);
+            let again = Spine::from_vec(spine.into_vec());
+            all && again.len() == 2 && is_second(alloc, &again)
+        }
+        Err(_) => false,
+    }
 }
 
-fn added(alloc: Global) -> Result<Box<Spine>, Fail> {
-    let mut spine = Box::new(alloc, Spine::with_capacity(alloc, 2)?)?;
-    spine.add(Box::into_inner(object(alloc, "", "#0")?))?;
-    spine.push(Box::into_inner(object(alloc, "", "c")?))?;
-    let items = Box::into_inner(spine).into_vec();
-    Ok(Box::new(alloc, Spine::from_vec(items))?)
+fn is_added(alloc: Global, spine: &mut Spine) -> bool {
+    match object(alloc, "", "#0") {
+        Some(object) => spine.add(Box::into_inner(object)).is_ok(),
+        None => false,
+    }
 }
 
-fn is_second(spine: &Spine, other: &Obj) -> bool {
-    spine.get(1).is_some_and(|second| same_obj(second, other))
+fn is_pushed(alloc: Global, spine: &mut Spine) -> bool {
+    match object(alloc, "", "c") {
+        Some(object) => succeeds(spine.push(Box::into_inner(object))),
+        None => false,
+    }
 }
 
-fn do_families_erase(alloc: Global) -> Result<bool, Fail> {
-    let erased = simple(alloc, "(a -> b) -> {x:a} c x")?;
-    let mut written = String::new(alloc);
-    write_simple(&erased, &mut written)?;
-    Ok(written.as_str() == "((a b) (a c))")
+fn is_second(alloc: Global, spine: &Spine) -> bool {
+    match object(alloc, "", "c") {
+        Some(other) => is_object(spine.get(1), &other),
+        None => false,
+    }
 }
 
-/// Writes a base by its name, an arrow in parentheses.
-fn write_simple(simple: &Simple, out: &mut String) -> Result<(), Fail> {
+fn is_object(found: Option<&Obj>, other: &Obj) -> bool {
+    match found {
+        Some(found) => same_obj(found, other),
+        None => false,
+    }
+}
+
+fn do_families_erase(alloc: Global) -> bool {
+    match simple(alloc, "(a -> b) -> {x:a} c x") {
+        Some(erased) => {
+            let mut told = Told::new(alloc);
+            tell_simple(&erased, &mut told);
+            told.as_str() == "((a b) (a c))"
+        }
+        None => false,
+    }
+}
+
+/// Tells a base by its name, an arrow in parentheses.
+fn tell_simple(simple: &Simple, told: &mut Told) {
     match simple {
         Simple::Base(name) => {
             for name in name.path.as_slice() {
-                out.push_str(name.as_str())?;
+                told.say(name.as_str());
             }
         }
         Simple::Arrow(domain, codomain) => {
-            out.push_str("(")?;
-            write_simple(domain, out)?;
-            out.push_str(" ")?;
-            write_simple(codomain, out)?;
-            out.push_str(")")?;
+            told.say("(");
+            tell_simple(domain, told);
+            told.say(" ");
+            tell_simple(codomain, told);
+            told.say(")");
         }
     }
-    Ok(())
 }

@@ -12,14 +12,10 @@ mod names;
 mod reader;
 mod terms;
 mod told;
-mod wanted;
 
 pub use calls::succeeds;
 pub use cases::{Case, read_case};
 pub use told::{Tells, Told, tell_files};
-pub use wanted::{
-    class, constant, context, family, kind, map, object, signature, simple, spine, value,
-};
 
 /// What texts are of, or nothing.
 pub mod found {
