@@ -1,53 +1,71 @@
 //! Tokens, as they are told.
 
-use std::alloc::{AllocError, Global};
+use std::alloc::Global;
+use test_texts::Told;
 use twelf_lexer::{LexFault, TokenKind, TokenList, lex, tokens};
 
 /// The longest text that is cut.
 const LONG: usize = 1_000;
 
 /// The tokens of a text, each as its kind and span, and its end; or the fault.
-pub(crate) fn cut(alloc: Global, text: &[u8]) -> Result<String, AllocError> {
+pub(crate) fn cut(alloc: Global, text: &[u8], told: &mut Told) {
     if text.len() > LONG {
-        return String::from_str(alloc, "a long text");
+        told.say("a long text");
+        return;
     }
     match lex(alloc, text) {
         Ok(cut) => {
-            let mut line = String::new(alloc);
-            push_tokens(&mut line, &cut.tokens)?;
-            write!(line, "end {}", cut.end)?;
-            Ok(line)
+            tell_tokens(told, &cut.tokens);
+            write!(told, "end {}", cut.end);
         }
-        Err(LexFault::NotUtf8 { at }) => format!(in alloc; "not UTF-8 at {at}"),
-        Err(LexFault::OpenComment { at }) => format!(in alloc; "open comment at {at}"),
-        Err(LexFault::Memory) => String::from_str(alloc, "want of memory"),
+        Err(fault) => tell_fault(told, &fault),
+    }
+}
+
+fn tell_fault(told: &mut Told, fault: &LexFault) {
+    match *fault {
+        LexFault::NotUtf8 { at } => write!(told, "not UTF-8 at {at}"),
+        LexFault::OpenComment { at } => write!(told, "open comment at {at}"),
+        LexFault::Memory => told.say("want of memory"),
     }
 }
 
 /// The tokens of a text without a fault.
-pub(crate) fn cut_alone(alloc: Global, text: &[u8]) -> Result<String, AllocError> {
+pub(crate) fn cut_alone(alloc: Global, text: &[u8], told: &mut Told) {
     if text.len() > LONG {
-        return String::from_str(alloc, "a long text");
+        told.say("a long text");
+        return;
     }
-    let mut line = String::new(alloc);
     match tokens(alloc, text) {
-        Ok(list) => push_tokens(&mut line, &list)?,
-        Err(_) => line.push_str("a fault")?,
+        Ok(list) => tell_tokens(told, &list),
+        Err(_) => told.say("a fault"),
     }
-    Ok(line)
 }
 
-fn push_tokens(line: &mut String, tokens: &TokenList) -> Result<(), AllocError> {
+fn tell_tokens(told: &mut Told, tokens: &TokenList) {
     for token in tokens.as_slice() {
-        push_kind(line, &token.kind)?;
-        write!(line, " {}-{} ", token.span.from, token.span.to)?;
+        tell_kind(told, &token.kind);
+        write!(told, " {}-{} ", token.span.from, token.span.to);
     }
-    Ok(())
 }
 
-/// A kind of token. A name is told as in a text of Rust, whose signs can be seen.
-fn push_kind(line: &mut String, kind: &TokenKind) -> Result<(), AllocError> {
-    let word = match kind {
+/// Tells a kind of token.
+fn tell_kind(told: &mut Told, kind: &TokenKind) {
+    match kind {
+        TokenKind::Ident(path) => {
+            told.say("ident");
+            for name in path.as_slice() {
+                // A name is told as in a text of Rust, whose signs can be seen.
+                write!(told, " {:?}", name.as_str());
+            }
+        }
+        other => told.say(word(other)),
+    }
+}
+
+/// The word of a kind of token that has no name.
+fn word(kind: &TokenKind) -> &'static str {
+    match kind {
         TokenKind::Percent => "percent",
         TokenKind::Stray => "stray",
         TokenKind::Assign => ":=",
@@ -64,13 +82,6 @@ fn push_kind(line: &mut String, kind: &TokenKind) -> Result<(), AllocError> {
         TokenKind::BackArrow => "back",
         TokenKind::Equal => "equal",
         TokenKind::Blank => "blank",
-        TokenKind::Ident(path) => {
-            line.push_str("ident")?;
-            for name in path.as_slice() {
-                write!(line, " {:?}", name.as_str())?;
-            }
-            return Ok(());
-        }
-    };
-    line.push_str(word)
+        TokenKind::Ident(_) => "ident",
+    }
 }

@@ -3,8 +3,8 @@ ghost use Rattle.std.specs.Prelude.{◌≤◌};
 
 use edit_log::Edit;
 use script_reader::Gen;
-use std::alloc::{AllocError, Global};
-use std::test::Fail;
+use std::alloc::Global;
+use test_texts::Told;
 
 /// The number that a library starts from, how many modules it has, and how many edits are made behind them.
 #[derive(Clone, Copy)]
@@ -32,33 +32,34 @@ fn number(text: &str) -> u32 {
 }
 
 /// The edits, each as a line with its name, and its text.
-pub(crate) fn edits_of(alloc: Global, from: Start) -> Result<String, Fail> {
+pub(crate) fn edits_of(alloc: Global, from: Start, told: &mut Told) {
     if from.modules < 1 || from.modules > 1_000 || from.edits > 1_000 {
-        return Err("no library".into());
+        told.say("no library");
+    } else {
+        all_edits(alloc, from.start, from.modules, from.edits, told);
     }
-    all_edits(alloc, from.start, from.modules, from.edits)
 }
 
-fn all_edits(alloc: Global, start: u32, modules: u32, edits: u32) -> Result<String, Fail>
+fn all_edits(alloc: Global, start: u32, modules: u32, edits: u32, told: &mut Told)
     requires some { 1 ≤ modules }
     requires few { modules ≤ 1000 }
     requires few_edits { edits ≤ 1000 }
 {
     let mut generator = Gen::new(start, modules);
-    let mut lines = String::new(alloc);
     for _ in 0..modules + edits {
-        let edit = generator.next_edit(alloc)?;
-        written(&mut lines, &edit)?;
+        match generator.next_edit(alloc) {
+            Ok(edit) => tell_edit(told, &edit),
+            Err(_) => told.say("want of memory"),
+        }
     }
-    Ok(lines)
 }
 
-fn written(lines: &mut String, edit: &Edit) -> Result<(), AllocError> {
+fn tell_edit(told: &mut Told, edit: &Edit) {
     match edit {
         Edit::Put { name, text } => {
             let text = str::from_utf8(text.get().as_slice()).unwrap_or("no text");
-            write!(lines, "put {}\n{text}", name.as_str())
+            write!(told, "put {}\n{text}", name.as_str());
         }
-        Edit::Drop { name } => write!(lines, "drop {}\n", name.as_str()),
+        Edit::Drop { name } => write!(told, "drop {}\n", name.as_str()),
     }
 }

@@ -14,9 +14,8 @@ use edits::{Start, edits_of};
 use scripts::commands;
 use shown::{answered, dependencies, divided, judged, placed_at};
 use std::alloc::Global;
-use std::fs;
 use std::test::Fail;
-use test_texts::{Case, read_case};
+use test_texts::{Case, Tells, Told, tell_files};
 use words::asked;
 
 /// The files, in order.
@@ -31,49 +30,39 @@ const FILES: &[&str] = &[
     "words.cases",
 ];
 
-/// What comes of a case.
-fn answer(alloc: Global, case: &Case<'_>) -> Result<String, Fail> {
+/// Tells what comes of a case.
+fn answer(alloc: Global, case: &Case<'_>, told: &mut Told) {
     let text = case.input.as_slice();
     match case.head {
-        "tokens" => Ok(cut(alloc, text)?),
-        "tokens alone" => Ok(cut_alone(alloc, text)?),
-        "module" => answered(alloc, text),
-        "judgement" => judged(alloc, text),
-        "dependencies" => dependencies(alloc, text),
-        "file" => divided(alloc, text),
-        "place" => placed_at(alloc, text, case.behind("at")),
-        "script" => commands(alloc, text, case.behind("calls"), case.behind("read")),
-        "edits" => edits_of(alloc, Start::read(case.behind("from"))),
-        words => Ok(asked(alloc, words)?),
+        "tokens" => cut(alloc, text, told),
+        "tokens alone" => cut_alone(alloc, text, told),
+        "module" => answered(alloc, text, told),
+        "judgement" => judged(alloc, text, told),
+        "dependencies" => dependencies(alloc, text, told),
+        "file" => divided(alloc, text, told),
+        "place" => placed_at(text, case.behind("at"), told),
+        "script" => commands(alloc, case, told),
+        "edits" => edits_of(alloc, Start::read(case.behind("from")), told),
+        words => asked(alloc, words, told),
     }
 }
 
-/// What comes of a case, behind its kind.
-fn told(alloc: Global, written: &str) -> Result<String, Fail> {
-    let case = read_case(alloc, written)?;
-    let answer = answer(alloc, &case)?;
-    let told = if answer.as_bytes() == case.input.as_slice() {
-        "as it is written"
-    } else {
-        answer.as_str()
-    };
-    Ok(format!(in alloc; "=={}\n{told}\n", case.head)?)
-}
+struct Texts;
 
-/// Prints what comes of the cases of a file.
-fn print_all<R: Print>(rt: &R, alloc: Global, text: &str) -> Result<(), Fail> {
-    let text = text.strip_suffix('\n').unwrap_or(text);
-    for written in text.split("\n==").skip(1) {
-        let told = told(alloc, written)?;
-        print!(rt; "{}", told.as_str())?;
+impl Tells for Texts {
+    fn tell(&self, alloc: Global, case: &Case<'_>, told: &mut Told) {
+        let mut answered = Told::new(alloc);
+        answer(alloc, case, &mut answered);
+        write!(told, "=={}\n", case.head);
+        if answered.as_str().as_bytes() == case.input.as_slice() {
+            told.say("as it is written");
+        } else {
+            told.add(&answered);
+        }
+        told.say("\n");
     }
-    Ok(())
 }
 
 fn main(rt: HostRuntime) -> Result<(), Fail> {
-    for &file in FILES {
-        let text = fs::read_to_string(&rt, file)?;
-        print_all(&rt, rt.alloc(), text.as_str())?;
-    }
-    Ok(())
+    tell_files(&rt, rt.alloc(), &Texts, FILES)
 }

@@ -3,21 +3,24 @@
 use lf_terms::{Bytes, Memory};
 use mmt_outside::{Inputs64, MemSource};
 use script_reader::{Command, Script, ScriptFault};
-use std::alloc::{AllocError, Global};
-use std::test::Fail;
+use std::alloc::Global;
+use test_texts::{Case, Told};
 
 /// What so many calls for the next command answer, each in brackets, where the read with this number fails.
-pub(crate) fn commands(
-    alloc: Global,
-    text: &[u8],
-    calls: &str,
-    failing: &str,
-) -> Result<String, Fail> {
-    let fails = failing_read(alloc, failing)?;
-    let mut source = MemSource::new(Bytes::from_vec(text.to_vec(alloc)?), fails);
-    let mut answers = String::new(alloc);
-    push_all(alloc, &mut answers, &mut source, calls)?;
-    Ok(answers)
+pub(crate) fn commands(alloc: Global, case: &Case<'_>, told: &mut Told) {
+    match source_of(alloc, case) {
+        Ok(mut source) => {
+            tell_all(alloc, told, &mut source, case.behind("calls"));
+        }
+        Err(_) => told.say("want of memory"),
+    }
+}
+
+/// The text of a case, as it is read.
+fn source_of(alloc: Global, case: &Case<'_>) -> Result<MemSource, Memory> {
+    let fails = failing_read(alloc, case.behind("read"))?;
+    let text = case.input.to_vec(alloc)?;
+    Ok(MemSource::new(Bytes::from_vec(text), fails))
 }
 
 /// The list that has the read of this number, where one is given.
@@ -29,32 +32,29 @@ fn failing_read(alloc: Global, number: &str) -> Result<Inputs64, Memory> {
     Ok(fails)
 }
 
-fn push_all(
-    alloc: Global,
-    answers: &mut String,
-    source: &mut MemSource,
-    calls: &str,
-) -> Result<(), AllocError> {
+fn tell_all(alloc: Global, told: &mut Told, source: &mut MemSource, calls: &str) {
     let mut script = Script::new();
     for _ in 0..calls.parse::<u32>().unwrap_or(0) {
-        push_next(alloc, answers, &mut script, source)?;
+        told.say("[");
+        tell_next(alloc, told, &mut script, source);
+        told.say("]");
     }
-    Ok(())
 }
 
-fn push_next(
-    alloc: Global,
-    answers: &mut String,
-    script: &mut Script,
-    source: &mut MemSource,
-) -> Result<(), AllocError> {
+fn tell_next(alloc: Global, told: &mut Told, script: &mut Script, source: &mut MemSource) {
     match script.next_command(alloc, source) {
-        Ok(command) => push_command(answers, &command),
-        Err(ScriptFault::Bad { line }) => write!(answers, "[bad {line}]"),
-        Err(ScriptFault::Unended { line }) => write!(answers, "[unended {line}]"),
-        Err(ScriptFault::Failed) => answers.push_str("[failed]"),
-        Err(ScriptFault::Spent) => answers.push_str("[spent]"),
-        Err(ScriptFault::Memory) => answers.push_str("[memory]"),
+        Ok(command) => tell_command(told, &command),
+        Err(fault) => tell_fault(told, &fault),
+    }
+}
+
+fn tell_fault(told: &mut Told, fault: &ScriptFault) {
+    match *fault {
+        ScriptFault::Bad { line } => write!(told, "bad {line}"),
+        ScriptFault::Unended { line } => write!(told, "unended {line}"),
+        ScriptFault::Failed => told.say("failed"),
+        ScriptFault::Spent => told.say("spent"),
+        ScriptFault::Memory => told.say("memory"),
     }
 }
 
@@ -63,20 +63,20 @@ fn text_of(bytes: &Bytes) -> &str {
     str::from_utf8(bytes.as_slice()).unwrap_or("no text")
 }
 
-fn push_command(answers: &mut String, command: &Command) -> Result<(), AllocError> {
+fn tell_command(told: &mut Told, command: &Command) {
     match command {
         Command::Put { name, text } => {
-            write!(answers, "[put {} {:?}]", name.as_str(), text_of(text))
+            write!(told, "put {} {:?}", name.as_str(), text_of(text));
         }
-        Command::Drop(name) => write!(answers, "[drop {}]", name.as_str()),
-        Command::Report(name) => write!(answers, "[report {}]", name.as_str()),
-        Command::Check => answers.push_str("[check]"),
-        Command::Flat(name) => write!(answers, "[flat {}]", name.as_str()),
+        Command::Drop(name) => write!(told, "drop {}", name.as_str()),
+        Command::Report(name) => write!(told, "report {}", name.as_str()),
+        Command::Check => told.say("check"),
+        Command::Flat(name) => write!(told, "flat {}", name.as_str()),
         Command::Carry { view, text } => {
-            write!(answers, "[carry {} {:?}]", view.as_str(), text_of(text))
+            write!(told, "carry {} {:?}", view.as_str(), text_of(text));
         }
-        Command::Log => answers.push_str("[log]"),
-        Command::Blank => answers.push_str("[blank]"),
-        Command::End => answers.push_str("[end]"),
+        Command::Log => told.say("log"),
+        Command::Blank => told.say("blank"),
+        Command::End => told.say("end"),
     }
 }

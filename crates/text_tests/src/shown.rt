@@ -1,9 +1,9 @@
 //! What texts are read as, as it is told.
 
-use lf_terms::Span;
-use mmt_syntax::{Expr, Module, deps, place_of};
-use std::alloc::{AllocError, Global};
-use std::test::Fail;
+use lf_terms::{Bytes, Memory, Span};
+use mmt_syntax::{Expr, Judgement, Module, deps, place_of};
+use std::alloc::Global;
+use test_texts::Told;
 use twelf_print::{print_expr, print_module};
 use twelf_reader::{Pieces, ReadFault, read_judgement, read_module, split};
 
@@ -11,119 +11,111 @@ use twelf_reader::{Pieces, ReadFault, read_judgement, read_module, split};
 const LONG: usize = 100_000;
 
 /// The module of a text as it is printed; or the place and the word of its fault.
-pub(crate) fn answered(alloc: Global, text: &[u8]) -> Result<String, Fail> {
+pub(crate) fn answered(alloc: Global, text: &[u8], told: &mut Told) {
     if text.len() > LONG {
-        return Err("a long text".into());
+        told.say("a long text");
+        return;
     }
     match read_module(alloc, text) {
-        Ok(module) => printed(alloc, &module),
-        Err(fault) => Ok(faulty(alloc, text, fault)?),
+        Ok(module) => tell_print(told, &print_module(alloc, &module)),
+        Err(fault) => tell_fault(told, text, &fault),
     }
 }
 
-fn printed(alloc: Global, module: &Module) -> Result<String, Fail> {
-    let print = print_module(alloc, module)?;
-    in_utf8(alloc, print.as_slice())
-}
-
-fn in_utf8(alloc: Global, bytes: &[u8]) -> Result<String, Fail> {
-    match str::from_utf8(bytes) {
-        Ok(text) => Ok(String::from_str(alloc, text)?),
-        Err(_) => Err("a print that is no text".into()),
+fn tell_print(told: &mut Told, print: &Result<Bytes, Memory>) {
+    match print {
+        Ok(bytes) => told.say(str::from_utf8(bytes.as_slice()).unwrap_or("no text")),
+        Err(_) => told.say("want of memory"),
     }
 }
 
-fn faulty(alloc: Global, text: &[u8], fault: ReadFault) -> Result<String, AllocError> {
-    match fault {
-        ReadFault::Syntax { at } => placed(alloc, text, at, "syntax"),
-        ReadFault::TooDeep { at } => placed(alloc, text, at, "too deep"),
-        ReadFault::Unsupported { at } => placed(alloc, text, at, "unsupported"),
-        ReadFault::Memory => String::from_str(alloc, "want of memory"),
+fn tell_fault(told: &mut Told, text: &[u8], fault: &ReadFault) {
+    match *fault {
+        ReadFault::Syntax { at } => tell_place(told, text, at, "syntax"),
+        ReadFault::TooDeep { at } => tell_place(told, text, at, "too deep"),
+        ReadFault::Unsupported { at } => tell_place(told, text, at, "unsupported"),
+        ReadFault::Memory => told.say("want of memory"),
     }
 }
 
 /// A word, behind the line and the column of a place.
-fn placed(alloc: Global, text: &[u8], at: u32, word: &str) -> Result<String, AllocError> {
+fn tell_place(told: &mut Told, text: &[u8], at: u32, word: &str) {
     if text.len() > LONG || at as usize > text.len() {
-        return String::from_str(alloc, "past the end");
+        told.say("past the end");
+    } else {
+        let place = place_of(text, at);
+        write!(told, "{}:{} {}", place.line, place.column, word);
     }
-    let place = place_of(text, at);
-    format!(in alloc; "{}:{} {}", place.line, place.column, word)
 }
 
 /// The line and the column of a place.
-pub(crate) fn placed_at(alloc: Global, text: &[u8], at: &str) -> Result<String, Fail> {
+pub(crate) fn placed_at(text: &[u8], at: &str, told: &mut Told) {
     match at.parse::<u32>() {
-        Ok(at) => Ok(placed(alloc, text, at, "place")?),
-        Err(_) => Err("no place".into()),
+        Ok(at) => tell_place(told, text, at, "place"),
+        Err(_) => told.say("no place"),
     }
 }
 
 /// The dependencies of the module of a text, each as the place of its path and its name.
-pub(crate) fn dependencies(alloc: Global, text: &[u8]) -> Result<String, Fail> {
+pub(crate) fn dependencies(alloc: Global, text: &[u8], told: &mut Told) {
     if text.len() > LONG {
-        return Err("a long text".into());
+        told.say("a long text");
+        return;
     }
     match read_module(alloc, text) {
-        Ok(module) => Ok(shown_dependencies(alloc, &module)?),
-        Err(_) => Err("a text that does not read".into()),
+        Ok(module) => tell_dependencies(told, &module),
+        Err(_) => told.say("a text that does not read"),
     }
 }
 
-fn shown_dependencies(alloc: Global, module: &Module) -> Result<String, AllocError> {
-    let mut line = String::new(alloc);
+fn tell_dependencies(told: &mut Told, module: &Module) {
     for (span, name) in deps(module) {
-        write!(line, "{} {} ", span.from, name.as_str())?;
+        write!(told, "{} {} ", span.from, name.as_str());
     }
-    Ok(line)
 }
 
 /// The object and the family of the judgement of a text, each as its span and its print; or its fault.
-pub(crate) fn judged(alloc: Global, text: &[u8]) -> Result<String, Fail> {
+pub(crate) fn judged(alloc: Global, text: &[u8], told: &mut Told) {
     if text.len() > LONG {
-        return Err("a long text".into());
+        told.say("a long text");
+        return;
     }
     match read_judgement(alloc, text) {
-        Ok(judgement) => both(alloc, &judgement.obj, &judgement.fam),
-        Err(fault) => Ok(faulty(alloc, text, fault)?),
+        Ok(judgement) => tell_judgement(alloc, told, &judgement),
+        Err(fault) => tell_fault(told, text, &fault),
     }
 }
 
-fn both(alloc: Global, obj: &Expr, fam: &Expr) -> Result<String, Fail> {
-    let mut line = String::new(alloc);
-    push_expr(alloc, &mut line, obj)?;
-    line.push_str(" : ")?;
-    push_expr(alloc, &mut line, fam)?;
-    Ok(line)
+fn tell_judgement(alloc: Global, told: &mut Told, judgement: &Judgement) {
+    tell_expr(alloc, told, &judgement.obj);
+    told.say(" : ");
+    tell_expr(alloc, told, &judgement.fam);
 }
 
-fn push_expr(alloc: Global, line: &mut String, expr: &Expr) -> Result<(), Fail> {
-    let print = print_expr(alloc, expr)?;
-    let text = in_utf8(alloc, print.as_slice())?;
+fn tell_expr(alloc: Global, told: &mut Told, expr: &Expr) {
     let Span { from, to } = expr.span;
-    write!(line, "{from}-{to} {}", text.as_str())?;
-    Ok(())
+    write!(told, "{from}-{to} ");
+    tell_print(told, &print_expr(alloc, expr));
 }
 
 /// The modules of a file, each as its name, the span of that and its own; or the place and the word of the fault.
-pub(crate) fn divided(alloc: Global, text: &[u8]) -> Result<String, Fail> {
+pub(crate) fn divided(alloc: Global, text: &[u8], told: &mut Told) {
     if text.len() > LONG {
-        return Err("a long text".into());
+        told.say("a long text");
+        return;
     }
     match split(alloc, text) {
-        Ok(pieces) => Ok(shown_pieces(alloc, &pieces)?),
-        Err(fault) => Ok(faulty(alloc, text, fault)?),
+        Ok(pieces) => tell_pieces(told, &pieces),
+        Err(fault) => tell_fault(told, text, &fault),
     }
 }
 
-fn shown_pieces(alloc: Global, pieces: &Pieces) -> Result<String, AllocError> {
-    let mut line = String::new(alloc);
+fn tell_pieces(told: &mut Told, pieces: &Pieces) {
     for piece in pieces.as_slice() {
         for name in piece.name.path.as_slice() {
-            line.push_str(name.as_str())?;
+            told.say(name.as_str());
         }
         let Span { from, to } = piece.name.span;
-        write!(line, " {from}-{to} {}-{} ", piece.span.from, piece.span.to)?;
+        write!(told, " {from}-{to} {}-{} ", piece.span.from, piece.span.to);
     }
-    Ok(line)
 }

@@ -2,6 +2,7 @@
 
 use command_words::{Run, Task, run_of, usage_line};
 use std::alloc::{AllocError, Global};
+use test_texts::Told;
 
 /// The words of a line, each behind a bar.
 fn words_of(alloc: Global, line: &str) -> Result<Vec<String>, AllocError> {
@@ -12,26 +13,32 @@ fn words_of(alloc: Global, line: &str) -> Result<Vec<String>, AllocError> {
     Ok(words)
 }
 
-/// The task with its parameters, and the number of workers; or the usage line.
-fn shown(alloc: Global, run: Option<Run<'_>>) -> Result<String, AllocError> {
-    let Some(run) = run else {
-        let line = str::from_utf8(usage_line()).unwrap_or("no text");
-        return String::from_str(alloc, line.trim_end());
-    };
-    let workers = run.workers;
+/// The task with its parameters, and the number of workers.
+fn tell_run(told: &mut Told, run: &Run<'_>) {
     match run.task {
-        Task::Play => format!(in alloc; "play, {workers}"),
-        Task::CheckFolder(folder) => format!(in alloc; "check <{folder}>, {workers}"),
+        Task::Play => told.say("play"),
+        Task::CheckFolder(folder) => write!(told, "check <{folder}>"),
         Task::Generate {
             start,
             modules,
             edits,
-        } => format!(in alloc; "gen {start} {modules} {edits}, {workers}"),
+        } => write!(told, "gen {start} {modules} {edits}"),
+    }
+    write!(told, ", {}", run.workers);
+}
+
+/// What words ask for, or the usage line.
+fn tell_words(told: &mut Told, words: &[String]) {
+    match run_of(words) {
+        Some(run) => tell_run(told, &run),
+        None => told.say(str::from_utf8(usage_line()).unwrap_or("no text").trim_end()),
     }
 }
 
 /// What the words of a line ask for.
-pub(crate) fn asked(alloc: Global, line: &str) -> Result<String, AllocError> {
-    let words = words_of(alloc, line)?;
-    shown(alloc, run_of(&words))
+pub(crate) fn asked(alloc: Global, line: &str, told: &mut Told) {
+    match words_of(alloc, line) {
+        Ok(words) => tell_words(told, words.as_slice()),
+        Err(_) => told.say("want of memory"),
+    }
 }
