@@ -16,13 +16,15 @@
 mod crowd;
 mod gates;
 mod held;
+mod outcome;
 mod played;
 
-use lf_terms::Memory;
-use mmt_outside::{DiskFolder, OutFault, StdSink, write_all};
+use mmt_outside::{DiskFolder, StdSink, write_all};
+use outcome::Outcome;
 use played::told;
-use std::alloc::Global;
+use std::alloc::{Alloc, Global};
 use std::fs;
+use std::fs::Files;
 use std::process::ExitCode;
 use std::sync::Wait;
 use std::thread::Threads;
@@ -54,43 +56,76 @@ const FILES: &[&str] = &[
     "held.cases",
 ];
 
-/// Plays the cases of a file, and prints what came of each.
+/// Whether a case could be played, and what came of it be printed.
+fn is_played<R: Threads + Wait + Sync>(
+    rt: &R,
+    alloc: Global,
+    disk: &mut DiskFolder,
+    sink: &mut StdSink,
+    written: &str,
+) -> bool {
+    match read_case(alloc, written) {
+        Ok(case) => is_printed(sink, told(rt, alloc, disk, &case)),
+        Err(_) => false,
+    }
+}
+
+fn is_printed(sink: &mut StdSink, outcome: Outcome) -> bool {
+    match outcome.whole() {
+        Some(told) => write_all(sink, told).is_ok(),
+        None => false,
+    }
+}
+
+/// Plays the cases of a text, and prints what came of each. The answer is an exit status.
 fn play_all<R: Threads + Wait + Sync>(
     rt: &R,
     alloc: Global,
     disk: &mut DiskFolder,
     sink: &mut StdSink,
     text: &str,
-) -> Result<(), OutFault> {
+) -> u8 {
     let text = text.strip_suffix('\n').unwrap_or(text);
     for written in text.split("\n==").skip(1) {
-        let told = told_of(rt, alloc, disk, written)?;
-        write_all(sink, told.as_slice())?;
+        if !is_played(rt, alloc, disk, sink, written) {
+            return FAILED;
+        }
     }
-    Ok(())
+    0
 }
 
-/// What came of a case, behind its words.
-fn told_of<R: Threads + Wait + Sync>(
+/// The same with the cases of a file.
+fn play_file<R: Threads + Wait + Files + Alloc + Sync>(
     rt: &R,
     alloc: Global,
     disk: &mut DiskFolder,
-    written: &str,
-) -> Result<Vec<u8>, Memory> {
-    let case = read_case(alloc, written)?;
-    told(rt, alloc, disk, &case)
+    sink: &mut StdSink,
+    file: &str,
+) -> u8 {
+    match fs::read_to_string(rt, file) {
+        Ok(text) => play_all(rt, alloc, disk, sink, text.as_str()),
+        Err(_) => UNREAD,
+    }
+}
+
+/// The same with all files.
+fn play_files<R: Threads + Wait + Files + Alloc + Sync>(
+    rt: &R,
+    alloc: Global,
+    disk: &mut DiskFolder,
+    sink: &mut StdSink,
+) -> u8 {
+    for &file in FILES {
+        let status = play_file(rt, alloc, disk, sink, file);
+        if status != 0 {
+            return status;
+        }
+    }
+    0
 }
 
 fn main(rt: HostRuntime) -> ExitCode {
     let mut disk = DiskFolder::new(rt);
     let mut sink = StdSink::new(rt);
-    for &file in FILES {
-        let Ok(text) = fs::read_to_string(&rt, file) else {
-            return ExitCode::from(UNREAD);
-        };
-        if play_all(&rt, rt.alloc(), &mut disk, &mut sink, text.as_str()).is_err() {
-            return ExitCode::from(FAILED);
-        }
-    }
-    ExitCode::from(0)
+    ExitCode::from(play_files(&rt, rt.alloc(), &mut disk, &mut sink))
 }

@@ -1,16 +1,26 @@
 //! The runs of a case.
 
 use crate::gates::CaseGate;
+use crate::outcome::Outcome;
 use lf_terms::{Bytes, Memory};
 use mmt_outside::{DiskFolder, Inputs64, MemFiles, MemFolder, MemSink, MemSource};
 use mmt_top::{Status, run};
-use std::alloc::{AllocError, Global};
+use std::alloc::Global;
 use std::sync::Wait;
 use std::thread::Threads;
-use test_texts::Case;
+use test_texts::{Case, succeeds};
 
 /// How many bytes a sink takes, where the case does not say it.
 const ROOM: usize = 1 << 20;
+
+/// A case with the words of a run of it, and its gate.
+#[derive(Clone, Copy)]
+struct Run<'a> {
+    alloc: Global,
+    case: &'a Case<'a>,
+    words: &'a [String],
+    gate: &'a CaseGate<'a>,
+}
 
 /// The words of the case, and what came of its runs.
 pub(crate) fn told<R: Threads + Wait + Sync>(
@@ -18,53 +28,118 @@ pub(crate) fn told<R: Threads + Wait + Sync>(
     alloc: Global,
     disk: &mut DiskFolder,
     case: &Case<'_>,
-) -> Result<Vec<u8>, Memory> {
-    let mut all = b"==".to_vec(alloc)?;
-    all.extend_from_slice(case.head.as_bytes())?;
-    all.push(b'\n')?;
-    let mut before = Vec::new(alloc);
+) -> Outcome {
+    let mut all = Outcome::new(alloc);
+    all.add(b"==");
+    all.add(case.head.as_bytes());
+    all.add(b"\n");
+    let mut before = Outcome::new(alloc);
     for workers in case.behind("workers").split(' ') {
-        let ended = ended(rt, alloc, disk, case, workers)?;
-        if ended.as_slice() != before.as_slice() {
-            all.extend_from_slice(ended.as_slice())?;
-        }
+        let ended = ended(rt, alloc, disk, case, workers);
+        all.add_new(&before, &ended);
         before = ended;
     }
-    Ok(all)
+    all
 }
 
-/// The words of the case, and those for this number of workers, where there is one.
-fn words_of(alloc: Global, case: &Case<'_>, workers: &str) -> Result<Vec<String>, AllocError> {
-    let mut words = Vec::new(alloc);
+/// Whether the words of the case could be added, and those for this number of workers, where there is one.
+fn are_added(alloc: Global, words: &mut Vec<String>, case: &Case<'_>, workers: &str) -> bool {
+    let mut all = true;
     for word in case.head.split('|').skip(1) {
-        words.push(String::from_str(alloc, word)?)?;
+        all = all && is_added(alloc, words, word);
     }
-    if !workers.is_empty() {
-        words.push(String::from_str(alloc, "--workers")?)?;
-        words.push(String::from_str(alloc, workers)?)?;
+    all && (workers.is_empty()
+        || (is_added(alloc, words, "--workers") && is_added(alloc, words, workers)))
+}
+
+fn is_added(alloc: Global, words: &mut Vec<String>, word: &str) -> bool {
+    match String::from_str(alloc, word) {
+        Ok(word) => succeeds(words.push(word)),
+        Err(_) => false,
     }
-    Ok(words)
 }
 
 /// The list that has the call of this number and no other, where a number is given.
 fn failing(alloc: Global, number: &str) -> Result<Inputs64, Memory> {
     let mut fails = Inputs64::new(alloc);
-    if let Ok(call) = number.parse::<u64>() {
-        fails.add(call)?;
+    if is_noted(&mut fails, number) {
+        Ok(fails)
+    } else {
+        drop(fails);
+        Err(Memory)
     }
-    Ok(fails)
 }
 
-/// The files of the case, each with the name `FOLDER/NAME`, or `NAME` in the folder `lib`.
-fn files_of(alloc: Global, case: &Case<'_>) -> Result<MemFiles, Memory> {
-    let mut files = MemFiles::new(alloc);
-    for &(path, ref text) in case.files.as_slice() {
-        let (folder, name) = path.split_once('/').unwrap_or(("lib", path));
-        let folder = String::from_str(alloc, folder)?;
-        let name = String::from_str(alloc, name)?;
-        files.add((folder, name, Bytes::from_vec(text.to_vec(alloc)?)))?;
+fn is_noted(fails: &mut Inputs64, number: &str) -> bool {
+    match number.parse::<u64>() {
+        Ok(call) => fails.add(call).is_ok(),
+        Err(_) => true,
     }
-    Ok(files)
+}
+
+/// Whether the files of the case could be added, each with the name `FOLDER/NAME`, or `NAME` in the folder `lib`.
+fn are_files(alloc: Global, files: &mut MemFiles, case: &Case<'_>) -> bool {
+    let mut all = true;
+    for &(path, ref text) in case.files.as_slice() {
+        all = all && is_file(alloc, files, path, text.as_slice());
+    }
+    all
+}
+
+fn is_file(alloc: Global, files: &mut MemFiles, path: &str, text: &[u8]) -> bool {
+    let (folder, name) = path.split_once('/').unwrap_or(("lib", path));
+    match file_of(alloc, folder, name, text) {
+        Ok(file) => files.add(file).is_ok(),
+        Err(_) => false,
+    }
+}
+
+fn file_of(
+    alloc: Global,
+    folder: &str,
+    name: &str,
+    text: &[u8],
+) -> Result<(String, String, Bytes), Memory> {
+    let folder = String::from_str(alloc, folder)?;
+    let Ok(name) = String::from_str(alloc, name) else {
+        drop(folder);
+        return Err(Memory);
+    };
+    match text.to_vec(alloc) {
+        Ok(text) => Ok((folder, name, Bytes::from_vec(text))),
+        Err(_) => {
+            drop(name);
+            drop(folder);
+            Err(Memory)
+        }
+    }
+}
+
+fn sink_of(alloc: Global, case: &Case<'_>) -> Result<MemSink, Memory> {
+    MemSink::new(alloc, room(case), failing(alloc, case.behind("write"))?)
+}
+
+fn source_of(alloc: Global, case: &Case<'_>) -> Result<MemSource, Memory> {
+    let fails = failing(alloc, case.behind("read"))?;
+    match case.input.to_vec(alloc) {
+        Ok(input) => Ok(MemSource::new(Bytes::from_vec(input), fails)),
+        Err(_) => {
+            drop(fails);
+            Err(Memory)
+        }
+    }
+}
+
+fn folder_of(alloc: Global, case: &Case<'_>) -> Result<MemFolder, Memory> {
+    let fails = failing(alloc, case.behind("call"))?;
+    let mut files = MemFiles::new(alloc);
+    if are_files(alloc, &mut files, case) {
+        Ok(MemFolder::new(files, fails))
+    } else {
+        drop(files);
+        drop(fails);
+        Err(Memory)
+    }
 }
 
 /// What a run wrote, the number of its status, and whether the gate has held whom it should.
@@ -74,24 +149,56 @@ fn ended<R: Threads + Wait + Sync>(
     disk: &mut DiskFolder,
     case: &Case<'_>,
     workers: &str,
-) -> Result<Vec<u8>, Memory> {
-    let words = words_of(alloc, case, workers)?;
-    let mut sink = MemSink::new(alloc, room(case), failing(alloc, case.behind("write"))?)?;
-    let gate = CaseGate::of(case, workers);
-    let status = status_of(rt, alloc, disk, case, &words, &mut sink, &gate)?;
-    let has_held = gate.has_held();
-    drop(gate);
+) -> Outcome {
+    let mut ended = Outcome::new(alloc);
+    let mut words = Vec::new(alloc);
+    if are_added(alloc, &mut words, case, workers) {
+        let gate = CaseGate::of(case, workers);
+        let run = Run {
+            alloc,
+            case,
+            words: words.as_slice(),
+            gate: &gate,
+        };
+        play(rt, disk, run, &mut ended);
+        drop(gate);
+    } else {
+        ended.fail();
+    }
     drop(words);
-    let end = end_line(alloc, status, has_held)?;
-    let told = last_lines(sink.bytes(), case.behind("last"));
-    let mut all = written(alloc, case.behind("whole"), told)?;
-    all.extend_from_slice(end.as_bytes())?;
-    Ok(all)
+    ended
 }
 
-fn end_line(alloc: Global, status: Status, has_held: bool) -> Result<String, AllocError> {
+fn play<R: Threads + Wait + Sync>(
+    rt: &R,
+    disk: &mut DiskFolder,
+    run: Run<'_>,
+    ended: &mut Outcome,
+) {
+    match sink_of(run.alloc, run.case) {
+        Ok(mut sink) => {
+            let status = status_of(rt, disk, run, &mut sink);
+            add_written(ended, run.case, sink.bytes());
+            add_end(ended, run.alloc, status, run.gate.has_held());
+        }
+        Err(_) => ended.fail(),
+    }
+}
+
+/// Adds the last line.
+fn add_end(ended: &mut Outcome, alloc: Global, status: Result<Status, Memory>, has_held: bool) {
+    match status {
+        Ok(status) => add_status(ended, alloc, status, has_held),
+        Err(_) => ended.fail(),
+    }
+}
+
+fn add_status(ended: &mut Outcome, alloc: Global, status: Status, has_held: bool) {
     let both = if has_held { " side by side" } else { "" };
-    format!(in alloc; "-- {}{both}\n", status.number())
+    match format!(in alloc; "-- {}{both}\n", status.number()) {
+        Ok(line) => ended.add(line.as_bytes()),
+        Err(_) => ended.fail(),
+    }
 }
 
 /// How many bytes the sink of a case takes.
@@ -115,12 +222,13 @@ fn last_lines<'a>(output: &'a [u8], lines: &str) -> &'a [u8] {
     output
 }
 
-/// What a run wrote, or that it begins the whole output, where that is given.
-fn written(alloc: Global, whole: &str, output: &[u8]) -> Result<Vec<u8>, AllocError> {
-    if begins(output, whole.as_bytes()) {
-        b"a first part\n".to_vec(alloc)
+/// Adds what a run wrote, or that it begins the whole output, where that is given.
+fn add_written(ended: &mut Outcome, case: &Case<'_>, output: &[u8]) {
+    let told = last_lines(output, case.behind("last"));
+    if begins(told, case.behind("whole").as_bytes()) {
+        ended.add(b"a first part\n");
     } else {
-        output.to_vec(alloc)
+        ended.add(told);
     }
 }
 
@@ -133,19 +241,48 @@ fn begins(output: &[u8], whole: &[u8]) -> bool {
 
 fn status_of<R: Threads + Wait + Sync>(
     rt: &R,
-    alloc: Global,
     disk: &mut DiskFolder,
-    case: &Case<'_>,
-    words: &[String],
+    run: Run<'_>,
     sink: &mut MemSink,
-    gate: &CaseGate<'_>,
 ) -> Result<Status, Memory> {
-    let input = Bytes::from_vec(case.input.to_vec(alloc)?);
-    let mut source = MemSource::new(input, failing(alloc, case.behind("read"))?);
-    if case.asks("disk") {
-        return Ok(run(rt, alloc, words, &mut source, sink, disk, gate));
+    match source_of(run.alloc, run.case) {
+        Ok(mut source) => {
+            if run.case.asks("disk") {
+                Ok(on_disk(rt, disk, run, &mut source, sink))
+            } else {
+                in_memory(rt, run, &mut source, sink)
+            }
+        }
+        Err(_) => Err(Memory),
     }
-    let files = files_of(alloc, case)?;
-    let mut folder = MemFolder::new(files, failing(alloc, case.behind("call"))?);
-    Ok(run(rt, alloc, words, &mut source, sink, &mut folder, gate))
+}
+
+fn on_disk<R: Threads + Wait + Sync>(
+    rt: &R,
+    disk: &mut DiskFolder,
+    given: Run<'_>,
+    source: &mut MemSource,
+    sink: &mut MemSink,
+) -> Status {
+    run(rt, given.alloc, given.words, source, sink, disk, given.gate)
+}
+
+fn in_memory<R: Threads + Wait + Sync>(
+    rt: &R,
+    given: Run<'_>,
+    source: &mut MemSource,
+    sink: &mut MemSink,
+) -> Result<Status, Memory> {
+    match folder_of(given.alloc, given.case) {
+        Ok(mut folder) => Ok(run(
+            rt,
+            given.alloc,
+            given.words,
+            source,
+            sink,
+            &mut folder,
+            given.gate,
+        )),
+        Err(_) => Err(Memory),
+    }
 }
