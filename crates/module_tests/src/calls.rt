@@ -25,10 +25,15 @@ pub enum Heard {
 }
 
 fn put_of(alloc: Global, name: &str, text: &str) -> Option<Edit> {
-    let name = Name::new(alloc, name).ok()?;
     let bytes = Bytes::from_vec(text.as_bytes().to_vec(alloc).ok()?);
     let text = Arc::new(alloc, bytes).ok()?;
-    Some(Edit::Put { name, text })
+    match Name::new(alloc, name) {
+        Ok(name) => Some(Edit::Put { name, text }),
+        Err(_) => {
+            drop(text);
+            None
+        }
+    }
 }
 
 /// Makes an edit; whether it is made.
@@ -122,16 +127,20 @@ fn told_of<S: Subject>(board: &Board<S>, name: &Name) -> Heard {
 }
 
 /// Whether a verdict was installed.
-pub fn is_installed(reply: &Option<Installed>) -> bool {
-    matches!(reply, Some(Installed::Installed))
+pub fn is_installed(reply: Option<Installed>) -> bool {
+    let holds = matches!(&reply, Some(Installed::Installed));
+    drop(reply);
+    holds
 }
 
 /// Whether an input of this name was found to have this newer stamp.
-pub fn is_stale(reply: &Option<Installed>, input: &str, stamp: u32) -> bool {
-    match reply {
+pub fn is_stale(reply: Option<Installed>, input: &str, stamp: u32) -> bool {
+    let holds = match &reply {
         Some(Installed::Stale { name, newer }) => name.as_str() == input && *newer == stamp,
         _ => false,
-    }
+    };
+    drop(reply);
+    holds
 }
 
 /// Whether a job is of this module, and these are its inputs, each with its stamp.

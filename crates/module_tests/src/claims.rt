@@ -22,8 +22,10 @@ pub fn claimed_twice<S: Subject>(alloc: Global, subject: &S, board: &mut Board<S
         Some(second) => {
             let used = is_of(&first, "A", &[("A", 1)]) && is_of(&second, "A", &[("A", 2)]);
             let stale = bring(alloc, subject, board, 1, first);
+            let first_is_stale = is_stale(stale, "A", 2);
             let fresh = bring(alloc, subject, board, 2, second);
-            put_first && edited && used && is_stale(&stale, "A", 2) && is_installed(&fresh)
+            let second_is_fresh = is_installed(fresh);
+            put_first && edited && used && first_is_stale && second_is_fresh
         }
         None => {
             release(board, 1, first);
@@ -62,7 +64,8 @@ fn is_claimed_at<S: Subject>(alloc: Global, subject: &S, board: &mut Board<S>, p
     };
     let there = job.claim() == place;
     let reply = bring(alloc, subject, board, 2, job);
-    there && is_installed(&reply)
+    let installed = is_installed(reply);
+    there && installed
 }
 
 /// The board is closed while a claim is open: its verdict is installed all the same, and nothing more is claimed.
@@ -78,7 +81,8 @@ pub fn closed_before_the_install<S: Subject>(
     };
     close(board);
     let reply = bring(alloc, subject, board, 1, job);
+    let installed = is_installed(reply);
     let told_of = told(alloc, board, "A") == Heard::Verdict
         && told(alloc, board, "B") == Heard::Pending;
-    put_first && put_second && is_installed(&reply) && told_of && is_exhausted(alloc, board)
+    put_first && put_second && installed && told_of && is_exhausted(alloc, board)
 }

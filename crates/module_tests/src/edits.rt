@@ -20,7 +20,8 @@ pub fn stale_by_one_edit<S: Subject>(alloc: Global, subject: &S, board: &mut Boa
     let used = is_of(&job, "Nat", &[("Nat", 1)]);
     let edited = put(alloc, board, "Nat", MISSPELLED);
     let reply = bring(alloc, subject, board, 0, job);
-    first && used && edited && is_stale(&reply, "Nat", 2)
+    let stale = is_stale(reply, "Nat", 2);
+    first && used && edited && stale
 }
 
 /// The same with a second edit, which puts the first text back: the stamp is newer all the same.
@@ -32,7 +33,8 @@ fn stale_by_two_edits<S: Subject>(alloc: Global, subject: &S, board: &mut Board<
     let edited = put(alloc, board, "Nat", MISSPELLED);
     let back = put(alloc, board, "Nat", NAT);
     let reply = bring(alloc, subject, board, 0, job);
-    first && edited && back && is_stale(&reply, "Nat", 3)
+    let stale = is_stale(reply, "Nat", 3);
+    first && edited && back && stale
 }
 
 /// The module is claimed with this stamp of its own, and its verdict is installed.
@@ -43,7 +45,8 @@ fn judged_at<S: Subject>(alloc: Global, subject: &S, board: &mut Board<S>, stamp
     };
     let used = is_of(&job, "Nat", &[("Nat", stamp)]);
     let reply = bring(alloc, subject, board, 0, job);
-    pending && used && is_installed(&reply) && told(alloc, board, "Nat") == Heard::Verdict
+    let installed = is_installed(reply);
+    pending && used && installed && told(alloc, board, "Nat") == Heard::Verdict
 }
 
 /// After two edits the install is stale; the module is judged at the newer stamp, and then nothing is ready.
@@ -73,7 +76,8 @@ pub fn an_absent_name_is_put<S: Subject>(alloc: Global, subject: &S, board: &mut
     let used = is_of(&job, "User", &[("Nat", 0), ("User", 1)]);
     let edited = put(alloc, board, "Nat", NAT);
     let reply = bring(alloc, subject, board, 1, job);
-    first && used && edited && is_stale(&reply, "Nat", 2)
+    let stale = is_stale(reply, "Nat", 2);
+    first && used && edited && stale
 }
 
 /// An edit of a module that the claimed one does not reach.
@@ -84,7 +88,8 @@ pub fn another_is_edited<S: Subject>(alloc: Global, subject: &S, board: &mut Boa
     };
     let edited = put(alloc, board, "User", USER);
     let reply = bring(alloc, subject, board, 1, job);
-    first && edited && is_installed(&reply)
+    let installed = is_installed(reply);
+    first && edited && installed
 }
 
 /// Two modules that include each other are told of at once, and nothing is ready; once one of them lets the other go, both are
