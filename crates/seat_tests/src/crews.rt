@@ -14,8 +14,34 @@ use std::alloc::Global;
 use std::sync::Wait;
 use std::thread::{Threads, join_mut};
 use verdict_board::Board;
-use worker_crew::{dismiss, hire, work_all};
+use worker_crew::{Crew, dismiss, hire, work_all};
 use worker_loop::Hall;
+
+/// The front leads and the crew works, each in a thread of its own. The answer is whether all verdicts were told.
+fn beside<R: Threads + Wait + Sync>(
+    hall: &Hall<'_, R, Sizes, OpenGate>,
+    first: &mut Seat,
+    crew: &mut Crew<Sizes>,
+    names: &[Name],
+) -> bool
+    requires first { IsIdleOf hall.now.board.now first.old × (first.old.number ≡ 0) }
+    requires workers { AreWorkers sizes.dependencies hall.now.board.now crew.old }
+    ensures first { Keeps first.old first.new × IsLegal sizes.dependencies first.new.seen }
+    ensures workers { AreWorkers sizes.dependencies hall.now.board.now crew.new × (length crew.new ≡ length crew.old) }
+{
+    let ((), told) = join_mut(
+        hall.rt,
+        &mut ||
+            requires { AreWorkers sizes.dependencies hall.now.board.now crew.now }
+            ensures { AreWorkers sizes.dependencies hall.entry.now.board.now crew.exit.now × (length crew.exit.now ≡ length crew.entry.now) }
+        { work_all(hall, crew) },
+        &mut || -> bool
+            requires { IsIdleOf hall.now.board.now first.now × (first.now.number ≡ 0) }
+            ensures { Keeps first.entry.now first.exit.now × IsLegal sizes.dependencies first.exit.now.seen }
+        { lead(hall.rt, hall.alloc, hall.board, first, names) },
+    );
+    told
+}
 
 /// A front and so many workers, in threads of their own. Where no thread can be made the last of the two comes first, so the front is
 /// that one. The answer is the board, and whether all verdicts were told and all work was done.
@@ -36,26 +62,15 @@ pub fn by_crew<R: Threads + Wait + Sync>(
         drop(board);
         return Err(Memory);
     };
-    let shared = &board;
     let hall = Hall {
         rt,
         alloc,
-        board: shared,
+        board: &board,
         subject: &Sizes,
         gate: &OpenGate,
     };
-    let ((), told) = join_mut(
-        rt,
-        &mut ||
-            requires { AreWorkers sizes.dependencies hall.board.now crew }
-            ensures { AreWorkers sizes.dependencies hall.entry.board.now crew.exit × (length crew.exit ≡ length crew.entry) }
-        { work_all(&hall, &mut crew) },
-        &mut || -> bool
-            requires { IsIdleOf shared.now first × (first.number ≡ 0) }
-            ensures { Keeps first.entry first.exit × IsLegal sizes.dependencies first.exit.seen }
-        { lead(rt, alloc, shared, &mut first, names) },
-    );
+    let told = beside(&hall, &mut first, &mut crew, names);
     let done = crew.workers().iter().all(|worker| worker.outcome().is_ok());
-    dismiss(shared, &mut first, crew);
+    dismiss(&board, &mut first, crew);
     Ok((board.end(first), told && done))
 }
