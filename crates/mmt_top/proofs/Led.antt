@@ -1,5 +1,5 @@
 -- A session as its front leaves it, and what becomes of it then.
-use Rattle.std.proofs.Common.{◌≡◌, ℕ, true, List, [], refl, sym, ap, ◌∙◌, subst, arith}
+use Rattle.std.proofs.Common.{◌≡◌, ℕ, true, List, [], refl, sym, ap, ◌∙◌, subst}
 use Rattle.std.specs.Prelude.{Option, Some, None, IfSome, IsNone, IsSome}
 use Rattle.mmt_outside.specs.Bytes.{ReadPrefix, Taken}
 use Rattle.mmt_outside.proofs.Bytes.{ReadPrefix-none, TookPrefix-none}
@@ -20,8 +20,8 @@ use Rattle.board_front.proofs.Histories.{stays_call}
 use Rattle.run_status.specs.Taking.{TookOn}
 use Rattle.run_status.specs.declared.status.Status.{Status}
 use Rattle.run_status.specs.declared.status.Status.TheVariants.{Memory}
-use Rattle.run_status.proofs.Taking.{TookOn-none}
 use Rattle.mmt_top.specs.Session.{BacksWritten, EditsAre, EndsAs, IsLed}
+use Rattle.mmt_top.proofs.Outside.{sink_untouched, source_untouched}
 use Rattle.mmt_top.proofs.Sessions.{ended_backs, ended_edits, ended_later, ended_output, none_played}
 
 -- Nothing was played.
@@ -35,12 +35,8 @@ none_led left reads before writes last stays closed = record {
   read_all = λ e. absurd (cc);
   part_read = ReadPrefix-none left;
   answers = tt;
-  flush = tt;
-  read = λ e. absurd (cc);
-  write = λ e. absurd (cc);
-  source_later = omega arith;
-  sink_later = omega arith;
-  took = TookOn-none before;
+  source = source_untouched reads;
+  sink = sink_untouched before writes;
 }
 
 -- A board without an entry that is closed.
@@ -75,12 +71,8 @@ was_led status left rest reads reads_after before now writes writes_after histor
       read_all = front.read_all;
       part_read = front.part_read;
       answers = front.answers;
-      flush = front.flush;
-      read = front.read;
-      write = front.write;
-      source_later = front.source_later;
-      sink_later = front.sink_later;
-      took = front.took;
+      source = front.source;
+      sink = front.sink;
     }
 
 -- Nothing is said of a board that is not there.
@@ -124,7 +116,7 @@ module _ (status : Status) (left rest : Option (List ℕ)) (reads reads_after : 
   says_left = at_end.2.part_read
 
   pub says_took : TookOn before now
-  says_took = at_end.2.took
+  says_took = at_end.2.sink.took
 
   pub says_legal : IfSome board (λ last. IsLegal dependencies last)
   says_legal = subst (λ o. IfSome o (λ last. IsLegal dependencies last)) (sym at_end.1) at_end.2.legal

@@ -1,3 +1,4 @@
+pub mod Outside
 pub mod Taking
 pub mod Commands
 pub mod Spoken

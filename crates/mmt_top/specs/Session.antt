@@ -1,7 +1,6 @@
 -- What a session does, turn by turn (this profile).
-use Rattle.std.specs.Prelude.{◌≡◌, ◌<◌, ◌≤◌, ◌-◌, ℕ, Bool, true, false, List, [], ◌∷◌, ◌++◌, length, map, IfSome, IsSome, Option, Some, None}
+use Rattle.std.specs.Prelude.{◌≡◌, ◌<◌, ◌-◌, ℕ, Bool, true, false, List, [], ◌∷◌, ◌++◌, length, map, IfSome, IsSome, Option, Some, None}
 use Rattle.mmt_outside.specs.Bytes.{Taken, appended, flushed, ReadPrefix, TookPrefix}
-use Rattle.mmt_outside.specs.Faults.{Rose}
 use Rattle.printing_meaning.specs.Lines.{lines_of}
 use Rattle.printing_meaning.specs.Printed.{bad_line, unended_line}
 use Rattle.log_meaning.specs.Log.{Log}
@@ -21,9 +20,9 @@ use Rattle.board_front.specs.Staying.{GoesOn}
 use Rattle.script_reader.specs.Reading.{Reading}
 use Rattle.script_reader.specs.declared.fault.ScriptFault.{ScriptFault as Fault}
 use Rattle.script_reader.specs.declared.fault.ScriptFault.TheVariants.{Bad, Unended, Failed, Spent, Memory as OutOfMemory}
-use Rattle.run_status.specs.Flushed.{FlushesAt}
-use Rattle.run_status.specs.Taking.{TookOn, bytes_of}
+use Rattle.run_status.specs.Taking.{bytes_of}
 use Rattle.folder_front.specs.Checked.{Begins}
+use Rattle.mmt_top.specs.Outside.{LeavesSink, LeavesSource}
 use Rattle.mmt_top.specs.Plays.{Plays, PlaysAll}
 use Rattle.run_status.specs.declared.status.Status.{Status}
 use Rattle.run_status.specs.declared.status.Status.TheVariants.{Done, Refused, Usage, ReadFault, WriteFault, Memory, ScriptFault}
@@ -129,9 +128,5 @@ pub record IsLed (status : Status) (left rest : Option (List ℕ)) (reads reads_
   pub read_all : status ≡ Done → IfSome left (λ bytes. rest ≡ Some [])
   pub part_read : ReadPrefix left rest
   pub answers : IsSessionStatus status
-  pub flush : FlushesAt status now
-  pub read : status ≡ ReadFault → Rose reads reads_after
-  pub write : status ≡ WriteFault → Rose writes writes_after
-  pub source_later : reads ≤ reads_after
-  pub sink_later : writes ≤ writes_after
-  pub took : TookOn before now
+  pub source : LeavesSource (Some status) reads reads_after
+  pub sink : LeavesSink (Some status) before now writes writes_after

@@ -13,8 +13,8 @@ ghost use Rattle.mmt_top.specs.FolderChecks.{PrintsFolder, LeavesFolder};
 ghost use Rattle.mmt_top.specs.Typing.{TellsTyped};
 
 use crate::ended::{Ended, unbegun};
-use board_front::Mmt;
-use board_seats::{BoardPass, SharedBoard};
+use board_front::{Hall, Mmt};
+use board_seats::BoardPass;
 use folder_front::lead_check;
 use mmt_outside::{Folder, Gate, Sink};
 use run_status::Status;
@@ -22,7 +22,7 @@ use std::alloc::Global;
 use std::sync::Wait;
 use std::thread::Threads;
 use verdict_board::Board;
-use worker_crew::{Front, lead};
+use worker_crew::{Front, Setting, lead};
 
 /// Checks the folder of this path, and writes what is printed to a sink.
 #[derive(Drop)]
@@ -38,28 +38,23 @@ impl<F: Folder, K: Sink> Front<Mmt, F, K> for FolderFront<'_> {
 
     fn lead<R: Wait, G: Gate>(
         &self,
-        rt: &R,
-        alloc: Global,
-        gate: &G,
-        board: &SharedBoard<Mmt>,
+        hall: &Hall<'_, R, Mmt, G>,
         pass: &mut BoardPass<Mmt>,
         folder: &mut F,
         sink: &mut K,
     ) -> Status {
-        lead_check(rt, alloc, gate, board, pass, self.path, folder, sink)
+        lead_check(hall, pass, self.path, folder, sink)
     }
 }
 
 /// Checks the folder on a board that has no entries.
 fn check_on<R: Threads + Wait + Sync, K: Sink + Send, F: Folder + Send, G: Gate + Sync>(
-    rt: &R,
-    alloc: Global,
+    setting: &Setting<'_, R, Mmt, G>,
     board: Board<Mmt>,
     workers: u32,
     path: &str,
     sink: &mut K,
     folder: &mut F,
-    gate: &G,
 ) -> Ended
     requires empty { board ≡ [] }
     requires workers { workers ≤ 16 }
@@ -68,7 +63,7 @@ fn check_on<R: Threads + Wait + Sync, K: Sink + Send, F: Folder + Send, G: Gate 
     ensures some { IsSome result.board }
 {
     let front = FolderFront { path };
-    let led = lead(rt, alloc, &Mmt, gate, board, workers, &front, folder, sink);
+    let led = lead(setting, board, workers, &front, folder, sink);
     match led.end {
         Some(status) => Ended {
             status,
@@ -131,5 +126,11 @@ pub fn check_folder<R: Threads + Wait + Sync, K: Sink + Send, F: Folder + Send, 
             board: None,
         };
     };
-    check_on(rt, alloc, board, workers, path, sink, folder, gate)
+    let setting = Setting {
+        rt,
+        alloc,
+        subject: &Mmt,
+        gate,
+    };
+    check_on(&setting, board, workers, path, sink, folder)
 }

@@ -14,8 +14,8 @@ ghost use Rattle.generator_front.specs.Generated.{IsGenerated};
 ghost use Rattle.mmt_top.specs.GeneratorRuns.{BacksGenerated, EndsAs, EndsGenerated, IsGeneratorStatus, MakesEdits, generator_lines};
 
 use crate::ended::{Ended, unbegun};
-use board_front::Mmt;
-use board_seats::{BoardPass, SharedBoard};
+use board_front::{Hall, Mmt};
+use board_seats::BoardPass;
 use generator_front::{Counts, lead_generator};
 use lf_terms::{Bytes, Memory};
 use mmt_outside::{Gate, Sink};
@@ -25,7 +25,7 @@ use std::alloc::Global;
 use std::sync::Wait;
 use std::thread::Threads;
 use verdict_board::Board;
-use worker_crew::{Front, lead};
+use worker_crew::{Front, Setting, lead};
 
 /// Plays the generator from a number, with so many modules and later edits.
 #[derive(Drop)]
@@ -43,24 +43,12 @@ impl Front<Mmt, (), ()> for GeneratorFront {
 
     fn lead<R: Wait, G: Gate>(
         &self,
-        rt: &R,
-        alloc: Global,
-        gate: &G,
-        board: &SharedBoard<Mmt>,
+        hall: &Hall<'_, R, Mmt, G>,
         pass: &mut BoardPass<Mmt>,
         input: &mut (),
         output: &mut (),
     ) -> Result<Counts, Memory> {
-        lead_generator(
-            rt,
-            alloc,
-            gate,
-            board,
-            pass,
-            self.start,
-            self.modules,
-            self.edits,
-        )
+        lead_generator(hall, pass, self.start, self.modules, self.edits)
     }
 }
 
@@ -157,13 +145,11 @@ fn finish<K: Sink>(
 
 /// Plays the generator on a board that has no entries, and writes what is printed.
 fn generate_on<R: Threads + Wait + Sync, K: Sink + Send, G: Gate + Sync>(
-    rt: &R,
-    alloc: Global,
+    setting: &Setting<'_, R, Mmt, G>,
     board: Board<Mmt>,
     workers: u32,
     front: &GeneratorFront,
     sink: &mut K,
-    gate: &G,
 ) -> Ended
     requires empty { board ≡ [] }
     requires workers { workers ≤ 16 }
@@ -174,19 +160,9 @@ fn generate_on<R: Threads + Wait + Sync, K: Sink + Send, G: Gate + Sync>(
     ensures write { result.status ≡ Status.WriteFault → Rose (K.faults sink.old) (K.faults sink.new) }
     ensures sink_later { K.faults sink.old ≤ K.faults sink.new }
 {
-    let led = lead(
-        rt,
-        alloc,
-        &Mmt,
-        gate,
-        board,
-        workers,
-        front,
-        &mut (),
-        &mut (),
-    );
+    let led = lead(setting, board, workers, front, &mut (), &mut ());
     match led.end {
-        Some(counted) => finish(alloc, workers, front, counted, led.board, sink),
+        Some(counted) => finish(setting.alloc, workers, front, counted, led.board, sink),
         None => unbegun(led.board),
     }
 }
@@ -245,5 +221,11 @@ pub fn generate<R: Threads + Wait + Sync, K: Sink + Send, G: Gate + Sync>(
             board: None,
         };
     };
-    generate_on(rt, alloc, board, workers, &front, sink, gate)
+    let setting = Setting {
+        rt,
+        alloc,
+        subject: &Mmt,
+        gate,
+    };
+    generate_on(&setting, board, workers, &front, sink)
 }

@@ -2,11 +2,10 @@
 ghost use Rattle.mmt_top.specs.Session.{IsLed};
 
 use crate::front::lead;
-use board_front::Mmt;
-use board_seats::{BoardPass, SharedBoard};
+use board_front::{Hall, Mmt};
+use board_seats::BoardPass;
 use mmt_outside::{Gate, Sink, Source};
 use run_status::Status;
-use std::alloc::Global;
 use std::sync::Wait;
 use worker_crew::Front;
 
@@ -23,14 +22,11 @@ impl<S: Source, K: Sink> Front<Mmt, S, K> for ScriptFront {
 
     fn lead<R: Wait, G: Gate>(
         &self,
-        rt: &R,
-        alloc: Global,
-        gate: &G,
-        board: &SharedBoard<Mmt>,
+        hall: &Hall<'_, R, Mmt, G>,
         pass: &mut BoardPass<Mmt>,
         source: &mut S,
         sink: &mut K,
     ) -> Status {
-        lead(rt, alloc, gate, board, pass, source, sink)
+        lead(hall, pass, source, sink)
     }
 }

@@ -26,17 +26,15 @@ use std::alloc::Global;
 use std::sync::Wait;
 use std::thread::Threads;
 use verdict_board::Board;
-use worker_crew::lead;
+use worker_crew::{Setting, lead};
 
 /// Plays the script on a board that has no entries.
 fn play_on<R: Threads + Wait + Sync, S: Source + Send, K: Sink + Send, G: Gate + Sync>(
-    rt: &R,
-    alloc: Global,
+    setting: &Setting<'_, R, Mmt, G>,
     board: Board<Mmt>,
     workers: u32,
     source: &mut S,
     sink: &mut K,
-    gate: &G,
 ) -> Ended
     requires empty { board ≡ [] }
     requires workers { workers ≤ 16 }
@@ -44,17 +42,7 @@ fn play_on<R: Threads + Wait + Sync, S: Source + Send, K: Sink + Send, G: Gate +
         (K.taken sink.old) (K.taken sink.new) (K.faults sink.old) (K.faults sink.new)) }
     ensures some { IsSome result.board }
 {
-    let led = lead(
-        rt,
-        alloc,
-        &Mmt,
-        gate,
-        board,
-        workers,
-        &ScriptFront,
-        source,
-        sink,
-    );
+    let led = lead(setting, board, workers, &ScriptFront, source, sink);
     match led.end {
         Some(status) => Ended {
             status,
@@ -119,5 +107,11 @@ pub fn session<R: Threads + Wait + Sync, S: Source + Send, K: Sink + Send, G: Ga
             board: None,
         };
     };
-    play_on(rt, alloc, board, workers, source, sink, gate)
+    let setting = Setting {
+        rt,
+        alloc,
+        subject: &Mmt,
+        gate,
+    };
+    play_on(&setting, board, workers, source, sink)
 }

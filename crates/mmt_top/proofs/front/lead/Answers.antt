@@ -13,10 +13,6 @@ returns-clause-led g c = record {
   read_all = c.play-status.ensures.read_all;
   part_read = c.play-status.ensures.left;
   answers = c.play-status.ensures.status;
-  flush = c.play-status.ensures.flush;
-  read = c.play-status.ensures.read;
-  write = c.play-status.ensures.write;
-  source_later = c.play-status.ensures.source_later;
-  sink_later = c.play-status.ensures.sink_later;
-  took = c.play-status.ensures.took;
+  source = c.play-status.ensures.source;
+  sink = c.play-status.ensures.sink;
 }

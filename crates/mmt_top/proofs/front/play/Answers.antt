@@ -7,6 +7,7 @@ use Rattle.run_status.proofs.Taking.{TookOn-more, TookOn-none}
 use Rattle.mmt_top.specs.Session.{TurnTells}
 use Rattle.mmt_outside.specs.Bytes.{ReadPrefix}
 use Rattle.mmt_outside.proofs.Bytes.{preceded-nil, ReadPrefix-more, ReadPrefix-none}
+use Rattle.mmt_top.proofs.Outside.{sink_more, source_more}
 use Rattle.mmt_top.proofs.Sessions.{ended_whole, start, played_more, played_end, played_done, played_start}
 use Rattle.mmt_top.proofs.Led.{empty_legal}
 use Rattle.generator_front.proofs.GivenEdits.{empty_front}
@@ -36,9 +37,14 @@ returns-in-Some-turn-clause-left g c =
     (ReadPrefix-more (to_come c.loop.script (g.S.Source.left c.loop.source)) (to_come c.turn.new.script (g.S.Source.left c.turn.new.source)) (g.S.Source.left c.turn.new.source) c.turn.ensures.left
     (record { piece = c.turn.new.script.buffered; read = refl })))
 
-pub returns-in-Some-turn-clause-took : goal.returns-in-Some-turn-clause-took
-returns-in-Some-turn-clause-took g c =
-    TookOn-more (g.K.Sink.taken c.args.sink.now) (g.K.Sink.taken c.loop.sink) (g.K.Sink.taken c.turn.new.sink) c.loop.invariant.took c.turn.ensures.took
+pub returns-in-Some-turn-clause-source : goal.returns-in-Some-turn-clause-source
+returns-in-Some-turn-clause-source g c =
+    source_more (Some c.in-Some-turn.status) (g.S.Source.faults c.args.source.now) (g.S.Source.faults c.loop.source) (g.S.Source.faults c.turn.new.source) c.loop.invariant.source_later c.in-Some-turn.ensures.source
+
+pub returns-in-Some-turn-clause-sink : goal.returns-in-Some-turn-clause-sink
+returns-in-Some-turn-clause-sink g c =
+    sink_more (Some c.in-Some-turn.status) (g.K.Sink.taken c.args.sink.now) (g.K.Sink.taken c.loop.sink) (g.K.Sink.taken c.turn.new.sink)
+    (g.K.Sink.faults c.args.sink.now) (g.K.Sink.faults c.loop.sink) (g.K.Sink.faults c.turn.new.sink) c.loop.invariant.took c.loop.invariant.sink_later c.in-Some-turn.ensures.sink
 
 pub loop-preserved : goal.loop-preserved
 loop-preserved g c = record {
@@ -50,9 +56,9 @@ loop-preserved g c = record {
   left = ReadPrefix-more (to_come start (g.S.Source.left c.args.source.now)) (to_come c.loop.script (g.S.Source.left c.loop.source)) (to_come c.turn.new.script (g.S.Source.left c.turn.new.source))
       c.loop.invariant.left c.turn.ensures.left;
   fresh = c.in_default.ensures.on refl;
-  source_later = omega arith;
-  sink_later = omega arith;
-  took = TookOn-more (g.K.Sink.taken c.args.sink.now) (g.K.Sink.taken c.loop.sink) (g.K.Sink.taken c.turn.new.sink) c.loop.invariant.took c.turn.ensures.took;
+  source_later = (let so_far = c.loop.invariant.source_later in let later = c.turn.ensures.source.later in omega (arith, so_far, later));
+  sink_later = (let so_far = c.loop.invariant.sink_later in let later = c.turn.ensures.sink.later in omega (arith, so_far, later));
+  took = TookOn-more (g.K.Sink.taken c.args.sink.now) (g.K.Sink.taken c.loop.sink) (g.K.Sink.taken c.turn.new.sink) c.loop.invariant.took c.turn.ensures.sink.took;
 }
 
 pub loop-init : goal.loop-init

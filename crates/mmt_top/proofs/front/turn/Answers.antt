@@ -1,5 +1,5 @@
-use Rattle.std.proofs.Common.{◌≡◌, false, [], subst}
-use Rattle.std.specs.Prelude.{IfSome}
+use Rattle.std.proofs.Common.{◌≡◌, false, ap, subst}
+use Rattle.std.specs.Prelude.{Err, IfSome, Some}
 use Rattle.printing_meaning.specs.Lines.{lines_of}
 use Rattle.run_meaning.specs.ScriptCommands as meant
 use Rattle.script_reader.specs.Reading.{to_come}
@@ -7,7 +7,7 @@ use Rattle.script_reader.specs.Commands.{read_command}
 use Rattle.script_reader.specs.Answers.{IsNext}
 use Rattle.script_reader.specs.declared.command.Command.{Command}
 use Rattle.mmt_top.proofs.Turns.{is_spoken, told_spoken, told_ended, told_faulted}
-use Rattle.mmt_top.proofs.Taking.{ended_on, faulted_on}
+use Rattle.mmt_top.proofs.Outside.{source_unfailed}
 use Rattle.mmt_top.proofs.front.turn.Goals as goal
 
 pub returns-in-End-clause-tells : goal.returns-in-End-clause-tells
@@ -33,8 +33,16 @@ returns-in-Err-clause-tells g c =
     (to_come c.next_command.new.self (g.S.Source.left c.next_command.new.source)) c.args.pass.now.seen (g.K.Sink.taken c.args.sink.now) (g.K.Sink.taken c.end_by.new.sink)
     c.requires.fresh c.requires.front.legal c.in-Err.ensures.answer c.end_by.ensures.end
 
-pub returns-in-End-clause-took : goal.returns-in-End-clause-took
-returns-in-End-clause-took g c = ended_on c.finish.result (g.K.Sink.taken c.args.sink.now) (g.K.Sink.taken c.finish.new.sink) [] false c.finish.ensures.end
+pub returns-in-End-clause-source : goal.returns-in-End-clause-source
+returns-in-End-clause-source g c =
+    source_unfailed (Some c.finish.result) (g.S.Source.faults c.args.source.now) (g.S.Source.faults c.next_command.new.source) c.finish.ensures.read c.next_command.ensures.later
 
-pub returns-in-Err-clause-took : goal.returns-in-Err-clause-took
-returns-in-Err-clause-took g c = faulted_on c.in-Err.fault c.end_by.result (g.K.Sink.taken c.args.sink.now) (g.K.Sink.taken c.end_by.new.sink) c.end_by.ensures.end
+pub returns-in_default-clause-source : goal.returns-in_default-clause-source
+returns-in_default-clause-source g c =
+    source_unfailed c.speak.result (g.S.Source.faults c.args.source.now) (g.S.Source.faults c.next_command.new.source) c.speak.ensures.read c.next_command.ensures.later
+
+pub returns-in-Err-clause-source : goal.returns-in-Err-clause-source
+returns-in-Err-clause-source g c = record {
+  read = λ e. c.in-Err.ensures.failed (ap Err (c.end_by.ensures.read e));
+  later = c.next_command.ensures.later;
+}
