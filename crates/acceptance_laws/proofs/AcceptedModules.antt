@@ -2,13 +2,13 @@
 use Rattle.std.proofs.Common.{◌≡◌, true, false, not, length, Some, is_some, Ok, sym, ap, ◌∙◌}
 use Rattle.std.proofs.lemmas.Bool.{and_from}
 use Rattle.name_meaning.specs.Names.{Path, same_name as same_bytes, Name, is_among}
-use Rattle.log_meaning.specs.Log.{Library, is_present}
-use Rattle.walk_meaning.specs.Walks.{is_ungrounded, is_grounded, ungrounded_names}
+use Rattle.edit_log_meaning.specs.Log.{Library, is_present}
+use Rattle.module_graph_meaning.specs.Walks.{is_ungrounded, is_grounded, ungrounded_names}
 use Rattle.text_meaning.specs.Trees.{Written, Module, first_name}
 use Rattle.text_meaning.specs.Reading.{ModuleText, ModuleTree, Read}
 use Rattle.text_meaning.specs.TextAnswers.{read}
 use Rattle.library_meaning.specs.Faces.{TheoryFace, Environment, theory_of}
-use Rattle.expansion_meaning.specs.Rules.{Rule}
+use Rattle.elaborate_meaning.specs.Rules.{Rule}
 use Rattle.link_meaning.specs.Refusals.{demand}
 use Rattle.link_laws.proofs.Linked.{known_theory}
 use Rattle.link_laws.proofs.Valued.{demand_by}

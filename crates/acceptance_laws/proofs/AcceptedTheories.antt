@@ -1,7 +1,7 @@
 -- A theory is accepted exactly where its declarations lead from the empty theory to its face.
 use Rattle.std.proofs.Common.{◌≡◌, List, ℕ, length, Some, Ok, refl, sym, ap, ◌∙◌, subst}
 use Rattle.name_meaning.specs.Names.{Name}
-use Rattle.log_meaning.specs.Log.{Library}
+use Rattle.edit_log_meaning.specs.Log.{Library}
 use Rattle.text_meaning.specs.Trees.{Written, Decl, Module, SigModule, first_name}
 use Rattle.library_meaning.specs.Faces.{TheoryFace, flat_signature}
 use Rattle.verdict_meaning.specs.Modules.{empty_theory, declare_all}

@@ -1,7 +1,7 @@
 -- A view is accepted exactly where its ends are accepted theories, and its map is that of the link between them.
 use Rattle.std.proofs.Common.{◌≡◌, List, ℕ, Some, is_some, Ok, refl, sym, ap, ◌∙◌, subst}
 use Rattle.name_meaning.specs.Names.{Name}
-use Rattle.log_meaning.specs.Log.{Library}
+use Rattle.edit_log_meaning.specs.Log.{Library}
 use Rattle.text_meaning.specs.Trees.{Written, Assign, Module, SigModule, ViewModule, first_name}
 use Rattle.lf_meaning.specs.HeadMaps.{HeadMap}
 use Rattle.library_meaning.specs.Faces.{TheoryFace, ViewFace, Environment, theory_of}

@@ -10,9 +10,9 @@ use Rattle.library_meaning.specs.Faces.{StructureFace, TheoryFace, Environment, 
 use Rattle.library_meaning.specs.Resolution.{Scope, has_path, own_at}
 use Rattle.library_meaning.specs.Coherence.{IsCoherent}
 use Rattle.text_meaning.specs.Trees.{Expr, Written, Assign, Decl, IncludeDecl, StructDecl, ConstDecl, first_name}
-use Rattle.expansion_meaning.specs.Rules.{Rule}
-use Rattle.expansion_meaning.specs.Values.{expand_class, expand_value}
-use Rattle.expansion_laws.proofs.ValuesStand.{class_sound, class_complete, value_sound, value_complete}
+use Rattle.elaborate_meaning.specs.Rules.{Rule}
+use Rattle.elaborate_meaning.specs.Values.{expand_class, expand_value}
+use Rattle.elaborate_laws.proofs.ValuesStand.{class_sound, class_complete, value_sound, value_complete}
 use Rattle.link_meaning.specs.Refusals.{labelled}
 use Rattle.link_meaning.specs.Passes.{link_map}
 use Rattle.link_meaning.specs.LinkMaps.{IsMapOfLink}

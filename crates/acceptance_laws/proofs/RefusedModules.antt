@@ -1,7 +1,7 @@
 -- A module is refused exactly where it is present and no face makes it accepted.
 use Rattle.std.proofs.Common.{◌≡◌, ◌↔◌, ℕ, Option, Some, None, is_some, refl, sym, ap, ◌∙◌, true≢false}
 use Rattle.name_meaning.specs.Names.{Name}
-use Rattle.log_meaning.specs.Log.{Library}
+use Rattle.edit_log_meaning.specs.Log.{Library}
 use Rattle.library_meaning.specs.Faces.{TheoryFace, ViewFace, Environment}
 use Rattle.link_meaning.specs.Refusals.{Refusal}
 use Rattle.verdict_meaning.specs.Verdicts.{Interface, Theory, View, Verdict, Accepted, Refused}

@@ -7,8 +7,8 @@ use Rattle.translation_meaning.specs.Heads.{Head, ObjectHead, FamilyHead}
 use Rattle.library_meaning.specs.Resolution.{Scope, Variables, Resolved, Declared}
 use Rattle.library_meaning.specs.StandsFor.{StandsFor}
 use Rattle.text_meaning.specs.Trees.{Expr, TypeExpr, NameExpr, AppExpr, PiExpr, LamExpr, TypedLamExpr, ArrowExpr, BackExpr, Exprs, NoArgs, ThenArg}
-use Rattle.expansion_meaning.specs.Locals.{Locals, with_local, variables_of}
-use Rattle.expansion_meaning.specs.Stands.{NameStands, StandsObject, StandsHead, StandsArguments, StandsFamily, StandsKind, StandsClass, StandsFamilyValue, BuildsValue, StandsValue}
+use Rattle.elaborate_meaning.specs.Locals.{Locals, with_local, variables_of}
+use Rattle.elaborate_meaning.specs.Stands.{NameStands, StandsObject, StandsHead, StandsArguments, StandsFamily, StandsKind, StandsClass, StandsFamilyValue, BuildsValue, StandsValue}
 
 module _ (one two : Scope) (goes : (variables : Variables) (path : Path) (resolved : Resolved) → StandsFor one variables path resolved → StandsFor two variables path resolved) where
   name_alike : (locals : Locals) (path : Path) (head : Head) → NameStands one locals path head → NameStands two locals path head

@@ -3,12 +3,12 @@
 use Rattle.std.proofs.Common.{◌≡◌, ◌↔◌, ℕ, zero, suc, Bool, true, false, List, map, flat_map, length, Some, is_some, inl, inr, ⊎_elim, refl, sym, ap, ◌∙◌, subst, true≢false}
 use Rattle.std.proofs.lemmas.Bool.{cases_Bool}
 use Rattle.name_meaning.specs.Names.{Name, same_name, is_among}
-use Rattle.log_meaning.specs.Log.{Library}
+use Rattle.edit_log_meaning.specs.Log.{Library}
 use Rattle.list_laws.proofs.Members.{Member, map_in, member_place}
 use Rattle.name_laws.proofs.Order.{member_among, same_sound}
-use Rattle.walk_meaning.specs.Walks.{of_text, direct, walking, is_grounded}
-use Rattle.walk_laws.proofs.Walking.{present_in, depends_present}
-use Rattle.walk_laws.proofs.Reaching.{reach_closed, reach_first}
+use Rattle.module_graph_meaning.specs.Walks.{of_text, direct, walking, is_grounded}
+use Rattle.module_graph_laws.proofs.Walking.{present_in, depends_present}
+use Rattle.module_graph_laws.proofs.Reaching.{reach_closed, reach_first}
 use Rattle.text_meaning.specs.Trees.{Written, Assign, Decl, Module, SigModule, ViewModule}
 use Rattle.lf_meaning.specs.HeadMaps.{HeadMap}
 use Rattle.library_meaning.specs.Faces.{TheoryFace, ViewFace, theory_face, Environment, theory_of, flat_signature}

@@ -8,7 +8,7 @@ use Rattle.library_meaning.specs.Faces.{StructureFace, TheoryFace, Environment, 
 use Rattle.library_meaning.specs.Closure.{with_inclusion}
 use Rattle.library_meaning.specs.Resolution.{Scope}
 use Rattle.text_meaning.specs.Trees.{Expr, Written, Assign, Decl, IncludeDecl, StructDecl, ConstDecl, first_name}
-use Rattle.expansion_meaning.specs.Stands.{StandsClass, StandsValue}
+use Rattle.elaborate_meaning.specs.Stands.{StandsClass, StandsValue}
 use Rattle.link_meaning.specs.Induced.{with_structure}
 use Rattle.link_meaning.specs.LinkMaps.{IsMapOfLink}
 use Rattle.verdict_meaning.specs.Modules.{scope_in, structure_setting, with_constant}

@@ -1,7 +1,7 @@
 -- What makes a module refused (this profile).
 use Rattle.std.specs.Prelude.{◌≡◌, ◌↔◌, ℕ, true, Some}
 use Rattle.name_meaning.specs.Names.{Name}
-use Rattle.log_meaning.specs.Log.{Library, is_present}
+use Rattle.edit_log_meaning.specs.Log.{Library, is_present}
 use Rattle.library_meaning.specs.Faces.{TheoryFace, ViewFace, Environment}
 use Rattle.link_meaning.specs.Refusals.{Refusal}
 use Rattle.verdict_meaning.specs.Verdicts.{Refused}

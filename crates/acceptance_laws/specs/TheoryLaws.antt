@@ -1,7 +1,7 @@
 -- What makes a theory accepted, with no order of tests (Rabe and Kohlhase 2013, section 3: theories; the rest is this profile).
 use Rattle.std.specs.Prelude.{◌≡◌, ◌↔◌, ℕ, List, length, Some, Ok}
 use Rattle.name_meaning.specs.Names.{Name}
-use Rattle.log_meaning.specs.Log.{Library}
+use Rattle.edit_log_meaning.specs.Log.{Library}
 use Rattle.text_meaning.specs.Trees.{Written, Decl, SigModule}
 use Rattle.library_meaning.specs.Faces.{TheoryFace, Environment, flat_signature}
 use Rattle.library_meaning.specs.Coherence.{IsCoherent}

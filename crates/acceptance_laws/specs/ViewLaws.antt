@@ -1,8 +1,8 @@
 -- What makes a view accepted, with no order of tests (Rabe and Kohlhase 2013, section 3: views; the rest is this profile).
 use Rattle.std.specs.Prelude.{◌≡◌, ◌↔◌, true, List, Some, IsSome}
 use Rattle.name_meaning.specs.Names.{Name, Text}
-use Rattle.log_meaning.specs.Log.{Library, text_of}
-use Rattle.walk_meaning.specs.Walks.{is_grounded}
+use Rattle.edit_log_meaning.specs.Log.{Library, text_of}
+use Rattle.module_graph_meaning.specs.Walks.{is_grounded}
 use Rattle.text_meaning.specs.Trees.{Written, Assign, Module, ViewModule, first_name}
 use Rattle.text_meaning.specs.Reading.{ModuleText, ModuleTree, Read}
 use Rattle.text_meaning.specs.TextAnswers.{read}

@@ -4,7 +4,7 @@ use Rattle.name_meaning.specs.Names.{Path}
 use Rattle.text_meaning.specs.Tokens.{Span}
 use Rattle.text_meaning.specs.Trees.{StructAssign, Written}
 use Rattle.answer_meaning.specs.Answers.{◌>>=◌}
-use Rattle.expansion_meaning.specs.Rules.{Rule}
+use Rattle.elaborate_meaning.specs.Rules.{Rule}
 use Rattle.library_meaning.specs.Words.{Link}
 use Rattle.link_meaning.specs.Refusals.{Outcome, demand, or_refused, refused}
 use Rattle.link_meaning.specs.Assignments.{Setting, Assigned, Sharing, is_free, label_along, link_of, read_assign, sharing_ends, structure_at, word_place}

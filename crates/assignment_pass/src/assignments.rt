@@ -4,7 +4,7 @@ ghost use Rattle.std.specs.Option.{option_copied};
 ghost use Rattle.text_meaning.specs.Trees.{ConstAssign, IncludeAssign, StructAssign};
 ghost use Rattle.library_meaning.specs.Coherence.{IsCoherent};
 ghost use Rattle.library_meaning.specs.Words as words;
-ghost use Rattle.expansion_meaning.specs.Rules as rules;
+ghost use Rattle.elaborate_meaning.specs.Rules as rules;
 ghost use Rattle.link_meaning.specs.Assignments as passes;
 ghost use Rattle.link_meaning.specs.Assignments.{Sharing};
 ghost use Rattle.link_meaning.specs.Refusals as refusals;

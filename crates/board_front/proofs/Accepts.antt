@@ -2,8 +2,8 @@
 use Rattle.std.proofs.Common.{◌≡◌, ℕ, true, false, [], Option, Some, None, Bor, option_copied, is_some, not, Result, Ok, Err, IsSome, refl, sym, ap, ◌∙◌, subst, true≢false}
 use Rattle.name_meaning.specs.Names.{Name, Text}
 use Rattle.name_meaning.specs.Rows.{Rows}
-use Rattle.log_meaning.specs.Log.{Log, library_of, version_of, text_of}
-use Rattle.walk_meaning.specs.Walks.{is_grounded}
+use Rattle.edit_log_meaning.specs.Log.{Log, library_of, version_of, text_of}
+use Rattle.module_graph_meaning.specs.Walks.{is_grounded}
 use Rattle.library_meaning.specs.Faces.{Environment, view_face}
 use Rattle.text_meaning.specs.Dependencies.{dependencies}
 use Rattle.board_meaning.specs.Events.{History, log_of, library_after}

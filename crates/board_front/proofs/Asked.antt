@@ -3,10 +3,10 @@ use Rattle.std.proofs.Common.{◌≡◌, Bool, true, false, cond, not, ◌&&◌,
 use Rattle.std.proofs.lemmas.Bool.{and_parts}
 use Rattle.name_meaning.specs.Names.{Name, Text}
 use Rattle.name_meaning.specs.Rows.{Rows, row_of}
-use Rattle.log_meaning.specs.Log.{Log, Library, library_of, text_of, is_present}
-use Rattle.log_laws.proofs.Libraries.{library_ascending}
-use Rattle.walk_meaning.specs.Subject.{answers_of}
-use Rattle.walk_meaning.specs.Walks.{is_grounded, is_ungrounded}
+use Rattle.edit_log_meaning.specs.Log.{Log, Library, library_of, text_of, is_present}
+use Rattle.edit_log_laws.proofs.Libraries.{library_ascending}
+use Rattle.module_graph_meaning.specs.Subject.{answers_of}
+use Rattle.module_graph_meaning.specs.Walks.{is_grounded, is_ungrounded}
 use Rattle.text_meaning.specs.Dependencies.{dependencies}
 use Rattle.board_meaning.specs.Events.{History, log_of, library_after}
 use Rattle.board_meaning.specs.Standing.{stands}

@@ -3,9 +3,9 @@ use Rattle.std.proofs.Common.{◌≡◌, ℕ, Bool, true, not, List, ◌++◌, a
 use Rattle.std.specs.Prelude.{IfOk, OnErr, option_map}
 use Rattle.name_meaning.specs.Names.{Name}
 use Rattle.turn_meaning.specs.Passes.{Pass}
-use Rattle.log_meaning.specs.Log.{Edit, Log}
-use Rattle.log_meaning.specs.Append.{append_answer, appended}
-use Rattle.log_meaning.specs.Append as answers
+use Rattle.edit_log_meaning.specs.Log.{Edit, Log}
+use Rattle.edit_log_meaning.specs.Append.{append_answer, appended}
+use Rattle.edit_log_meaning.specs.Append as answers
 use Rattle.text_meaning.specs.Dependencies.{dependencies}
 use Rattle.board_meaning.specs.Events.{Entry, History, log_of}
 use Rattle.board_meaning.specs.Machine.{EditCall, ClaimCall, InstallCall, ReleaseCall, CloseCall, after_call, edit_reply, report_reply, answers_reply, Told}

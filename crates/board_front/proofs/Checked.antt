@@ -4,8 +4,8 @@ use Rattle.std.proofs.Math.ListN.{drop_of_length-le}
 use Rattle.std.proofs.lemmas.Option.{slice_get_cases, slice_get_within}
 use Rattle.name_meaning.specs.Names.{Name}
 use Rattle.std.proofs.lemmas.List.{length-map}
-use Rattle.log_meaning.specs.Append.{IsWithinLimits}
-use Rattle.log_meaning.specs.Log.{Log, Module, library_of, names_of}
+use Rattle.edit_log_meaning.specs.Append.{IsWithinLimits}
+use Rattle.edit_log_meaning.specs.Log.{Log, Module, library_of, names_of}
 use Rattle.list_laws.proofs.Members.{member_place}
 use Rattle.list_laws.proofs.Places.{drop_here}
 use Rattle.text_meaning.specs.Dependencies.{dependencies}

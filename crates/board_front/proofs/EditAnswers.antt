@@ -1,9 +1,9 @@
 -- What the answer to an edit says of the log, of the history, and of the word for it.
 use Rattle.std.proofs.Common.{◌≡◌, ℕ, List, true, false, true≢false, Some, None, Result, Ok, Err, inl, inr, sym, ap, ◌∙◌}
 use Rattle.std.specs.Prelude.{IfOk, OnErr, OnOk}
-use Rattle.log_meaning.specs.Log.{Edit, Log}
-use Rattle.log_meaning.specs.Append.{append_answer, appended, log_after}
-use Rattle.log_meaning.specs.Append as answers
+use Rattle.edit_log_meaning.specs.Log.{Edit, Log}
+use Rattle.edit_log_meaning.specs.Append.{append_answer, appended, log_after}
+use Rattle.edit_log_meaning.specs.Append as answers
 use Rattle.printing_meaning.specs.EditLines.{edit_word, made_word}
 use Rattle.board_meaning.specs.Events.{History, log_of}
 use Rattle.edit_log.specs.Readings.{IsAnswer}

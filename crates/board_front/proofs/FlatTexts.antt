@@ -2,8 +2,8 @@
 use Rattle.std.proofs.Common.{◌≡◌, ℕ, Bool, true, false, [], Option, Some, None, is_some, option_map, refl, sym, ap, ◌∙◌, subst, true≢false}
 use Rattle.name_meaning.specs.Names.{Name, Text}
 use Rattle.name_meaning.specs.Rows.{Rows, row_of}
-use Rattle.log_meaning.specs.Log.{Log, Library, library_of, version_of, text_of}
-use Rattle.walk_meaning.specs.Reach.{reach}
+use Rattle.edit_log_meaning.specs.Log.{Log, Library, library_of, version_of, text_of}
+use Rattle.module_graph_meaning.specs.Reach.{reach}
 use Rattle.lf_meaning.specs.Terms.{Object, Family}
 use Rattle.library_meaning.specs.Faces.{ViewFace, Known, IsAbsent, IsRefused, IsTheory, IsView, Environment, view_face, view_of}
 use Rattle.library_meaning.specs.Environments.{known_or_absent}

@@ -1,6 +1,6 @@
 -- Histories that go on, one after another.
 use Rattle.std.proofs.Common.{◌≡◌, true, false, [], ◌++◌, append-nil, append_assoc, option_to_list, refl, sym, ap, ◌∙◌, subst}
-use Rattle.log_meaning.specs.Log.{Edit, Log}
+use Rattle.edit_log_meaning.specs.Log.{Edit, Log}
 use Rattle.text_meaning.specs.Dependencies.{dependencies}
 use Rattle.board_meaning.specs.Events.{Entry, History}
 use Rattle.board_meaning.specs.Machine.{Call, EditCall, entry_by, may_call, after_call}

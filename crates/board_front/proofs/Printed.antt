@@ -3,7 +3,7 @@ use Rattle.std.proofs.Common.{◌≡◌, ◌≤◌, ◌^◌, ℕ, Bool, true, fa
 use Rattle.std.proofs.lemmas.List.{length-map}
 use Rattle.name_meaning.specs.Limits.{text_limit}
 use Rattle.name_meaning.specs.Names.{Name, Text}
-use Rattle.log_meaning.specs.Log.{Log, Library, library_of, version_of, text_of, is_present}
+use Rattle.edit_log_meaning.specs.Log.{Log, Library, library_of, version_of, text_of, is_present}
 use Rattle.library_meaning.specs.Faces.{Environment, IsAbsent}
 use Rattle.coherence_laws.proofs.LibrariesHold.{faces_are_coherent}
 use Rattle.coherence_laws.proofs.SizesHold.{maps_have_lengths, sizes_are_lengths}

@@ -9,8 +9,8 @@ use Rattle.name_laws.proofs.Order.{same_sound, same_itself, among_member, member
 use Rattle.name_laws.proofs.Rows.{row_among}
 use Rattle.name_laws.proofs.RowLookups.{row_mapped, row_pushed}
 use Rattle.list_laws.proofs.Members.{in_filter, filter_in}
-use Rattle.log_meaning.specs.Log.{Library, is_present}
-use Rattle.walk_meaning.specs.Reach.{reach}
+use Rattle.edit_log_meaning.specs.Log.{Library, is_present}
+use Rattle.module_graph_meaning.specs.Reach.{reach}
 use Rattle.library_meaning.specs.Faces as faces
 use Rattle.text_meaning.specs.Dependencies.{dependencies}
 use Rattle.coherence_laws.proofs.LibrariesHold.{known_in}

@@ -3,8 +3,8 @@ use Rattle.std.proofs.Common.{◌≡◌, Bool, true, false, List, [], ◌∷◌,
 use Rattle.std.proofs.lemmas.List.{append_cancel_left}
 use Rattle.std.specs.List.{cons_option}
 use Rattle.name_meaning.specs.Names.{Name}
-use Rattle.log_meaning.specs.Log.{Edit, Log, Library, library_of, is_present}
-use Rattle.walk_meaning.specs.Walks.{is_grounded, is_ungrounded}
+use Rattle.edit_log_meaning.specs.Log.{Edit, Log, Library, library_of, is_present}
+use Rattle.module_graph_meaning.specs.Walks.{is_grounded, is_ungrounded}
 use Rattle.text_meaning.specs.Dependencies.{dependencies}
 use Rattle.board_meaning.specs.Events.{Entry, History, edit_in, log_of}
 use Rattle.board_meaning.specs.Standing.{is_edit_of, stands}

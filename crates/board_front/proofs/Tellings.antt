@@ -2,8 +2,8 @@
 use Rattle.std.proofs.Common.{◌≡◌, ◌∙◌, ℕ, Bool, true, false, not, ◌||◌, Option, Some, None, sym, refl, true≢false}
 use Rattle.std.proofs.lemmas.Bool.{and_parts}
 use Rattle.name_meaning.specs.Names.{Name}
-use Rattle.log_meaning.specs.Log.{is_present}
-use Rattle.walk_meaning.specs.Walks.{is_ungrounded}
+use Rattle.edit_log_meaning.specs.Log.{is_present}
+use Rattle.module_graph_meaning.specs.Walks.{is_ungrounded}
 use Rattle.text_meaning.specs.Dependencies.{dependencies}
 use Rattle.board_meaning.specs.Events.{History, library_after, log_of, version_after}
 use Rattle.board_meaning.specs.Standing.{stands}

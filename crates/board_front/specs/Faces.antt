@@ -2,8 +2,8 @@
 use Rattle.std.specs.Prelude.{◌≡◌, Option, Some, None}
 use Rattle.name_meaning.specs.Names.{Name}
 use Rattle.name_meaning.specs.Rows.{Rows, row_of}
-use Rattle.log_meaning.specs.Log.{Library}
-use Rattle.walk_meaning.specs.Reach.{reach}
+use Rattle.edit_log_meaning.specs.Log.{Library}
+use Rattle.module_graph_meaning.specs.Reach.{reach}
 use Rattle.text_meaning.specs.Dependencies.{dependencies}
 use Rattle.verdict_meaning.specs.Rounds.{known_of, verdicts}
 use Rattle.mmt_interface.specs.CoherentFaces.{AreCoherent}

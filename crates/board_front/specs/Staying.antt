@@ -1,9 +1,9 @@
 -- How the history of a board goes on under its front (this profile).
 use Rattle.std.specs.Prelude.{◌≡◌, ◌⊎◌, ◌++◌, true, List, Result, Ok, Err}
 use Rattle.name_meaning.specs.Names.{Name}
-use Rattle.log_meaning.specs.Log.{Edit, Log, library_of}
-use Rattle.log_meaning.specs.Append.{appended}
-use Rattle.walk_meaning.specs.Walks.{is_grounded}
+use Rattle.edit_log_meaning.specs.Log.{Edit, Log, library_of}
+use Rattle.edit_log_meaning.specs.Append.{appended}
+use Rattle.module_graph_meaning.specs.Walks.{is_grounded}
 use Rattle.text_meaning.specs.Dependencies.{dependencies}
 use Rattle.turn_meaning.specs.Passes.{Pass, IsIdleOf}
 use Rattle.board_meaning.specs.Events.{Entry, History, log_of}

@@ -1,7 +1,7 @@
 -- What is told of a name by the log alone, once it is not to come (this profile).
 use Rattle.std.specs.Prelude.{◌≡◌, Bool, false, not, Option, Some, None, is_some}
 use Rattle.name_meaning.specs.Names.{Name}
-use Rattle.log_meaning.specs.Log.{Log, library_of, version_of, is_present}
+use Rattle.edit_log_meaning.specs.Log.{Log, library_of, version_of, is_present}
 use Rattle.verdict_meaning.specs.Rounds.{verdict_of}
 use Rattle.mmt_interface.specs.Readings.{read_verdict}
 use Rattle.mmt_interface.specs.declared.verdict.Verdict as verdict

@@ -5,7 +5,7 @@ ghost use Rattle.board_meaning.specs.Events.{log_of};
 ghost use Rattle.board_meaning.specs.Ready.{is_closed};
 ghost use Rattle.board_meaning.specs.Machine.{answers_reply, report_reply};
 ghost use Rattle.board_meaning.specs.Turns.{Turns as IsTurn, TurnFindsNoMemory};
-ghost use Rattle.log_meaning.specs.Append.{append_answer};
+ghost use Rattle.edit_log_meaning.specs.Append.{append_answer};
 ghost use Rattle.edit_log.specs.Readings.{read_edit, IsAnswer};
 ghost use Rattle.module_graph.specs.Subjects.{read_answers};
 ghost use Rattle.text_meaning.specs.Dependencies.{dependencies};

@@ -6,7 +6,7 @@ ghost use Rattle.board_meaning.specs.Standing.{stands};
 ghost use Rattle.name_meaning.specs.Limits.{line_limit};
 ghost use Rattle.run_meaning.specs.ScriptOutput as output;
 ghost use Rattle.text_meaning.specs.Dependencies.{dependencies};
-ghost use Rattle.walk_meaning.specs.Walks.{is_grounded};
+ghost use Rattle.module_graph_meaning.specs.Walks.{is_grounded};
 ghost use Rattle.verdict_meaning.specs.Rounds.{verdict_of};
 ghost use Rattle.mmt_interface.specs.Readings.{read_verdict};
 ghost use Rattle.judged_meaning.specs.JudgingByRules.{rules};

@@ -1,6 +1,6 @@
 //! What is read of an edit before it is made.
 ghost use Rattle.std.specs.Prelude.{◌≡◌, true};
-ghost use Rattle.log_meaning.specs.Append.{is_short};
+ghost use Rattle.edit_log_meaning.specs.Append.{is_short};
 ghost use Rattle.text_meaning.specs.Dependencies.{dependencies};
 ghost use Rattle.edit_log.specs.Readings.{read_edit};
 ghost use Rattle.verdict_board.specs.ReadBefore.{AreReadBefore};

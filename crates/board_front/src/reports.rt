@@ -1,7 +1,7 @@
 //! Edits and reports: what they do to the board, and the lines that answer them.
 ghost use Rattle.std.specs.Prelude.{◌≡◌, ◌≤◌, IfOk, None, OnErr, OnOk, Some, length, map};
-ghost use Rattle.log_meaning.specs.Log.{edited_name, library_of, names_of};
-ghost use Rattle.log_meaning.specs.Append.{append_answer, appended};
+ghost use Rattle.edit_log_meaning.specs.Log.{edited_name, library_of, names_of};
+ghost use Rattle.edit_log_meaning.specs.Append.{append_answer, appended};
 ghost use Rattle.edit_log.specs.Readings.{read_edit};
 ghost use Rattle.printing_meaning.specs.EditLines as lines;
 ghost use Rattle.printing_meaning.specs.EditLines.{edit_word, edited_line};

@@ -2,9 +2,9 @@
 use Rattle.std.proofs.Common.{◌≡◌, ℕ, ◌≤◌, Bool, true, false, not, List, [], ◌++◌, ◌||◌, cond, take, Option, Some, None, refl, sym, ap, ◌∙◌, subst, true≢false, arith, append-nil, append_assoc}
 use Rattle.std.proofs.lemmas.Bool.{and_parts}
 use Rattle.name_meaning.specs.Names.{Name}
-use Rattle.log_meaning.specs.Log.{library_of, is_present}
-use Rattle.walk_meaning.specs.Walks.{Dependencies, is_ungrounded, is_grounded}
-use Rattle.walk_meaning.specs.Subject.{Subject, answers_of}
+use Rattle.edit_log_meaning.specs.Log.{library_of, is_present}
+use Rattle.module_graph_meaning.specs.Walks.{Dependencies, is_ungrounded, is_grounded}
+use Rattle.module_graph_meaning.specs.Subject.{Subject, answers_of}
 use Rattle.list_laws.proofs.Places.{take_front, take_length}
 use Rattle.board_meaning.specs.Events.{History, log_of, library_after, version_after}
 use Rattle.board_meaning.specs.Standing.{stands, IsBacked}

@@ -3,12 +3,12 @@ use Rattle.std.proofs.Common.{◌≡◌, ℕ, suc, ◌<◌, Bool, true, false, n
 use Rattle.std.specs.List.{list_any, list_all}
 use Rattle.std.proofs.lemmas.Bool.{false_from_ne_true, not_from_false, not-true}
 use Rattle.name_meaning.specs.Names.{Name, same_name}
-use Rattle.log_meaning.specs.Log.{text_of}
-use Rattle.walk_meaning.specs.Walks.{Dependencies}
-use Rattle.walk_meaning.specs.Reach.{reach, AgreesOn}
+use Rattle.edit_log_meaning.specs.Log.{text_of}
+use Rattle.module_graph_meaning.specs.Walks.{Dependencies}
+use Rattle.module_graph_meaning.specs.Reach.{reach, AgreesOn}
 use Rattle.list_laws.proofs.Members.{Member, in_map, map_in, any_not, any_none, find_found, find_none, all_of}
 use Rattle.name_laws.proofs.Order.{among_member, same_sound, same_itself}
-use Rattle.log_laws.proofs.Libraries.{stamp_past}
+use Rattle.edit_log_laws.proofs.Libraries.{stamp_past}
 use Rattle.board_meaning.specs.Events.{Event, EditMade, Claim, Install, Stale, Release, Close, Entry, History, edit_of, log_of, library_after, stamp_after}
 use Rattle.board_meaning.specs.Claims.{claimed_name, claim_at, Input, inputs_after, inputs_by, inputs_of, input_names, is_unchanged, first_changed, is_name}
 use Rattle.board_meaning.specs.Standing.{is_edit_of, is_edited, is_edited_after, is_unedited}

@@ -1,15 +1,15 @@
 -- The worked examples compute.
 use Rattle.std.proofs.Common.{refl}
 use Rattle.name_meaning.specs.Names.{is_among, is_ascending, with_name, with_names}
-use Rattle.log_meaning.specs.Log.{with_module, without_module, library_of, text_of, stamp_from}
-use Rattle.log_meaning.specs.Append.{append_answer}
-use Rattle.walk_meaning.specs.Walks.{direct, walking, is_ungrounded, ungrounded_names}
-use Rattle.walk_meaning.specs.Reach.{reach_within, reach}
+use Rattle.edit_log_meaning.specs.Log.{with_module, without_module, library_of, text_of, stamp_from}
+use Rattle.edit_log_meaning.specs.Append.{append_answer}
+use Rattle.module_graph_meaning.specs.Walks.{direct, walking, is_ungrounded, ungrounded_names}
+use Rattle.module_graph_meaning.specs.Reach.{reach_within, reach}
 use Rattle.board_meaning.specs.Events.{log_of}
 use Rattle.board_meaning.specs.Claims.{claims_from, is_open, inputs_after, inputs_of, first_changed, has_current_claim}
 use Rattle.board_meaning.specs.Standing.{installed_claims, is_edited, is_unedited, stands}
 use Rattle.board_meaning.specs.Ready.{is_closed, dependencies_stand, is_ready, least_ready}
-use Rattle.walk_meaning.specs.Subject.{answers_of}
+use Rattle.module_graph_meaning.specs.Subject.{answers_of}
 use Rattle.board_meaning.specs.Machine.{job_after, job_of, install_reply, report_reply, answers_reply, event_of, may_call, after_call}
 use Rattle.board_meaning.specs.Legal.{after_calls, may_make_all}
 use Rattle.board_laws.specs.Examples.{JobHasStamps, InstallIsStale, WayBackIsStale, StaleIsPending, ClaimedAgain, HistoryOfStaleInstall, SecondInstallIsInstalled, VerdictIsTold, NothingIsReady, CallsMayBeMade, AbsentNameIsInput, BothStand, OnlyDependantFalls, DependencyComesFirst, RingIsTold, RingIsNotReady, DroppedIsAbsent, ClosedIsNotReady, ClosedIsUsed, ClosedTellsVerdict, OthersMayNotCall, JobHasAnswers, AnswersAreTold, StaleClaimIsNoHindrance, CurrentClaimHinders}

@@ -4,12 +4,12 @@ use Rattle.std.proofs.Math.Bool.{or-false}
 use Rattle.std.specs.List.{list_all}
 use Rattle.std.proofs.lemmas.Bool.{and_parts}
 use Rattle.name_meaning.specs.Names.{Name, same_name, comes_before, is_among, is_ascending}
-use Rattle.log_meaning.specs.Log.{names_of, library_of, is_present}
-use Rattle.walk_meaning.specs.Walks.{Dependencies}
+use Rattle.edit_log_meaning.specs.Log.{names_of, library_of, is_present}
+use Rattle.module_graph_meaning.specs.Walks.{Dependencies}
 use Rattle.list_laws.proofs.Members.{Member, all_at, in_filter, filter_in}
 use Rattle.name_laws.proofs.Order.{same_itself, same_turned, among_member, member_among}
 use Rattle.name_laws.proofs.Rows.{different}
-use Rattle.log_laws.proofs.Libraries.{library_ascending, present_among}
+use Rattle.edit_log_laws.proofs.Libraries.{library_ascending, present_among}
 use Rattle.board_meaning.specs.Events.{Install, Entry, History, edit_of, edit_in, log_of, library_after}
 use Rattle.board_meaning.specs.Claims.{claim_at, is_name, is_open}
 use Rattle.board_meaning.specs.Standing.{installed_claim, stands, standing_names, standing_count}

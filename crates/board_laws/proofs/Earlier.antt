@@ -4,8 +4,8 @@ use Rattle.std.specs.List.{list_all, cons_option}
 use Rattle.std.proofs.lemmas.Bool.{or_parts, and_parts, and_from, not_from_false, not-true}
 use Rattle.std.proofs.lemmas.List.Folds.{list_any-append}
 use Rattle.name_meaning.specs.Names.{Name}
-use Rattle.walk_meaning.specs.Walks.{Dependencies}
-use Rattle.walk_meaning.specs.Reach.{reach}
+use Rattle.module_graph_meaning.specs.Walks.{Dependencies}
+use Rattle.module_graph_meaning.specs.Reach.{reach}
 use Rattle.list_laws.proofs.Members.{Member, any_of, filter_in}
 use Rattle.list_laws.proofs.Places.{take_take, take_drop, drop_parts, length_take}
 use Rattle.board_meaning.specs.Events.{Entry, History, library_after}

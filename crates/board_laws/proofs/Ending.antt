@@ -1,6 +1,6 @@
 -- How turns may end.
 use Rattle.std.proofs.Common.{◌≡◌, ℕ, true, false, Some, None, refl, sym, ap, subst, append-nil}
-use Rattle.walk_meaning.specs.Subject.{Subject}
+use Rattle.module_graph_meaning.specs.Subject.{Subject}
 use Rattle.board_meaning.specs.Events.{History}
 use Rattle.board_meaning.specs.Ready.{is_closed}
 use Rattle.board_meaning.specs.Machine.{Job, install_reply, ClaimCall, InstallCall, ReleaseCall, may_call, after_call}

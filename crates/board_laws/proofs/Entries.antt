@@ -3,12 +3,12 @@ use Rattle.std.proofs.Common.{◌≡◌, ℕ, zero, suc, ◌<◌, ◌≤◌, Boo
 use Rattle.std.specs.List.{list_all}
 use Rattle.std.proofs.lemmas.Bool.{and_parts, cases_Bool}
 use Rattle.name_meaning.specs.Names.{Name, comes_before, is_ascending}
-use Rattle.log_meaning.specs.Log.{Edit, Log, names_of, is_present}
-use Rattle.log_meaning.specs.Append.{Edited, Made, Same, Absent, Full, TooLong, TooMany, append_answer, log_after, appended}
+use Rattle.edit_log_meaning.specs.Log.{Edit, Log, names_of, is_present}
+use Rattle.edit_log_meaning.specs.Append.{Edited, Made, Same, Absent, Full, TooLong, TooMany, append_answer, log_after, appended}
 use Rattle.list_laws.proofs.Members.{Member, all_at}
 use Rattle.name_laws.proofs.Order.{before_trans, not_before_itself, among_member}
-use Rattle.log_laws.proofs.Libraries.{present_among, library_ascending}
-use Rattle.walk_meaning.specs.Walks.{Dependencies, is_ungrounded}
+use Rattle.edit_log_laws.proofs.Libraries.{present_among, library_ascending}
+use Rattle.module_graph_meaning.specs.Walks.{Dependencies, is_ungrounded}
 use Rattle.board_meaning.specs.Events.{Event, EditMade, Claim, Stale, Release, Close, Entry, History, edit_of, log_of, library_after, entry_of}
 use Rattle.board_meaning.specs.Claims.{ends_claim, is_open}
 use Rattle.board_meaning.specs.Ready.{is_closed, is_ready, least_ready}

@@ -3,9 +3,9 @@ use Rattle.std.proofs.Common.{◌≡◌, suc, ◌<◌, ◌≤◌, Bool, true, fa
 use Rattle.std.specs.List.{cons_option}
 use Rattle.std.proofs.lemmas.Bool.{cases_Bool, or_cases, or_parts}
 use Rattle.name_meaning.specs.Names.{Name}
-use Rattle.log_meaning.specs.Log.{Edit, Log, library_of, text_of, stamp_of}
-use Rattle.log_laws.specs.LogLaws.{left_by}
-use Rattle.log_laws.proofs.Libraries.{text_last, stamp_after_last, stamp_past}
+use Rattle.edit_log_meaning.specs.Log.{Edit, Log, library_of, text_of, stamp_of}
+use Rattle.edit_log_laws.specs.LogLaws.{left_by}
+use Rattle.edit_log_laws.proofs.Libraries.{text_last, stamp_after_last, stamp_past}
 use Rattle.board_meaning.specs.Events.{Entry, History, edit_in, log_of, library_after, version_after, stamp_after}
 use Rattle.board_meaning.specs.Standing.{is_edit_of, is_edited}
 use Rattle.std.proofs.lemmas.List.Elements.{filter_map-append}

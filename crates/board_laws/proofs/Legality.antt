@@ -2,11 +2,11 @@
 use Rattle.std.proofs.Common.{◌≡◌, ℕ, zero, suc, Bool, true, false, List, [], ◌∷◌, ◌++◌, length, take, slice_get, Option, Some, None, option_map, option_to_list, cond, ⊎_elim, refl, sym, ap, ◌∙◌, subst, arith, append-nil, length-append}
 use Rattle.std.proofs.lemmas.Bool.{and_parts}
 use Rattle.name_meaning.specs.Names.{Name}
-use Rattle.log_meaning.specs.Log.{Edit, names_of}
-use Rattle.log_meaning.specs.Append.{Edited, Made, Same, Absent, Full, TooLong, TooMany, append_answer, IsWithinLimits}
-use Rattle.walk_meaning.specs.Walks.{Dependencies}
+use Rattle.edit_log_meaning.specs.Log.{Edit, names_of}
+use Rattle.edit_log_meaning.specs.Append.{Edited, Made, Same, Absent, Full, TooLong, TooMany, append_answer, IsWithinLimits}
+use Rattle.module_graph_meaning.specs.Walks.{Dependencies}
 use Rattle.list_laws.proofs.Members.{find_found}
-use Rattle.log_laws.proofs.Limits.{made_not_full, made_within, empty_within}
+use Rattle.edit_log_laws.proofs.Limits.{made_not_full, made_within, empty_within}
 use Rattle.board_meaning.specs.Events.{Event, EditMade, Claim, Release, Close, Entry, History, edit_of, edit_in, log_of, library_after, version_after, version_with, entry_of}
 use Rattle.board_meaning.specs.Claims.{claimed_name, claim_at}
 use Rattle.board_meaning.specs.Standing.{installed_claim}

@@ -3,11 +3,11 @@ use Rattle.std.proofs.Common.{◌≡◌, ℕ, zero, suc, Bool, true, false, not,
 use Rattle.std.specs.List.{list_any, list_all}
 use Rattle.std.proofs.lemmas.Bool.{cases_Bool, or_parts, and_parts, not-false}
 use Rattle.name_meaning.specs.Names.{Name}
-use Rattle.log_meaning.specs.Log.{names_of, is_present}
-use Rattle.walk_meaning.specs.Walks.{Dependencies, direct, walking, is_ungrounded, is_grounded}
+use Rattle.edit_log_meaning.specs.Log.{names_of, is_present}
+use Rattle.module_graph_meaning.specs.Walks.{Dependencies, direct, walking, is_ungrounded, is_grounded}
 use Rattle.list_laws.proofs.Members.{Member, all_not, find_some}
 use Rattle.name_laws.proofs.Order.{member_among}
-use Rattle.walk_laws.proofs.Walking.{present_in, walking_step, in_ungrounded, grounded_dependency}
+use Rattle.module_graph_laws.proofs.Walking.{present_in, walking_step, in_ungrounded, grounded_dependency}
 use Rattle.board_meaning.specs.Events.{History, library_after}
 use Rattle.board_meaning.specs.Claims.{open_claims, has_current_claim, is_claim_of, is_unchanged, inputs_of}
 use Rattle.board_meaning.specs.Standing.{stands}

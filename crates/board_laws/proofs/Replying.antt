@@ -1,9 +1,9 @@
 -- What calls through a pass are told, and which of them find no memory.
 use Rattle.std.proofs.Common.{◌≡◌, ℕ, true, [], ◌++◌, refl, sym, ap, ◌∙◌, true≢false, append-nil}
 use Rattle.name_meaning.specs.Names.{Name}
-use Rattle.log_meaning.specs.Log.{Edit}
-use Rattle.log_meaning.specs.Append.{Edited, Made, Same, Absent, Full, TooLong, TooMany}
-use Rattle.walk_meaning.specs.Subject.{Subject}
+use Rattle.edit_log_meaning.specs.Log.{Edit}
+use Rattle.edit_log_meaning.specs.Append.{Edited, Made, Same, Absent, Full, TooLong, TooMany}
+use Rattle.module_graph_meaning.specs.Subject.{Subject}
 use Rattle.board_meaning.specs.Events.{History}
 use Rattle.board_meaning.specs.Ready.{is_closed}
 use Rattle.board_meaning.specs.Machine.{Told, IsVerdict, IsPending, IsAbsent, edit_reply, claim_reply, install_reply, report_reply, answers_reply, EditCall, ClaimCall, InstallCall, ReleaseCall, CloseCall}

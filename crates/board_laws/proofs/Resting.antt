@@ -2,14 +2,14 @@
 use Rattle.std.proofs.Common.{◌≡◌, ℕ, suc, ◌<◌, Bool, true, false, not, List, ◌++◌, take, drop, slice_get, filter, Some, is_some, ◌||◌, ⊎_elim, sym, ap, ◌∙◌, subst, true≢false, arith, take-append-drop}
 use Rattle.std.proofs.lemmas.Bool.{cases_Bool, or_cases, or_from, or_left, or_right}
 use Rattle.name_meaning.specs.Names.{Name, same_name}
-use Rattle.log_meaning.specs.Log.{text_of, is_present}
-use Rattle.walk_meaning.specs.Walks.{Dependencies, direct}
-use Rattle.walk_meaning.specs.Reach.{reach}
+use Rattle.edit_log_meaning.specs.Log.{text_of, is_present}
+use Rattle.module_graph_meaning.specs.Walks.{Dependencies, direct}
+use Rattle.module_graph_meaning.specs.Reach.{reach}
 use Rattle.list_laws.proofs.Members.{Member, append_left, in_filter, filter_in}
 use Rattle.name_laws.proofs.Order.{same_sound, same_itself}
-use Rattle.walk_laws.proofs.Walking.{depends_present}
-use Rattle.walk_laws.proofs.Reaching.{reach_closed, reach_first, reach_least}
-use Rattle.walk_laws.proofs.Agreement.{direct_same}
+use Rattle.module_graph_laws.proofs.Walking.{depends_present}
+use Rattle.module_graph_laws.proofs.Reaching.{reach_closed, reach_first, reach_least}
+use Rattle.module_graph_laws.proofs.Agreement.{direct_same}
 use Rattle.board_meaning.specs.Events.{Entry, History, library_after}
 use Rattle.board_meaning.specs.Claims.{claimed_name, claim_at}
 use Rattle.board_meaning.specs.Standing.{installed_claim, installed_claims, is_edited, is_edited_after, is_unedited, stands}

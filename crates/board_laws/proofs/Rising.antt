@@ -2,7 +2,7 @@
 use Rattle.std.proofs.Common.{◌≡◌, ℕ, ◌<◌, ◌≤◌, true, false, not, length, take, slice_get, Some, is_some, ◌&&◌, ◌⊎◌, inl, inr, ⊎_elim, sym, ap, ◌∙◌, subst, true≢false, arith, eq-eqb}
 use Rattle.std.proofs.lemmas.Bool.{and_parts, false_from_ne_true, not-true}
 use Rattle.name_meaning.specs.Names.{Name}
-use Rattle.walk_meaning.specs.Walks.{Dependencies}
+use Rattle.module_graph_meaning.specs.Walks.{Dependencies}
 use Rattle.list_laws.proofs.Members.{any_of}
 use Rattle.list_laws.proofs.Places.{place_within, take_length, get_take}
 use Rattle.board_meaning.specs.Events.{Install, Entry, History}

@@ -3,14 +3,14 @@ use Rattle.std.proofs.Common.{◌≡◌, ℕ, zero, suc, ◌<◌, Bool, true, fa
 use Rattle.std.specs.List.{list_any}
 use Rattle.std.proofs.lemmas.Bool.{and_parts, and_from, not_from_false}
 use Rattle.name_meaning.specs.Names.{Name}
-use Rattle.log_meaning.specs.Log.{Library, is_present}
-use Rattle.walk_meaning.specs.Walks.{Dependencies, direct, is_grounded}
-use Rattle.walk_meaning.specs.Reach.{reach}
-use Rattle.walk_meaning.specs.Subject.{KeepsToReach}
+use Rattle.edit_log_meaning.specs.Log.{Library, is_present}
+use Rattle.module_graph_meaning.specs.Walks.{Dependencies, direct, is_grounded}
+use Rattle.module_graph_meaning.specs.Reach.{reach}
+use Rattle.module_graph_meaning.specs.Subject.{KeepsToReach}
 use Rattle.list_laws.proofs.Members.{Member, any_found, any_of, any_not, any_none, all_at, in_option, option_first, option_rest}
 use Rattle.name_laws.proofs.Order.{among_member, member_among}
-use Rattle.log_laws.proofs.Libraries.{library_ascending}
-use Rattle.walk_laws.proofs.Agreement.{reach_same, grounded_same}
+use Rattle.edit_log_laws.proofs.Libraries.{library_ascending}
+use Rattle.module_graph_laws.proofs.Agreement.{reach_same, grounded_same}
 use Rattle.board_meaning.specs.Events.{Event, EditMade, Claim, Install, Stale, Release, Close, Entry, History, log_of, library_after}
 use Rattle.board_meaning.specs.Claims.{claim_at, is_open, is_ended, inputs_of, input_names, is_claim_of, has_current_claim}
 use Rattle.board_meaning.specs.Standing.{installed_claim, installed_claims, is_edited_after, is_unedited, supports, stands, Stands}

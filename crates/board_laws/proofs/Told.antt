@@ -3,11 +3,11 @@ use Rattle.std.proofs.Common.{◌≡◌, ◌≢◌, ℕ, suc, Bool, true, false,
 use Rattle.std.specs.List.{list_any, list_all}
 use Rattle.std.proofs.lemmas.Bool.{and_parts, and_from, not_from_false, false_from_ne_true}
 use Rattle.name_meaning.specs.Names.{Text, Name, same_name, is_among}
-use Rattle.log_meaning.specs.Log.{Edit, edited_name, is_present, text_of}
-use Rattle.log_meaning.specs.Append.{Made, append_answer}
-use Rattle.walk_meaning.specs.Walks.{Dependencies, is_ungrounded}
-use Rattle.walk_meaning.specs.Reach.{reach}
-use Rattle.walk_meaning.specs.Subject.{Subject, KeepsToReach, AnswersPresent, answers_of}
+use Rattle.edit_log_meaning.specs.Log.{Edit, edited_name, is_present, text_of}
+use Rattle.edit_log_meaning.specs.Append.{Made, append_answer}
+use Rattle.module_graph_meaning.specs.Walks.{Dependencies, is_ungrounded}
+use Rattle.module_graph_meaning.specs.Reach.{reach}
+use Rattle.module_graph_meaning.specs.Subject.{Subject, KeepsToReach, AnswersPresent, answers_of}
 use Rattle.list_laws.proofs.Members.{Member, any_none, all_at, find_found}
 use Rattle.name_laws.proofs.Order.{among_member, member_among, same_sound}
 use Rattle.board_meaning.specs.Events.{EditMade, Install, Entry, History, edit_of, edit_in, log_of, library_after, version_after, stamp_after}
@@ -22,7 +22,7 @@ use Rattle.board_laws.proofs.Histories.{log_last}
 use Rattle.board_laws.proofs.Claiming.{names_are, changed_later, unedited_installed, installed_unedited, installed_unchanged}
 use Rattle.board_laws.proofs.Legality.{legal_edit, event_install, follows_event, least_is_ready}
 use Rattle.board_laws.proofs.Standings.{answer_now, reach_now, ready_parts}
-use Rattle.log_laws.proofs.Libraries.{library_ascending}
+use Rattle.edit_log_laws.proofs.Libraries.{library_ascending}
 use Rattle.board_laws.proofs.Resting.{standing_reach, ready_rests}
 use Rattle.board_laws.proofs.Following.{edit_leaves, install_makes}
 

@@ -1,9 +1,9 @@
 -- What the turns of a worker leave.
 use Rattle.std.proofs.Common.{◌≡◌, inl, inr, ℕ, Bool, true, false, List, [], ◌∷◌, ◌++◌, map, length, Option, Some, None, option_map, option_and_then, option_to_list, is_some, refl, sym, ap, ◌∙◌, subst, true≢false, append_assoc}
 use Rattle.name_meaning.specs.Names.{Name, Text}
-use Rattle.log_meaning.specs.Log.{text_of}
-use Rattle.walk_meaning.specs.Walks.{Dependencies}
-use Rattle.walk_meaning.specs.Subject.{Subject, answers_of}
+use Rattle.edit_log_meaning.specs.Log.{text_of}
+use Rattle.module_graph_meaning.specs.Walks.{Dependencies}
+use Rattle.module_graph_meaning.specs.Subject.{Subject, answers_of}
 use Rattle.board_meaning.specs.Events.{Event, Claim, Release, Entry, History, library_after, entry_of}
 use Rattle.board_meaning.specs.Claims.{inputs_after}
 use Rattle.board_meaning.specs.Ready.{least_ready}

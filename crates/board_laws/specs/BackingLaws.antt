@@ -1,9 +1,9 @@
 -- Laws of what is told and backed by a history (this profile).
 use Rattle.std.specs.Prelude.{◌≡◌, ℕ, ◌≤◌, true, List, ◌++◌, take, Option, Some}
 use Rattle.name_meaning.specs.Names.{Name}
-use Rattle.log_meaning.specs.Log.{library_of}
-use Rattle.walk_meaning.specs.Walks.{Dependencies, is_grounded}
-use Rattle.walk_meaning.specs.Subject.{Subject}
+use Rattle.edit_log_meaning.specs.Log.{library_of}
+use Rattle.module_graph_meaning.specs.Walks.{Dependencies, is_grounded}
+use Rattle.module_graph_meaning.specs.Subject.{Subject}
 use Rattle.board_meaning.specs.Events.{History, log_of, library_after, version_after}
 use Rattle.board_meaning.specs.Standing.{stands, IsBacked}
 use Rattle.board_meaning.specs.Machine.{IsVerdict}

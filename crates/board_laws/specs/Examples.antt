@@ -1,9 +1,9 @@
 -- Worked examples: what the machine gives after calls that are written out.
 use Rattle.std.specs.Prelude.{◌≡◌, ℕ, true, false, List, [], ◌∷◌, map, length, filter, Some, None, option_map, codes}
 use Rattle.name_meaning.specs.Names.{Name, Text}
-use Rattle.log_meaning.specs.Log.{Put, Drop, Library, text_of, is_present}
-use Rattle.walk_meaning.specs.Reach.{reach}
-use Rattle.walk_meaning.specs.Subject.{Subject}
+use Rattle.edit_log_meaning.specs.Log.{Put, Drop, Library, text_of, is_present}
+use Rattle.module_graph_meaning.specs.Reach.{reach}
+use Rattle.module_graph_meaning.specs.Subject.{Subject}
 use Rattle.board_meaning.specs.Events.{EditMade, Claim, Install, Stale, History}
 use Rattle.board_meaning.specs.Claims.{Input}
 use Rattle.board_meaning.specs.Standing.{stands}

@@ -1,9 +1,9 @@
 -- Laws of legal histories (this profile).
 use Rattle.std.specs.Prelude.{◌≡◌, ℕ, suc, Bool, true, false, List, [], ◌∷◌, ◌++◌, take, slice_get, Option, Some, None}
-use Rattle.log_meaning.specs.Log.{Edit, Log}
+use Rattle.edit_log_meaning.specs.Log.{Edit, Log}
 use Rattle.name_meaning.specs.Names.{Name}
-use Rattle.log_meaning.specs.Append.{Made, append_answer, appended, IsWithinLimits}
-use Rattle.walk_meaning.specs.Walks.{Dependencies}
+use Rattle.edit_log_meaning.specs.Append.{Made, append_answer, appended, IsWithinLimits}
+use Rattle.module_graph_meaning.specs.Walks.{Dependencies}
 use Rattle.board_meaning.specs.Events.{Install, Stale, Close, Entry, History, edit_in, log_of, version_after}
 use Rattle.board_meaning.specs.Claims.{ends_claim, is_open}
 use Rattle.board_meaning.specs.Ready.{is_closed}

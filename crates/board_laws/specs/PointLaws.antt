@@ -1,11 +1,11 @@
 -- Laws of the points of calls (this profile).
 use Rattle.std.specs.Prelude.{◌≡◌, ℕ, ◌<◌, true, [], ◌++◌, take, slice_get, Some, Decides}
-use Rattle.log_meaning.specs.Log.{Edit}
-use Rattle.log_meaning.specs.Append.{Made}
+use Rattle.edit_log_meaning.specs.Log.{Edit}
+use Rattle.edit_log_meaning.specs.Append.{Made}
 use Rattle.turn_meaning.specs.Passes.{Pass, Joins}
 use Rattle.name_meaning.specs.Names.{Name}
-use Rattle.walk_meaning.specs.Walks.{Dependencies}
-use Rattle.walk_meaning.specs.Subject.{Subject}
+use Rattle.module_graph_meaning.specs.Walks.{Dependencies}
+use Rattle.module_graph_meaning.specs.Subject.{Subject}
 use Rattle.board_meaning.specs.Events.{Entry, History, log_of, version_after}
 use Rattle.board_meaning.specs.Ready.{is_closed}
 use Rattle.board_meaning.specs.Claims.{claim_at}

@@ -2,10 +2,10 @@
 use Rattle.std.specs.Prelude.{◌≡◌, ◌≢◌, ℕ, suc, ◌<◌, ◌≤◌, true, false, [], ◌∷◌, ◌++◌, ◌&&◌, ◌||◌, not, take, slice_get, length, Some, None, is_some, Decides}
 use Rattle.std.specs.List.{list_all}
 use Rattle.name_meaning.specs.Names.{Name, comes_before, is_among}
-use Rattle.log_meaning.specs.Log.{Edit, edited_name, names_of, is_present}
-use Rattle.walk_meaning.specs.Walks.{Dependencies, is_grounded}
-use Rattle.walk_meaning.specs.Reach.{reach}
-use Rattle.walk_meaning.specs.Subject.{Subject, AnswersPresent, KeepsToReach}
+use Rattle.edit_log_meaning.specs.Log.{Edit, edited_name, names_of, is_present}
+use Rattle.module_graph_meaning.specs.Walks.{Dependencies, is_grounded}
+use Rattle.module_graph_meaning.specs.Reach.{reach}
+use Rattle.module_graph_meaning.specs.Subject.{Subject, AnswersPresent, KeepsToReach}
 use Rattle.board_meaning.specs.Events.{EditMade, Install, Entry, History, edit_in, library_after, version_after, stamp_after}
 use Rattle.board_meaning.specs.Claims.{claim_at, open_claims, Input, inputs_of, input_names, is_unchanged, is_claim_of}
 use Rattle.board_meaning.specs.Standing.{installed_claim, is_unedited, stands, Stands, standing_names, standing_count}

@@ -1,7 +1,7 @@
 -- Laws of the turns of a worker (this profile).
 use Rattle.std.specs.Prelude.{◌≡◌, ◌⊎◌, ℕ, ◌+◌, true, false, List, [], ◌∷◌, map, length, Some, None}
 use Rattle.name_meaning.specs.Names.{Name}
-use Rattle.walk_meaning.specs.Subject.{Subject}
+use Rattle.module_graph_meaning.specs.Subject.{Subject}
 use Rattle.board_meaning.specs.Events.{Event, Claim, Release, Entry, History}
 use Rattle.board_meaning.specs.Machine.{Job, install_event, install_reply, ClaimCall, InstallCall, ReleaseCall, after_call}
 use Rattle.board_meaning.specs.Turns.{TurnEnd, Worked, Idle, Closed, Turns, TurnFindsNoMemory, DoesWork, judged_in_all}

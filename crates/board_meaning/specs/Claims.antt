@@ -2,8 +2,8 @@
 use Rattle.std.specs.Prelude.{ℕ, suc, Bool, false, List, [], ◌∷◌, ◌&&◌, not, map, take, nat_eq, slice_get, filter, find, Option, Some, None, is_some, option_map, option_and_then}
 use Rattle.std.specs.List.{list_any, list_all, cons_option}
 use Rattle.name_meaning.specs.Names.{Name, same_name}
-use Rattle.walk_meaning.specs.Walks.{Dependencies}
-use Rattle.walk_meaning.specs.Reach.{reach}
+use Rattle.module_graph_meaning.specs.Walks.{Dependencies}
+use Rattle.module_graph_meaning.specs.Reach.{reach}
 use Rattle.board_meaning.specs.Events.{Event, EditMade, Claim, Install, Stale, Release, Close, Entry, History, library_after, stamp_after}
 
 -- The name that was claimed, if that is what happened.

@@ -1,7 +1,7 @@
 -- The history of a board: its entries, and the log and library that they determine (this profile).
 use Rattle.std.specs.Prelude.{ℕ, suc, List, filter_map, Option, Some, None}
 use Rattle.name_meaning.specs.Names.{Name}
-use Rattle.log_meaning.specs.Log.{Edit, Log, Library, library_of, version_of, stamp_of}
+use Rattle.edit_log_meaning.specs.Log.{Edit, Log, Library, library_of, version_of, stamp_of}
 
 -- An edit was made; a name was claimed; or the claim at this place of the history ended: its verdict was
 -- installed, or it was found stale by an input of this name with this present stamp, or it was released; or the board

@@ -1,6 +1,6 @@
 -- Legal histories (this profile).
 use Rattle.std.specs.Prelude.{◌≡◌, ℕ, Bool, true, List, [], ◌∷◌, ◌&&◌, take, slice_get, Some}
-use Rattle.walk_meaning.specs.Walks.{Dependencies}
+use Rattle.module_graph_meaning.specs.Walks.{Dependencies}
 use Rattle.board_meaning.specs.Events.{Entry, History}
 use Rattle.board_meaning.specs.Machine.{Call, may_call, entry_by, after_call}
 

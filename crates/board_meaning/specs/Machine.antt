@@ -1,10 +1,10 @@
 -- The board as a machine: the reply and the entry of each call, from the history alone (this profile).
-use Rattle.walk_meaning.specs.Subject.{answers_of, Subject}
+use Rattle.module_graph_meaning.specs.Subject.{answers_of, Subject}
 use Rattle.std.specs.Prelude.{ℕ, Bool, true, false, List, ◌++◌, ◌&&◌, ◌||◌, take, length, nat_eq, slice_get, Option, Some, None, option_map, option_and_then, option_to_list, if◌then◌else◌}
 use Rattle.name_meaning.specs.Names.{Name, Text}
-use Rattle.log_meaning.specs.Log.{Edit, text_of, is_present}
-use Rattle.log_meaning.specs.Append.{Edited, Made, Same, Absent, Full, TooLong, TooMany, append_answer}
-use Rattle.walk_meaning.specs.Walks.{Dependencies, is_grounded, is_ungrounded}
+use Rattle.edit_log_meaning.specs.Log.{Edit, text_of, is_present}
+use Rattle.edit_log_meaning.specs.Append.{Edited, Made, Same, Absent, Full, TooLong, TooMany, append_answer}
+use Rattle.module_graph_meaning.specs.Walks.{Dependencies, is_grounded, is_ungrounded}
 use Rattle.board_meaning.specs.Events.{Event, EditMade, Claim, Install, Stale, Release, Close, Entry, History, log_of, library_after, version_after, entry_of}
 use Rattle.board_meaning.specs.Claims.{Input, claim_at, is_open, inputs_after, inputs_of, first_changed}
 use Rattle.board_meaning.specs.Standing.{stands}

@@ -1,9 +1,9 @@
 -- What a pass has seen of a board that several threads share, and the point at which a call of it happens (this profile).
 use Rattle.std.specs.Prelude.{◌≡◌, ℕ, Bool, true, false, List, [], ◌++◌, Option, option_to_list}
 use Rattle.name_meaning.specs.Names.{Name}
-use Rattle.log_meaning.specs.Append.{Edited, Made, Same, Absent, Full, TooLong, TooMany}
-use Rattle.walk_meaning.specs.Walks.{Dependencies}
-use Rattle.walk_meaning.specs.Subject.{Subject}
+use Rattle.edit_log_meaning.specs.Append.{Edited, Made, Same, Absent, Full, TooLong, TooMany}
+use Rattle.module_graph_meaning.specs.Walks.{Dependencies}
+use Rattle.module_graph_meaning.specs.Subject.{Subject}
 use Rattle.turn_meaning.specs.Numbers as numbers
 use Rattle.turn_meaning.specs.Passes.{GoesOn}
 use Rattle.board_meaning.specs.Events.{Entry, History}

@@ -2,8 +2,8 @@
 use Rattle.std.specs.Prelude.{Bool, true, false, ◌&&◌, ◌||◌, not, find, Option}
 use Rattle.std.specs.List.{list_any, list_all}
 use Rattle.name_meaning.specs.Names.{Name}
-use Rattle.log_meaning.specs.Log.{names_of, is_present}
-use Rattle.walk_meaning.specs.Walks.{Dependencies, direct, is_grounded}
+use Rattle.edit_log_meaning.specs.Log.{names_of, is_present}
+use Rattle.module_graph_meaning.specs.Walks.{Dependencies, direct, is_grounded}
 use Rattle.board_meaning.specs.Events.{Event, EditMade, Claim, Install, Stale, Release, Close, Entry, History, library_after}
 use Rattle.board_meaning.specs.Claims.{has_current_claim}
 use Rattle.board_meaning.specs.Standing.{stands}

@@ -2,8 +2,8 @@
 use Rattle.std.specs.Prelude.{◌≡◌, ℕ, suc, Bool, true, false, List, ◌++◌, ◌&&◌, not, drop, slice_get, filter, filter_map, length, Option, Some, None}
 use Rattle.std.specs.List.{list_any}
 use Rattle.name_meaning.specs.Names.{Name, same_name, is_among}
-use Rattle.log_meaning.specs.Log.{Edit, edited_name, names_of}
-use Rattle.walk_meaning.specs.Walks.{Dependencies}
+use Rattle.edit_log_meaning.specs.Log.{Edit, edited_name, names_of}
+use Rattle.module_graph_meaning.specs.Walks.{Dependencies}
 use Rattle.board_meaning.specs.Events.{Event, EditMade, Claim, Install, Stale, Release, Close, Entry, History, edit_in, library_after, version_after}
 use Rattle.board_meaning.specs.Claims.{claim_at, is_claim_of, inputs_of, input_names}
 

@@ -2,7 +2,7 @@
 use Rattle.std.specs.Prelude.{◌≡◌, ℕ, Bool, true, false, List, [], ◌∷◌, ◌+◌, Some, None}
 use Rattle.std.specs.List.{list_all}
 use Rattle.name_meaning.specs.Names.{Name}
-use Rattle.walk_meaning.specs.Subject.{Subject}
+use Rattle.module_graph_meaning.specs.Subject.{Subject}
 use Rattle.board_meaning.specs.Events.{History}
 use Rattle.board_meaning.specs.Machine.{Job, Installed, ClaimCall, InstallCall, ReleaseCall}
 use Rattle.board_meaning.specs.Points.{Makes, AsksClosed, ClaimReply, InstallReply, ClosedReply, NoReply, Happens, FindsNoMemory}

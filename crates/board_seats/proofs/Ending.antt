@@ -1,8 +1,8 @@
 -- Jobs that a pass may end: the job that a claim hands out, and such a job at the point of a later call.
 use Rattle.std.proofs.Common.{◌≡◌, ℕ, ◌++◌, take, length, Option, Some, None, option_and_then, option_to_list, refl, sym, ap, ◌∙◌, subst, arith}
 use Rattle.name_meaning.specs.Names.{Name}
-use Rattle.log_meaning.specs.Log.{Library}
-use Rattle.walk_meaning.specs.Subject.{Subject}
+use Rattle.edit_log_meaning.specs.Log.{Library}
+use Rattle.module_graph_meaning.specs.Subject.{Subject}
 use Rattle.list_laws.proofs.Places.{take_front, take_length}
 use Rattle.turn_meaning.specs.Passes.{Pass, Takes}
 use Rattle.board_meaning.specs.Events.{Entry, History, library_after}

@@ -1,10 +1,10 @@
 -- Calls of the board that may find no memory, from what they returned.
 use Rattle.std.proofs.Common.{◌≡◌, ℕ, List, ◌++◌, take, true, false, Option, Some, None, option_map, option_to_list, Result, Ok, Err, IfOk, IfSome, OnOk, OnErr, refl, sym, ap, ◌∙◌, subst, append-nil}
 use Rattle.name_meaning.specs.Names.{Name}
-use Rattle.log_meaning.specs.Log.{Edit}
-use Rattle.log_meaning.specs.Append as log
-use Rattle.walk_meaning.specs.Walks.{Dependencies}
-use Rattle.walk_meaning.specs.Subject.{Subject}
+use Rattle.edit_log_meaning.specs.Log.{Edit}
+use Rattle.edit_log_meaning.specs.Append as log
+use Rattle.module_graph_meaning.specs.Walks.{Dependencies}
+use Rattle.module_graph_meaning.specs.Subject.{Subject}
 use Rattle.turn_meaning.specs.Passes.{Pass, Takes, MayGive, after_turn}
 use Rattle.board_meaning.specs.Events.{Event, Entry, History, library_after, entry_of}
 use Rattle.board_meaning.specs.Machine.{Job, edit_event, edit_reply, claim_reply, report_reply, answers_reply, event_of, Call, EditCall, ClaimCall, may_call, after_call}

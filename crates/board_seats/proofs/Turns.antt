@@ -1,8 +1,8 @@
 -- A call of the board in a turn, as a call through the pass that has the turn.
 use Rattle.std.proofs.Common.{◌≡◌, ℕ, true, false, [], ◌∷◌, ◌++◌, inl, inr, Option, Some, None, option_map, option_to_list, refl, sym, ap, ◌∙◌, subst, append-nil, eq-eqb}
-use Rattle.walk_meaning.specs.Walks.{Dependencies}
-use Rattle.walk_meaning.specs.Subject.{Subject}
-use Rattle.log_meaning.specs.Log.{Edit}
+use Rattle.module_graph_meaning.specs.Walks.{Dependencies}
+use Rattle.module_graph_meaning.specs.Subject.{Subject}
+use Rattle.edit_log_meaning.specs.Log.{Edit}
 use Rattle.turn_meaning.specs.Passes.{Pass, Takes, MayGive, after_turn}
 use Rattle.board_meaning.specs.Events.{Event, Entry, History, entry_of}
 use Rattle.board_meaning.specs.Machine.{Call, EditCall, ClaimCall, CloseCall, event_of, may_call, after_call}

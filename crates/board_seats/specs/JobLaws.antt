@@ -1,6 +1,6 @@
 -- Laws of the jobs that a pass may end (this profile).
 use Rattle.std.specs.Prelude.{◌≡◌, ℕ, Bool, false, nat_eq, Option}
-use Rattle.walk_meaning.specs.Subject.{Subject}
+use Rattle.module_graph_meaning.specs.Subject.{Subject}
 use Rattle.turn_meaning.specs.Passes.{Pass, Joins}
 use Rattle.board_meaning.specs.Events.{Entry}
 use Rattle.board_meaning.specs.Machine.{Job, Call, EditCall, ClaimCall, InstallCall, ReleaseCall, CloseCall}

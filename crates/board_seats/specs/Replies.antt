@@ -1,7 +1,7 @@
 -- What the calls of a shared board returned, as replies of the board machine. Where a call found no memory there is none (this profile).
 use Rattle.std.specs.Prelude.{List, Option, Some, None, Result, Ok, Err, option_map}
 use Rattle.name_meaning.specs.Names.{Name}
-use Rattle.log_meaning.specs.Append as log
+use Rattle.edit_log_meaning.specs.Append as log
 use Rattle.board_meaning.specs.Machine as machine
 use Rattle.board_meaning.specs.Points.{Reply, EditReply, ClaimReply, InstallReply, ReportReply, AnswersReply}
 use Rattle.edit_log.specs.Readings.{read_edited}

@@ -1,7 +1,7 @@
 -- What a call through a pass of a shared board is, and which jobs a pass has (this profile).
 use Rattle.std.specs.Prelude.{◌≡◌, ℕ, true, take, Option, Some, None}
-use Rattle.walk_meaning.specs.Subject.{Subject}
-use Rattle.walk_meaning.specs.Walks.{Dependencies}
+use Rattle.module_graph_meaning.specs.Subject.{Subject}
+use Rattle.module_graph_meaning.specs.Walks.{Dependencies}
 use Rattle.turn_meaning.specs.Passes.{Pass}
 use Rattle.board_meaning.specs.Events.{Entry, History, library_after}
 use Rattle.board_meaning.specs.Machine.{Job, job_of, InstallCall, ReleaseCall, may_call}

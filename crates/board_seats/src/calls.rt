@@ -1,6 +1,6 @@
 //! The calls of the board, each in one turn.
 ghost use Rattle.std.specs.Prelude.{◌≡◌, Some, take, IfOk, IfSome};
-ghost use Rattle.log_meaning.specs.Log.{Library};
+ghost use Rattle.edit_log_meaning.specs.Log.{Library};
 ghost use Rattle.turn_meaning.specs.Passes.{IsIdleOf};
 ghost use Rattle.board_meaning.specs.Events.{library_after};
 ghost use Rattle.board_meaning.specs.Machine.{EditCall, ClaimCall, InstallCall, ReleaseCall, CloseCall};

@@ -4,8 +4,8 @@ use Rattle.std.proofs.Common.{◌≡◌, Bool, true, List, [], sym, ap, ◌∙�
 use Rattle.lf_meaning.specs.Terms.{Object, Family}
 use Rattle.lf_meaning.specs.Judgements.{IsTyping}
 use Rattle.name_meaning.specs.Names.{Name, Text}
-use Rattle.log_meaning.specs.Log.{Library}
-use Rattle.walk_meaning.specs.Reach.{reach}
+use Rattle.edit_log_meaning.specs.Log.{Library}
+use Rattle.module_graph_meaning.specs.Reach.{reach}
 use Rattle.library_meaning.specs.Faces.{IsView, theory_face, Environment, theory_of}
 use Rattle.link_laws.proofs.Linked.{known_theory}
 use Rattle.text_meaning.specs.Dependencies.{dependencies}

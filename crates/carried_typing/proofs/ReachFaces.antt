@@ -1,10 +1,10 @@
 -- The faces of a name's reach: they are coherent, and environments in which the same is known of the reach are alike on it.
 use Rattle.std.proofs.Common.{◌≡◌, Bool, true, false, List, is_some, refl, sym, ap, ◌∙◌, true≢false}
 use Rattle.name_meaning.specs.Names.{Name, is_among}
-use Rattle.log_meaning.specs.Log.{Library, is_present}
+use Rattle.edit_log_meaning.specs.Log.{Library, is_present}
 use Rattle.name_laws.proofs.Order.{among_member, member_among}
-use Rattle.walk_meaning.specs.Reach.{reach}
-use Rattle.walk_laws.proofs.Reaching.{reach_first}
+use Rattle.module_graph_meaning.specs.Reach.{reach}
+use Rattle.module_graph_laws.proofs.Reaching.{reach_first}
 use Rattle.library_meaning.specs.Faces.{theory_face, Environment, theory_of}
 use Rattle.library_meaning.specs.Coherence.{IsCoherent}
 use Rattle.text_meaning.specs.Dependencies.{dependencies}

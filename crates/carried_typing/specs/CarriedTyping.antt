@@ -3,8 +3,8 @@ use Rattle.std.specs.Prelude.{◌≡◌, ◌↔◌, true, List, []}
 use Rattle.lf_meaning.specs.Terms.{Object, Family}
 use Rattle.lf_meaning.specs.Judgements.{IsTyping}
 use Rattle.name_meaning.specs.Names.{Name, Text, is_among}
-use Rattle.log_meaning.specs.Log.{Library, is_present}
-use Rattle.walk_meaning.specs.Reach.{reach}
+use Rattle.edit_log_meaning.specs.Log.{Library, is_present}
+use Rattle.module_graph_meaning.specs.Reach.{reach}
 use Rattle.library_meaning.specs.Faces.{Environment, flat_of}
 use Rattle.library_meaning.specs.Coherence.{IsCoherent}
 use Rattle.text_meaning.specs.Dependencies.{dependencies}

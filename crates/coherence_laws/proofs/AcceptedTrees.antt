@@ -1,12 +1,12 @@
 -- What is accepted comes from a text that reads as a tree, which has passed its tests.
 use Rattle.std.proofs.Common.{◌≡◌, ℕ, Bool, true, false, List, length, Some, Ok, Err, refl, sym, ap, ◌∙◌}
 use Rattle.name_meaning.specs.Names.{same_name as same_bytes, Name, Text, is_among}
-use Rattle.log_meaning.specs.Log.{Library, text_of}
+use Rattle.edit_log_meaning.specs.Log.{Library, text_of}
 use Rattle.text_meaning.specs.Trees.{Written, Decl, Module, SigModule, ViewModule, first_name}
 use Rattle.text_meaning.specs.Reading.{ModuleText, ModuleTree, JudgementTree, Answer, Read, Syntax, TooDeep, Unsupported}
 use Rattle.text_meaning.specs.TextAnswers.{read}
 use Rattle.library_meaning.specs.Faces.{TheoryFace, ViewFace, IsTheory, Environment, flat_signature}
-use Rattle.expansion_meaning.specs.Rules.{Rule}
+use Rattle.elaborate_meaning.specs.Rules.{Rule}
 use Rattle.link_meaning.specs.Refusals.{Outcome, demand}
 use Rattle.link_laws.proofs.Covered.{good_same}
 use Rattle.link_laws.proofs.Valued.{demand_holds}
@@ -18,7 +18,7 @@ use Rattle.coherence_laws.proofs.LibrariesHold.{cycle_refuses, verdict_text}
 use Rattle.std.proofs.lemmas.Option.{same_Some}
 use Rattle.name_laws.proofs.Order.{same_sound}
 use Rattle.list_laws.proofs.Answers.{came_by}
-use Rattle.walk_meaning.specs.Walks.{ungrounded_names}
+use Rattle.module_graph_meaning.specs.Walks.{ungrounded_names}
 use Rattle.text_meaning.specs.Dependencies.{dependencies}
 
 -- ---- a module that passes its tests

@@ -6,7 +6,7 @@ use Rattle.lf_meaning.specs.Signatures.{Signature}
 use Rattle.lf_meaning.specs.HeadMaps.{HeadMap}
 use Rattle.link_meaning.specs.Assignments.{Setting, Assigned, read_assigns}
 use Rattle.link_meaning.specs.Passes.{map_all}
-use Rattle.holding_laws.specs.ExpansionHolds.{scope_signature}
+use Rattle.constant_laws.specs.ExpansionHolds.{scope_signature}
 use Rattle.link_laws.proofs.Reading.{assigns_sound}
 use Rattle.link_laws.proofs.Onces.{once_names, hold_append, after_declarations}
 use Rattle.link_laws.proofs.ImagesHold.{SettingHolds}

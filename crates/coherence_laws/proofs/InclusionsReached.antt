@@ -2,11 +2,11 @@
 use Rattle.std.proofs.Common.{◌≡◌, ℕ, zero, suc, true, List, [], ◌∷◌, map, fold, flat_map, length, Option, Some, None, is_some, Ok, inl, inr, ⊎_elim, refl, sym, ap, ◌∙◌, subst, true≢false}
 use Rattle.std.proofs.lemmas.List.Sums.{fold-append}
 use Rattle.name_meaning.specs.Names.{Name, Text}
-use Rattle.log_meaning.specs.Log.{Library, text_of}
+use Rattle.edit_log_meaning.specs.Log.{Library, text_of}
 use Rattle.list_laws.proofs.Members.{Member, in_append, in_map, map_in, in_flat_map, flat_map_in}
 use Rattle.name_laws.proofs.Order.{among_member, member_among}
-use Rattle.walk_meaning.specs.Walks.{of_text, direct, walking}
-use Rattle.walk_laws.proofs.Walking.{present_in, depends_present}
+use Rattle.module_graph_meaning.specs.Walks.{of_text, direct, walking}
+use Rattle.module_graph_laws.proofs.Walking.{present_in, depends_present}
 use Rattle.text_meaning.specs.Trees.{Written, Decl, IncludeDecl, StructDecl, ConstDecl, SigModule, ViewModule, first_name}
 use Rattle.text_meaning.specs.Reading.{ModuleText, ModuleTree, JudgementTree, Answer, Read, Syntax, TooDeep, Unsupported}
 use Rattle.text_meaning.specs.TextAnswers.{read}
@@ -14,7 +14,7 @@ use Rattle.library_meaning.specs.Faces.{TheoryFace, IsTheory, Environment, theor
 use Rattle.library_meaning.specs.Closure.{sees, with_inclusion, closure_of}
 use Rattle.library_laws.specs.ClosureLaws.{Brings}
 use Rattle.library_laws.proofs.ClosureMembers.{closure_member, closure_new, closure_same}
-use Rattle.expansion_meaning.specs.Values.{expand_class}
+use Rattle.elaborate_meaning.specs.Values.{expand_class}
 use Rattle.link_meaning.specs.Refusals.{labelled}
 use Rattle.link_meaning.specs.Passes.{link_map}
 use Rattle.link_laws.proofs.Covered.{good_same}

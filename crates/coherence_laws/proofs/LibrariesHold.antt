@@ -3,19 +3,19 @@ use Rattle.std.proofs.Common.{◌≡◌, ℕ, zero, suc, Bool, true, false, cond
 use Rattle.std.specs.Prelude.{⊤}
 use Rattle.std.proofs.lemmas.Bool.{cases_Bool}
 use Rattle.name_meaning.specs.Names.{same_name as same_bytes, Name, Text, same_name, is_among}
-use Rattle.log_meaning.specs.Log.{Library, text_of, is_present}
+use Rattle.edit_log_meaning.specs.Log.{Library, text_of, is_present}
 use Rattle.list_laws.proofs.Members.{Member, filter_in}
 use Rattle.name_laws.proofs.Order.{member_among, same_sound, same_itself}
-use Rattle.walk_meaning.specs.Walks.{of_text, direct, walking, is_ungrounded, is_grounded, ungrounded_names}
-use Rattle.walk_meaning.specs.Reach.{reach}
-use Rattle.walk_laws.proofs.Walking.{present_in}
-use Rattle.walk_laws.proofs.Reaching.{reach_least}
+use Rattle.module_graph_meaning.specs.Walks.{of_text, direct, walking, is_ungrounded, is_grounded, ungrounded_names}
+use Rattle.module_graph_meaning.specs.Reach.{reach}
+use Rattle.module_graph_laws.proofs.Walking.{present_in}
+use Rattle.module_graph_laws.proofs.Reaching.{reach_least}
 use Rattle.text_meaning.specs.Trees.{Module, SigModule, ViewModule, first_name}
 use Rattle.text_meaning.specs.Reading.{ModuleText, ModuleTree, JudgementTree, Answer, Read, Syntax, TooDeep, Unsupported}
 use Rattle.text_meaning.specs.TextAnswers.{read}
 use Rattle.library_meaning.specs.Faces.{TheoryFace, ViewFace, Known, IsAbsent, IsTheory, IsView, Environment}
 use Rattle.library_meaning.specs.Coherence.{IsCoherentTheory, IsCoherentView, IsCoherent}
-use Rattle.expansion_meaning.specs.Rules.{Rule}
+use Rattle.elaborate_meaning.specs.Rules.{Rule}
 use Rattle.link_meaning.specs.Refusals.{Refusal, Outcome, demand}
 use Rattle.link_laws.proofs.Covered.{good_same}
 use Rattle.link_laws.proofs.Valued.{demand_holds}

@@ -14,8 +14,8 @@ use Rattle.library_meaning.specs.Holding.{ClassHolds, OptionalValueHolds}
 use Rattle.library_meaning.specs.Coherence.{IsCoherentMap, IsCoherentTheory, IsCoherentView, IsCoherent}
 use Rattle.text_meaning.specs.Tokens.{Span}
 use Rattle.text_meaning.specs.Trees.{Expr, Written, Assign, Decl, IncludeDecl, StructDecl, ConstDecl, first_name}
-use Rattle.expansion_meaning.specs.Rules.{Rule}
-use Rattle.expansion_meaning.specs.Values.{expand_class, expand_value}
+use Rattle.elaborate_meaning.specs.Rules.{Rule}
+use Rattle.elaborate_meaning.specs.Values.{expand_class, expand_value}
 use Rattle.link_laws.proofs.Below.ValuesStand.{class_sound, value_sound}
 use Rattle.link_meaning.specs.Refusals.{labelled, each}
 use Rattle.link_meaning.specs.Assignments.{Setting, read_assigns}
@@ -27,9 +27,9 @@ use Rattle.link_laws.proofs.Valued.{demand_holds, label_came}
 use Rattle.link_laws.proofs.Reading.{assigns_sound}
 use Rattle.link_laws.proofs.Linked.{own_named}
 use Rattle.verdict_meaning.specs.Modules.{known_theory as theory_known, module_test, scope_in, is_used, unused_test, declared_value, structure_setting, declare, declare_all, empty_theory, view_setting, checked_view}
-use Rattle.holding_laws.specs.HoldingLaws.{Grows}
-use Rattle.holding_laws.specs.ExpansionHolds.{scope_signature, ScopeHolds}
-use Rattle.holding_laws.proofs.Expanding.{standing_class_holds, standing_value_holds}
+use Rattle.constant_laws.specs.HoldingLaws.{Grows}
+use Rattle.constant_laws.specs.ExpansionHolds.{scope_signature, ScopeHolds}
+use Rattle.constant_laws.proofs.Expanding.{standing_class_holds, standing_value_holds}
 use Rattle.link_laws.proofs.Onces.{Once, once_names, member_grows, HoldAfter}
 use Rattle.link_laws.specs.LinkTargets.{target_of, StructuresHold, HereHolds}
 use Rattle.link_laws.specs.BetweenTheories.{IsBetweenTheories}

@@ -1,7 +1,7 @@
 -- The size that an accepted theory shows is the length of its flat signature.
 use Rattle.std.proofs.Common.{◌≡◌, ℕ, length, ◌++◌, Some, refl, sym, ap, ◌∙◌}
 use Rattle.name_meaning.specs.Names.{Name}
-use Rattle.log_meaning.specs.Log.{Library}
+use Rattle.edit_log_meaning.specs.Log.{Library}
 use Rattle.library_meaning.specs.Faces.{TheoryFace, Environment, flat_signature, flat_of}
 use Rattle.verdict_meaning.specs.Verdicts.{Theory, Accepted}
 use Rattle.verdict_meaning.specs.Rounds.{verdicts, known_of, verdict_of, told_by, known_to}

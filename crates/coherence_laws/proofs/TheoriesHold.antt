@@ -19,8 +19,8 @@ use Rattle.library_laws.proofs.ClosureKept.{inclusion_keeps}
 use Rattle.link_meaning.specs.Assignments.{Setting}
 use Rattle.link_meaning.specs.Induced.{induced, with_structure}
 use Rattle.link_laws.proofs.Linked.{own_named}
-use Rattle.holding_laws.specs.HoldingLaws.{Grows}
-use Rattle.holding_laws.proofs.Declared.{front_grows}
+use Rattle.constant_laws.specs.HoldingLaws.{Grows}
+use Rattle.constant_laws.proofs.Declared.{front_grows}
 use Rattle.link_laws.proofs.Onces.{Once, once_append, once_names, names_once, once_right, member_grows, member_declared, HoldAfter, hold_append, hold_more, after_declarations, own_is_once, closure_once, closure_holds, declarations_from}
 use Rattle.link_laws.proofs.WordsHold.{map_grows, includes_closed, includes_theories, paths_of_theory, absent_is_none}
 use Rattle.link_laws.proofs.ImagesHold.{SettingHolds}

@@ -11,7 +11,7 @@ use Rattle.text_meaning.specs.Trees.{Written, Assign, Decl, first_name}
 use Rattle.link_meaning.specs.Passes.{link_map}
 use Rattle.link_meaning.specs.Induced.{with_structure}
 use Rattle.verdict_meaning.specs.Modules.{scope_in, is_used, with_constant, structure_setting, view_setting, declare, declare_all, empty_theory}
-use Rattle.holding_laws.specs.ExpansionHolds.{ScopeHolds}
+use Rattle.constant_laws.specs.ExpansionHolds.{ScopeHolds}
 use Rattle.link_laws.specs.LinkTargets.{HereHolds}
 
 -- What is known of others is coherent, nothing is known of the theory itself, and it is coherent so far.

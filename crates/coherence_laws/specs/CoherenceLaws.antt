@@ -1,14 +1,14 @@
 -- Laws of coherence (this profile).
 use Rattle.std.specs.Prelude.{◌≡◌, ℕ, true, List, length, Some}
 use Rattle.name_meaning.specs.Names.{Name, is_among}
-use Rattle.log_meaning.specs.Log.{Library, is_present}
+use Rattle.edit_log_meaning.specs.Log.{Library, is_present}
 use Rattle.library_meaning.specs.Faces.{TheoryFace, ViewFace, IsView, Environment, flat_signature, flat_of}
 use Rattle.library_meaning.specs.Coherence.{IsCoherent}
 use Rattle.text_meaning.specs.Dependencies.{dependencies}
 use Rattle.verdict_meaning.specs.Verdicts.{Theory, Accepted}
 use Rattle.verdict_meaning.specs.Rounds.{known_of, others_reached, verdicts, verdict_of, told_by, known_to}
-use Rattle.walk_meaning.specs.Walks.{is_grounded}
-use Rattle.walk_meaning.specs.Reach.{reach}
+use Rattle.module_graph_meaning.specs.Walks.{is_grounded}
+use Rattle.module_graph_meaning.specs.Reach.{reach}
 
 -- The faces of all accepted modules of a library are coherent.
 abbrev pub FacesAreCoherent : Type 0

@@ -2,7 +2,7 @@
 -- closure, and a theory that includes what is absent, refused or a view is not accepted.
 use Rattle.std.specs.Prelude.{◌≡◌, ◌↔◌, true, IsSome}
 use Rattle.name_meaning.specs.Names.{Name}
-use Rattle.log_meaning.specs.Log.{Library}
+use Rattle.edit_log_meaning.specs.Log.{Library}
 use Rattle.library_meaning.specs.Faces.{TheoryFace, IsTheory, theory_of}
 use Rattle.library_meaning.specs.Closure.{sees, closure_of}
 use Rattle.library_meaning.specs.Coherence.{IsClosure}

@@ -10,7 +10,7 @@ use Rattle.text_meaning.specs.Trees.{Written, Assign, first_name}
 use Rattle.link_meaning.specs.Assignments.{Setting, Assigned, read_assigns}
 use Rattle.link_meaning.specs.Passes.{map_all}
 use Rattle.verdict_meaning.specs.Modules.{is_used, structure_setting, view_setting}
-use Rattle.holding_laws.specs.ExpansionHolds.{scope_signature, NamesOnce}
+use Rattle.constant_laws.specs.ExpansionHolds.{scope_signature, NamesOnce}
 use Rattle.coherence_laws.specs.BuildingLaws.{IsBuiltOver}
 
 -- Behind the scope's constants stand those that were induced so far, each name once, over what stands before it; and the map is

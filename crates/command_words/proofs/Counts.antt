@@ -1,7 +1,7 @@
 -- Lists of words of a length that no accepted list has.
 use Rattle.std.proofs.Common.{◌≡◌, ◌≢◌, ℕ, List, [], ◌∷◌, length, map, refl, arith}
 use Rattle.std.specs.Prelude.{None}
-use Rattle.word_list_meaning.specs.WordLists.{generate_of, run_of}
+use Rattle.command_words_meaning.specs.WordLists.{generate_of, run_of}
 
 pub other_count_generate_none : {A : Type 0} (bytes : A → List ℕ) (words : List A) → length words ≢ 3 → generate_of (map bytes words) ≡ None
 other_count_generate_none bytes [] l = refl

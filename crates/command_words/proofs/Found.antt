@@ -2,10 +2,10 @@
 use Rattle.std.proofs.Common.{◌≡◌, ℕ, List, refl, sym, ap, ◌∙◌, arith}
 use Rattle.std.specs.Prelude.{Option, Some, None, MatchOption, IfSome}
 use Rattle.std.specs.Option.{option_map}
-use Rattle.word_list_meaning.specs.WordLists as meant
-use Rattle.word_list_laws.specs.WordLaws.{IsInRange}
-use Rattle.word_list_laws.proofs.Tasks.{tasks_are_in_range}
-use Rattle.word_list_laws.proofs.Workers.{workers_are_bounded}
+use Rattle.command_words_meaning.specs.WordLists as meant
+use Rattle.command_words_laws.specs.WordLaws.{IsInRange}
+use Rattle.command_words_laws.proofs.Tasks.{tasks_are_in_range}
+use Rattle.command_words_laws.proofs.Workers.{workers_are_bounded}
 use Rattle.command_words.specs.declared.task.Task.{Task}
 use Rattle.command_words.specs.declared.task.Task.TheVariants.{Play, CheckFolder, Generate}
 use Rattle.command_words.specs.declared.run.Run.{Run}

@@ -8,7 +8,7 @@ use Rattle.std.proofs.lemmas.Bool.Decides.{nat_tests}
 use Rattle.std.proofs.lemmas.Bool.{and_parts}
 use Rattle.std.proofs.lemmas.Str.Parse.{IsDigitsTest, IsNumeralModel, numerals_by_value, parse_digits}
 use Rattle.printing_meaning.specs.Numbers.{is_digit, is_number}
-use Rattle.word_list_meaning.specs.WordLists.{number_between}
+use Rattle.command_words_meaning.specs.WordLists.{number_between}
 
 -- a word of two bytes or more that does not begin with `0` is a number where all its bytes are digits
 pub number_unled : (word : List ℕ) → 2 ≤ length word → get_or word 0 0 ≢ 48 → list_all is_digit word ≡ is_number word

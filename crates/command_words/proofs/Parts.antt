@@ -6,7 +6,7 @@ use Rattle.std.specs.Prelude.{None, codes}
 use Rattle.std.specs.Str.Pattern.{FindsTextPrefix}
 use Rattle.std.proofs.lemmas.List.{take-map, drop-map, take_min, length-map}
 use Rattle.std.proofs.lemmas.Str.Pattern.{starts_text}
-use Rattle.word_list_meaning.specs.WordLists.{worker_part, with_part, part_in_front, part_at_end}
+use Rattle.command_words_meaning.specs.WordLists.{worker_part, with_part, part_in_front, part_at_end}
 
 -- a word that does not begin with `--workers=` is no worker part
 pub other_word_no_part : (word : List ℕ) → FindsTextPrefix (codes "--workers=") word None → worker_part (word ∷ []) ≡ None

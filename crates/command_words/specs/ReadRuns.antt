@@ -1,6 +1,6 @@
 -- Runs that the code holds, as the definition of accepted lists says them.
 use Rattle.std.specs.Prelude.{◌≤◌, ◌<◌, ◌^◌, ⊤}
-use Rattle.word_list_meaning.specs.WordLists as meant
+use Rattle.command_words_meaning.specs.WordLists as meant
 use Rattle.command_words.specs.declared.task.Task.{Task}
 use Rattle.command_words.specs.declared.task.Task.TheVariants.{Play, CheckFolder, Generate}
 use Rattle.command_words.specs.declared.run.Run.{Run}

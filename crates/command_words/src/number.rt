@@ -2,7 +2,7 @@
 ghost use Rattle.std.specs.Prelude.{◌≡◌};
 ghost use Rattle.std.specs.List.{list_all};
 ghost use Rattle.printing_meaning.specs.Numbers.{is_digit, is_number};
-ghost use Rattle.word_list_meaning.specs.WordLists.{number_between};
+ghost use Rattle.command_words_meaning.specs.WordLists.{number_between};
 
 fn is_digit(byte: u8) -> bool
     ensures { result ≡ is_digit byte }

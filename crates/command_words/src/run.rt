@@ -2,7 +2,7 @@
 ghost use Rattle.std.specs.Prelude.{◌≡◌, ◌∷◌, map, IfSome};
 ghost use Rattle.std.specs.Option.{option_map};
 ghost use Rattle.std.specs.String.{string_bytes};
-ghost use Rattle.word_list_meaning.specs.WordLists as meant;
+ghost use Rattle.command_words_meaning.specs.WordLists as meant;
 ghost use Rattle.command_words.specs.ReadRuns.{read_run, IsWithin};
 
 use crate::task::{Task, task_of};

@@ -1,7 +1,7 @@
 //! The worker part of the words.
 ghost use Rattle.std.specs.Prelude.{◌≡◌, [], ◌∷◌, map};
 ghost use Rattle.std.specs.String.{string_bytes};
-ghost use Rattle.word_list_meaning.specs.WordLists as meant;
+ghost use Rattle.command_words_meaning.specs.WordLists as meant;
 
 use crate::number::number_between;
 

@@ -1,6 +1,6 @@
 //! Refusals of the second pass.
 ghost use Rattle.std.specs.Prelude.{◌≡◌, ◌∷◌, [], ⊤, IfOk};
-ghost use Rattle.expansion_meaning.specs.Rules as rules;
+ghost use Rattle.elaborate_meaning.specs.Rules as rules;
 ghost use Rattle.link_meaning.specs.Refusals.{refused};
 ghost use Rattle.mmt_syntax.specs.Readings.{read_span};
 ghost use Rattle.link_setting.specs.Readings.{read_setting};

@@ -4,10 +4,10 @@ use Rattle.std.specs.Str.{bytes_eq}
 use Rattle.std.proofs.lemmas.Bool.Decides.{nat_tests}
 use Rattle.std.proofs.lemmas.Bool.{or_parts}
 use Rattle.name_meaning.specs.Names.{Name, Text}
-use Rattle.log_meaning.specs.Log.{Edit, Put, Drop, Log, library_of, text_of, is_present, version_of}
+use Rattle.edit_log_meaning.specs.Log.{Edit, Put, Drop, Log, library_of, text_of, is_present, version_of}
 use Rattle.name_meaning.specs.Limits.{text_limit, module_limit, edit_limit, total_limit}
-use Rattle.log_meaning.specs.Append.{Edited, Made, Same, Absent, Full, TooLong, TooMany, size_of, total_size, is_full, is_text, made_unless_full, append_answer, log_after, appended}
-use Rattle.log_laws.proofs.Limits.{made_not_full}
+use Rattle.edit_log_meaning.specs.Append.{Edited, Made, Same, Absent, Full, TooLong, TooMany, size_of, total_size, is_full, is_text, made_unless_full, append_answer, log_after, appended}
+use Rattle.edit_log_laws.proofs.Limits.{made_not_full}
 use Rattle.name_laws.proofs.Order.{same_itself}
 
 taken : {X : Type 0} (b : Bool) (x y : X) → b ≡ true → cond b x y ≡ x

@@ -1,8 +1,8 @@
 -- What the tables of a log keep, where the list of its edits is known.
 use Rattle.std.proofs.Common.{◌≡◌, [], map, refl, sym, ap, ◌∙◌, subst, arith}
 use Rattle.name_meaning.specs.Names.{Name}
-use Rattle.log_meaning.specs.Log.{Log, library_of, stamp_from, stamp_of}
-use Rattle.log_meaning.specs.Append.{total_size, IsWithinLimits}
+use Rattle.edit_log_meaning.specs.Log.{Log, library_of, stamp_from, stamp_of}
+use Rattle.edit_log_meaning.specs.Append.{total_size, IsWithinLimits}
 use Rattle.edit_log.specs.declared.log.Log.TheInside.{Inside}
 use Rattle.edit_log.specs.Readings.{read_edit, read_library}
 use Rattle.edit_log.specs.Keeping.{stamp_in, IsKept}

@@ -2,10 +2,10 @@
 use Rattle.std.proofs.Common.{◌≡◌, ℕ, suc, Bool, true, false, not, cond, List, [], ◌∷◌, ◌++◌, length, Option, Some, unwrap_or, refl, sym, ap, ◌∙◌}
 use Rattle.std.specs.Map.{lookup}
 use Rattle.name_meaning.specs.Names.{Name, Text, same_name, comes_before}
-use Rattle.log_meaning.specs.Log.{Edit, edited_name, Log, Module, names_of, with_module, without_module, text_of, version_of, stamp_of}
+use Rattle.edit_log_meaning.specs.Log.{Edit, edited_name, Log, Module, names_of, with_module, without_module, text_of, version_of, stamp_of}
 use Rattle.name_meaning.specs.Rows.{Rows, row_names, row_of, with_row, without_row}
 use Rattle.name_laws.proofs.Contained.{same_other_way}
-use Rattle.log_laws.proofs.Libraries.{stamp_after_last}
+use Rattle.edit_log_laws.proofs.Libraries.{stamp_after_last}
 use Rattle.edit_log.specs.Readings.{read_library}
 use Rattle.edit_log.specs.Keeping.{stamp_in}
 

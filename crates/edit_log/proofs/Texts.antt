@@ -4,11 +4,11 @@ use Rattle.std.specs.List.{list_all}
 use Rattle.std.proofs.lemmas.Bool.{and_parts}
 use Rattle.std.proofs.lemmas.Bool.Decides.{nat_tests}
 use Rattle.name_meaning.specs.Names.{Name, Text, same_name}
-use Rattle.log_meaning.specs.Log.{Edit, Put, Drop, Log, Library, edited_name, edited, library_of, text_of}
+use Rattle.edit_log_meaning.specs.Log.{Edit, Put, Drop, Log, Library, edited_name, edited, library_of, text_of}
 use Rattle.name_meaning.specs.Limits.{text_limit}
-use Rattle.log_meaning.specs.Append.{is_short}
-use Rattle.log_laws.specs.LogLaws.{left_by}
-use Rattle.log_laws.proofs.Libraries.{text_edited}
+use Rattle.edit_log_meaning.specs.Append.{is_short}
+use Rattle.edit_log_laws.specs.LogLaws.{left_by}
+use Rattle.edit_log_laws.proofs.Libraries.{text_edited}
 
 AllShort : Library → Type 0
 AllShort library = (n : Name) (t : Text) → text_of library n ≡ Some t → length t ≤ text_limit

@@ -2,8 +2,8 @@
 use Rattle.std.specs.Prelude.{◌≡◌, ℕ, List, map, unwrap_or}
 use Rattle.std.specs.Map.{lookup}
 use Rattle.name_meaning.specs.Names.{Name, same_name}
-use Rattle.log_meaning.specs.Log.{library_of, stamp_of}
-use Rattle.log_meaning.specs.Append.{total_size, IsWithinLimits}
+use Rattle.edit_log_meaning.specs.Log.{library_of, stamp_of}
+use Rattle.edit_log_meaning.specs.Append.{total_size, IsWithinLimits}
 use Rattle.edit_log.specs.declared.log.Log.TheInside.{Inside}
 use Rattle.edit_log.specs.Readings.{read_edit, read_library}
 

@@ -1,8 +1,8 @@
 -- What the edits and answers of this crate stand for (this profile).
 use Rattle.std.specs.Prelude.{◌≡◌, ℕ, map, Result, Ok, Err}
 use Rattle.name_meaning.specs.Names.{Name, Text}
-use Rattle.log_meaning.specs.Log as logs
-use Rattle.log_meaning.specs.Append as answers
+use Rattle.edit_log_meaning.specs.Log as logs
+use Rattle.edit_log_meaning.specs.Append as answers
 use Rattle.name_meaning.specs.Rows.{Rows}
 use Rattle.edit_log.specs.declared.edit.Edit.{Edit}
 use Rattle.edit_log.specs.declared.edit.Edit.TheVariants.{Put, Drop}

@@ -1,6 +1,6 @@
 //! What an edit changes in the texts of a library.
 ghost use Rattle.std.specs.Prelude.{◌≡◌, OnErr, OnOk};
-ghost use Rattle.log_meaning.specs.Log.{edited};
+ghost use Rattle.edit_log_meaning.specs.Log.{edited};
 ghost use Rattle.edit_log.specs.Readings.{read_edit, read_library};
 
 use crate::Edit;

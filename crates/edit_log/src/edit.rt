@@ -1,7 +1,7 @@
 //! Edits of a library.
 ghost use Rattle.std.specs.Prelude.{◌≡◌, IfOk};
-ghost use Rattle.log_meaning.specs.Log.{edited_name};
-ghost use Rattle.log_meaning.specs.Append.{size_of};
+ghost use Rattle.edit_log_meaning.specs.Log.{edited_name};
+ghost use Rattle.edit_log_meaning.specs.Append.{size_of};
 ghost use Rattle.edit_log.specs.Readings.{read_edit};
 
 use lf_terms::{Arc, Bytes, Memory, Name};

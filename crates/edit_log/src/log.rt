@@ -1,10 +1,10 @@
 //! The log of the edits made.
 ghost use Rattle.std.specs.Prelude.{◌≡◌, ◌∷◌, ◌++◌, ◌≤◌, [], length, suc, ◌≢◌, Err, IfOk, IfSome, OnErr, OnOk};
 ghost use Rattle.std.specs.Option.{option_copied, option_map};
-ghost use Rattle.log_meaning.specs.Log as logs;
-ghost use Rattle.log_meaning.specs.Log.{library_of, text_of, version_of, stamp_of, edit_at, name_at};
+ghost use Rattle.edit_log_meaning.specs.Log as logs;
+ghost use Rattle.edit_log_meaning.specs.Log.{library_of, text_of, version_of, stamp_of, edit_at, name_at};
 ghost use Rattle.name_meaning.specs.Limits.{text_limit};
-ghost use Rattle.log_meaning.specs.Append.{Made, append_answer, appended, size_of, made_unless_full, IsWithinLimits};
+ghost use Rattle.edit_log_meaning.specs.Append.{Made, append_answer, appended, size_of, made_unless_full, IsWithinLimits};
 ghost use Rattle.edit_log.specs.Readings.{read_edit, IsAnswer};
 ghost use Rattle.edit_log.specs.declared.answers.EditFault.TheVariants.{Memory as WantOfMemory};
 
@@ -39,7 +39,7 @@ pub struct Log {
 
 impl Model for Log {
     ghost use Rattle.std.specs.Prelude.{List, map};
-    ghost use Rattle.log_meaning.specs.Log.{Edit};
+    ghost use Rattle.edit_log_meaning.specs.Log.{Edit};
     ghost use Rattle.edit_log.specs.Readings.{read_edit};
 
     ghost Value = { List Edit };

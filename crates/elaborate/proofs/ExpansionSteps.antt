@@ -11,12 +11,12 @@ use Rattle.library_meaning.specs.Resolution.{Scope}
 use Rattle.text_meaning.specs.Tokens.{Span}
 use Rattle.text_meaning.specs.Trees as trees
 use Rattle.answer_meaning.specs.Answers.{◌>>=◌}
-use Rattle.expansion_meaning.specs.Rules as rules
-use Rattle.expansion_meaning.specs.Answers.{Answer, broken, must}
+use Rattle.elaborate_meaning.specs.Rules as rules
+use Rattle.elaborate_meaning.specs.Answers.{Answer, broken, must}
 use Rattle.lf_meaning.specs.Equality.{same_family}
-use Rattle.expansion_meaning.specs.Locals.{Locals, with_local}
-use Rattle.expansion_meaning.specs.NameHeads.{Level, Objects, Families, name_head}
-use Rattle.expansion_meaning.specs.Expansion.{Product, span_of, lambda_at, object_at, family_at_type, expand_object, expand_head, expand_arguments, expand_family}
+use Rattle.elaborate_meaning.specs.Locals.{Locals, with_local}
+use Rattle.elaborate_meaning.specs.NameHeads.{Level, Objects, Families, name_head}
+use Rattle.elaborate_meaning.specs.Expansion.{Product, span_of, lambda_at, object_at, family_at_type, expand_object, expand_head, expand_arguments, expand_family}
 use Rattle.term_trees.specs.Readings.{read_family, read_object}
 use Rattle.term_trees.proofs.ReadingEquations.{read_family_pi, read_family_at, read_object_lam}
 use Rattle.base_types.specs.declared.qname.QName.{QName}

@@ -10,8 +10,8 @@ use Rattle.lf_meaning.specs.Replacement.{object_of, takes_all}
 use Rattle.translation_meaning.specs.Translation.{object_image, family_image, family_of}
 use Rattle.translation_meaning.specs.Heads as heads
 use Rattle.translation_meaning.specs.Heads.{head_takes, head_takes_all}
-use Rattle.expansion_meaning.specs.NameHeads.{class_head, declared_head}
-use Rattle.expansion_meaning.specs.Expansion as expansion
+use Rattle.elaborate_meaning.specs.NameHeads.{class_head, declared_head}
+use Rattle.elaborate_meaning.specs.Expansion as expansion
 use Rattle.text_meaning.specs.Tokens.{Span}
 use Rattle.term_trees.specs.Readings.{arguments_of, read_arguments, read_class, read_constant, read_declaration, read_family, read_kind, read_object, read_objects, read_value}
 use Rattle.term_trees.specs.declared.fam.Fam.{Fam}
@@ -20,8 +20,8 @@ use Rattle.term_trees.specs.declared.class.Value as code
 use Rattle.term_trees.specs.declared.kind.Kind as code_kind
 use Rattle.term_trees.specs.declared.kind.Kind.TheVariants as kinds
 use Rattle.answer_meaning.specs.Answers.{◌>>=◌}
-use Rattle.expansion_meaning.specs.Answers.{Answer, must}
-use Rattle.expansion_meaning.specs.Rules.{Rule}
+use Rattle.elaborate_meaning.specs.Answers.{Answer, must}
+use Rattle.elaborate_meaning.specs.Rules.{Rule}
 use Rattle.term_trees.specs.declared.obj.Obj.{Obj}
 use Rattle.term_trees.specs.declared.obj.Obj.TheVariants as objs
 use Rattle.term_trees.specs.declared.obj.Head.TheVariants as head

@@ -9,12 +9,12 @@ use Rattle.library_meaning.specs.Resolution.{Scope}
 use Rattle.text_meaning.specs.Tokens.{Span}
 use Rattle.text_meaning.specs.Trees as trees
 use Rattle.answer_meaning.specs.Answers.{◌>>=◌}
-use Rattle.expansion_meaning.specs.Rules as rules
-use Rattle.expansion_meaning.specs.Answers.{Answer, broken, must}
-use Rattle.expansion_meaning.specs.Locals.{Locals, with_local}
-use Rattle.expansion_meaning.specs.NameHeads.{Families}
-use Rattle.expansion_meaning.specs.Expansion.{span_of, expand_object, expand_head, expand_family, expand_kind}
-use Rattle.expansion_meaning.specs.Values.{KindProduct, ends_in_type, lambda_at_kind, expand_family_value}
+use Rattle.elaborate_meaning.specs.Rules as rules
+use Rattle.elaborate_meaning.specs.Answers.{Answer, broken, must}
+use Rattle.elaborate_meaning.specs.Locals.{Locals, with_local}
+use Rattle.elaborate_meaning.specs.NameHeads.{Families}
+use Rattle.elaborate_meaning.specs.Expansion.{span_of, expand_object, expand_head, expand_family, expand_kind}
+use Rattle.elaborate_meaning.specs.Values.{KindProduct, ends_in_type, lambda_at_kind, expand_family_value}
 use Rattle.term_trees.specs.Readings.{read_family, read_kind}
 use Rattle.term_trees.proofs.ReadingEquations.{read_kind_ty, read_kind_pi}
 use Rattle.term_trees.specs.declared.fam.Fam.{Fam}

@@ -13,10 +13,10 @@ use Rattle.translation_meaning.specs.Heads.{head_takes_all}
 use Rattle.library_meaning.specs.Resolution.{Scope, Variables, Resolved, Variable, Declared, Unknown, Ambiguous, resolve, bound_variable, variable_from, is_variable, own_at, qualified, included_at, the_only, or_variable, or_declared}
 use Rattle.text_meaning.specs.Tokens.{Span}
 use Rattle.answer_meaning.specs.Answers.{◌>>=◌}
-use Rattle.expansion_meaning.specs.Rules.{Rule}
-use Rattle.expansion_meaning.specs.Answers.{Fault, must}
-use Rattle.expansion_meaning.specs.Locals.{Local, Locals, context_of, family_at, variables_of, with_local}
-use Rattle.expansion_meaning.specs.NameHeads.{Level, Objects, Families, level_of, same_level, object_head, family_head, declared_head, variable_head, resolved_head, name_head}
+use Rattle.elaborate_meaning.specs.Rules.{Rule}
+use Rattle.elaborate_meaning.specs.Answers.{Fault, must}
+use Rattle.elaborate_meaning.specs.Locals.{Local, Locals, context_of, family_at, variables_of, with_local}
+use Rattle.elaborate_meaning.specs.NameHeads.{Level, Objects, Families, level_of, same_level, object_head, family_head, declared_head, variable_head, resolved_head, name_head}
 use Rattle.mmt_syntax.specs.declared.expr.Binder.{Binder}
 use Rattle.term_trees.specs.Readings.{arguments_of, read_arguments, read_class, read_constant, read_declaration, read_family, read_kind, read_value}
 use Rattle.term_trees.specs.declared.fam.Fam.{Fam}

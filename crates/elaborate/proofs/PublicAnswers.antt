@@ -3,8 +3,8 @@ use Rattle.std.proofs.Common.{◌≡◌, Bool, true, false, [], Result, Ok, Err,
 use Rattle.lf_meaning.specs.Signatures.{Class, FamilyClass, KindClass}
 use Rattle.library_meaning.specs.Resolution.{Scope}
 use Rattle.text_meaning.specs.Trees as trees
-use Rattle.expansion_meaning.specs.Answers.{Answer}
-use Rattle.expansion_meaning.specs.Values.{ends_in_type, class_by, expand_class, built_value, expand_value}
+use Rattle.elaborate_meaning.specs.Answers.{Answer}
+use Rattle.elaborate_meaning.specs.Values.{ends_in_type, class_by, expand_class, built_value, expand_value}
 use Rattle.elaborate.specs.Steps.{class_by_end, class_answer, built_answer, value_answer}
 use Rattle.elaborate.specs.Answers.{BreaksNothing, Expands}
 use Rattle.elaborate.specs.declared.fault.ElabFault.{ElabFault}

@@ -10,7 +10,7 @@ use Rattle.lf_substitution_laws.proofs.Families.{erase_map}
 use Rattle.translation_meaning.specs.Heads.{Head, ObjectHead, FamilyHead, head_takes, head_takes_all, family_takes}
 use Rattle.translation_meaning.specs.Translation.{object_image, family_image, family_of}
 use Rattle.translation_laws.proofs.Spines.{spine_kept}
-use Rattle.expansion_meaning.specs.NameHeads.{class_head}
+use Rattle.elaborate_meaning.specs.NameHeads.{class_head}
 
 -- One argument more.
 pub takes_one_more : (head : Head) (ms : List Object) (m : Object) → head_takes_all head (ms ++ m ∷ []) ≡ head_takes (head_takes_all head ms) m

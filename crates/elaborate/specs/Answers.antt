@@ -1,6 +1,6 @@
 -- What the answers of this crate say, in the words of the definitions.
 use Rattle.std.specs.Prelude.{◌≡◌, Result, Ok, Err, ⊤}
-use Rattle.expansion_meaning.specs.Answers.{Answer}
+use Rattle.elaborate_meaning.specs.Answers.{Answer}
 use Rattle.mmt_syntax.specs.Readings.{read_span}
 use Rattle.mmt_interface.specs.ReadRules.{read_rule}
 use Rattle.translation_meaning.specs.Heads as heads

@@ -4,10 +4,10 @@ use Rattle.std.specs.Option.{option_copied}
 use Rattle.name_meaning.specs.Names.{Name, Path, same_name}
 use Rattle.library_meaning.specs.Resolution as resolution
 use Rattle.text_meaning.specs.Tokens as tokens
-use Rattle.expansion_meaning.specs.Rules.{Rule}
-use Rattle.expansion_meaning.specs.Answers.{Answer, broken, must}
-use Rattle.expansion_meaning.specs.Locals.{Locals, with_local}
-use Rattle.expansion_meaning.specs.NameHeads.{Level, level_of, same_level}
+use Rattle.elaborate_meaning.specs.Rules.{Rule}
+use Rattle.elaborate_meaning.specs.Answers.{Answer, broken, must}
+use Rattle.elaborate_meaning.specs.Locals.{Locals, with_local}
+use Rattle.elaborate_meaning.specs.NameHeads.{Level, level_of, same_level}
 use Rattle.answer_meaning.specs.Answers.{◌>>=◌}
 use Rattle.translation_meaning.specs.Heads.{Head}
 use Rattle.term_trees.specs.Readings.{read_declaration, read_family}

@@ -5,7 +5,7 @@ use Rattle.lf_meaning.specs.Erasure.{erase}
 use Rattle.lf_meaning.specs.Substitution.{substitute_family, substitute_kind}
 use Rattle.translation_meaning.specs.Heads as heads
 use Rattle.translation_meaning.specs.Heads.{head_takes_all}
-use Rattle.expansion_meaning.specs.NameHeads.{declared_head}
+use Rattle.elaborate_meaning.specs.NameHeads.{declared_head}
 use Rattle.term_trees.specs.Readings.{read_arguments, read_declaration, read_family, read_kind}
 use Rattle.term_trees.specs.declared.fam.Fam.{Fam}
 use Rattle.term_trees.specs.declared.kind.Kind as code
@@ -18,7 +18,7 @@ use Rattle.elaborate.specs.declared.heads.Start.TheVariants.{Variable, Constant}
 use Rattle.elaborate.specs.declared.heads.Head.{Head}
 use Rattle.elaborate.specs.declared.heads.Level.{Level}
 use Rattle.elaborate.specs.declared.heads.Level.TheVariants as levels
-use Rattle.expansion_meaning.specs.NameHeads as names
+use Rattle.elaborate_meaning.specs.NameHeads as names
 
 -- The classifier is that of the head.
 abbrev pub Classifies : Classifier → heads.Head → Type 0

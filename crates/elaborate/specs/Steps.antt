@@ -14,12 +14,12 @@ use Rattle.library_meaning.specs.Words.{own_value}
 use Rattle.text_meaning.specs.Tokens.{Span}
 use Rattle.text_meaning.specs.Trees as trees
 use Rattle.answer_meaning.specs.Answers.{◌>>=◌}
-use Rattle.expansion_meaning.specs.Rules.{Rule}
-use Rattle.expansion_meaning.specs.Answers.{Answer, must, or_broken}
-use Rattle.expansion_meaning.specs.Locals.{Locals, variables_of, with_local}
-use Rattle.expansion_meaning.specs.NameHeads.{Objects, Families, same_level}
-use Rattle.expansion_meaning.specs.Expansion.{span_of, domain_of, object_at, family_at_type, expand_object, expand_head, expand_family, expand_kind}
-use Rattle.expansion_meaning.specs.Values.{ends_in_type, class_level, resolved_declaration, family_at_kind, expand_family_value}
+use Rattle.elaborate_meaning.specs.Rules.{Rule}
+use Rattle.elaborate_meaning.specs.Answers.{Answer, must, or_broken}
+use Rattle.elaborate_meaning.specs.Locals.{Locals, variables_of, with_local}
+use Rattle.elaborate_meaning.specs.NameHeads.{Objects, Families, same_level}
+use Rattle.elaborate_meaning.specs.Expansion.{span_of, domain_of, object_at, family_at_type, expand_object, expand_head, expand_family, expand_kind}
+use Rattle.elaborate_meaning.specs.Values.{ends_in_type, class_level, resolved_declaration, family_at_kind, expand_family_value}
 use Rattle.mmt_syntax.specs.Readings.{read_expr}
 use Rattle.mmt_syntax.specs.declared.expr.Expr.{Expr}
 

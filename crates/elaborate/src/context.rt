@@ -2,10 +2,10 @@
 ghost use Rattle.std.specs.Prelude.{◌≡◌, ◌+◌, IfOk, Ok, reverse, slice_get};
 ghost use Rattle.std.specs.Option.{option_copied, option_map};
 ghost use Rattle.library_meaning.specs.Resolution as resolution;
-ghost use Rattle.expansion_meaning.specs.Locals.{context_of, family_at, variables_of, with_local};
-ghost use Rattle.expansion_meaning.specs.NameHeads.{name_head, variable_head};
-ghost use Rattle.expansion_meaning.specs.NameHeads as meant;
-ghost use Rattle.expansion_meaning.specs.Values.{resolved_declaration};
+ghost use Rattle.elaborate_meaning.specs.Locals.{context_of, family_at, variables_of, with_local};
+ghost use Rattle.elaborate_meaning.specs.NameHeads.{name_head, variable_head};
+ghost use Rattle.elaborate_meaning.specs.NameHeads as meant;
+ghost use Rattle.elaborate_meaning.specs.Values.{resolved_declaration};
 ghost use Rattle.term_trees.specs.Readings.{read_declaration, read_family};
 ghost use Rattle.mmt_syntax.specs.Readings.{read_span};
 ghost use Rattle.names.specs.Readings.{read_locals, read_resolved, read_scope};

@@ -1,8 +1,8 @@
 //! Kinds and classes that written expressions stand for.
 ghost use Rattle.std.specs.Prelude.{◌≡◌};
 ghost use Rattle.std.specs.Option.{option_copied};
-ghost use Rattle.expansion_meaning.specs.Expansion.{expand_kind};
-ghost use Rattle.expansion_meaning.specs.Values as meant;
+ghost use Rattle.elaborate_meaning.specs.Expansion.{expand_kind};
+ghost use Rattle.elaborate_meaning.specs.Values as meant;
 ghost use Rattle.term_trees.specs.Readings.{read_class, read_kind};
 ghost use Rattle.mmt_syntax.specs.Readings.{read_expr};
 ghost use Rattle.elaborate.specs.Contexts.{locals_of, scope_of};

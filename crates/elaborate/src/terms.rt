@@ -2,7 +2,7 @@
 ghost use Rattle.std.specs.Prelude.{◌≡◌};
 ghost use Rattle.std.specs.Option.{option_copied};
 ghost use Rattle.translation_meaning.specs.Heads as meant;
-ghost use Rattle.expansion_meaning.specs.Expansion.{expand_arguments, expand_family, expand_head, expand_object};
+ghost use Rattle.elaborate_meaning.specs.Expansion.{expand_arguments, expand_family, expand_head, expand_object};
 ghost use Rattle.term_trees.specs.Readings.{read_family, read_object};
 ghost use Rattle.mmt_syntax.specs.Readings.{read_arguments, read_binder, read_expr, read_span};
 ghost use Rattle.elaborate.specs.Contexts.{locals_of, scope_of};

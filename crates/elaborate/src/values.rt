@@ -2,8 +2,8 @@
 ghost use Rattle.std.specs.Prelude.{◌≡◌, IfOk};
 ghost use Rattle.lf_meaning.specs.Terms as terms;
 ghost use Rattle.library_meaning.specs.Words as words;
-ghost use Rattle.expansion_meaning.specs.NameHeads.{same_level};
-ghost use Rattle.expansion_meaning.specs.Values.{class_level, expand_family_value};
+ghost use Rattle.elaborate_meaning.specs.NameHeads.{same_level};
+ghost use Rattle.elaborate_meaning.specs.Values.{class_level, expand_family_value};
 ghost use Rattle.term_trees.specs.Readings.{read_class, read_declaration, read_family, read_kind, read_value};
 ghost use Rattle.mmt_syntax.specs.Readings.{read_expr, read_span};
 ghost use Rattle.elaborate.specs.Contexts.{locals_of, scope_of};

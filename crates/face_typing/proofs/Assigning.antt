@@ -17,7 +17,7 @@ use Rattle.link_laws.specs.LinkTargets.{target_of}
 use Rattle.link_laws.proofs.ImagesHold.{SettingHolds}
 use Rattle.link_laws.proofs.AssignedHold.{rest_splits}
 use Rattle.face_typing.proofs.LinkInterface.{SettingTyped}
-use Rattle.row_typing.proofs.WordsTyped.{IsProperTranslation, row_translates}
+use Rattle.morphism_words_typing.proofs.WordsTyped.{IsProperTranslation, row_translates}
 use Rattle.name_laws.proofs.Order.{same_sound, same_itself}
 
 -- ---- beginnings

@@ -5,13 +5,13 @@ use Rattle.lf_meaning.specs.Judgements.{IsSignature}
 use Rattle.translation_meaning.specs.TypedMaps.{IsTypedMap}
 use Rattle.library_meaning.specs.Faces.{TheoryFace, Environment, theory_of, includes_of, own_of, own_parts, flat_of}
 use Rattle.link_laws.proofs.Linked.{known_theory}
-use Rattle.holding_laws.specs.ExpansionHolds.{scope_signature}
+use Rattle.constant_laws.specs.ExpansionHolds.{scope_signature}
 use Rattle.std.proofs.lemmas.Option.{none-some}
 use Rattle.link_laws.proofs.ImagesHold.{whole_scope, between_holds}
 use Rattle.link_laws.proofs.LinksHold.{added_all}
 use Rattle.link_laws.proofs.InducedHold.{nothing_added}
-use Rattle.row_typing.specs.TypedFaces.{IsTypedEnvironment}
-use Rattle.row_typing.specs.TypedLinks.{HereTyped}
+use Rattle.morphism_words_typing.specs.TypedFaces.{IsTypedEnvironment}
+use Rattle.morphism_words_typing.specs.TypedLinks.{HereTyped}
 use Rattle.face_typing.specs.TypedMapsOfLinks.{LinksHaveTypedMaps}
 use Rattle.face_typing.proofs.LinkInterface.{LinksAreTyped}
 

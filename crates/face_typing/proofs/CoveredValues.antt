@@ -26,20 +26,20 @@ use Rattle.link_meaning.specs.Coverings.{is_identity_covering, identity_on}
 use Rattle.link_meaning.specs.Passes.{is_own}
 use Rattle.link_meaning.specs.Equations.{IsCovering, ByIdentity, ByAssignment, CoveringsGive, HasValue, HasValueBy, MeetsEquations}
 use Rattle.link_laws.proofs.Linked.{own_named, own_by, includes_other, included_in, declarations_hold}
-use Rattle.holding_laws.specs.HoldingLaws.{Grows}
-use Rattle.holding_laws.specs.ExpansionHolds.{scope_signature}
-use Rattle.holding_laws.proofs.Translating.{placed_in}
+use Rattle.constant_laws.specs.HoldingLaws.{Grows}
+use Rattle.constant_laws.specs.ExpansionHolds.{scope_signature}
+use Rattle.constant_laws.proofs.Translating.{placed_in}
 use Rattle.link_laws.specs.LinkTargets.{target_of}
 use Rattle.link_laws.proofs.Onces.{Once, declaration_member, member_declared, own_is_once}
 use Rattle.link_laws.proofs.WordsHold.{flat_once, includes_closed, includes_theories, included_members}
 use Rattle.link_laws.proofs.ImagesHold.{SettingHolds, identity_grows, valued}
 use Rattle.face_typing.proofs.LinkInterface.{SettingTyped}
-use Rattle.row_typing.proofs.Grown.{fits_more}
-use Rattle.row_typing.proofs.WordsTyped.{flat_typed}
-use Rattle.row_typing.proofs.SameValues.{SameAt, classes_same, values_same}
-use Rattle.row_typing.proofs.Identity.{identity_image, identity_typed}
-use Rattle.row_typing.proofs.SharedParts.{spreads}
-use Rattle.row_typing.proofs.ProperImages.{value_proper, images_proper}
+use Rattle.morphism_words_typing.proofs.Grown.{fits_more}
+use Rattle.morphism_words_typing.proofs.WordsTyped.{flat_typed}
+use Rattle.morphism_words_typing.proofs.SameValues.{SameAt, classes_same, values_same}
+use Rattle.morphism_words_typing.proofs.Identity.{identity_image, identity_typed}
+use Rattle.morphism_words_typing.proofs.SharedParts.{spreads}
+use Rattle.morphism_words_typing.proofs.ProperImages.{value_proper, images_proper}
 use Rattle.face_typing.proofs.Assigning.{ItemTyped}
 use Rattle.std.proofs.lemmas.Option.{same_Some}
 use Rattle.lf_term_laws.proofs.Declarations.{undefined_is}

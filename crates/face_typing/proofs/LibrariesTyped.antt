@@ -4,14 +4,14 @@ use Rattle.std.specs.Prelude.{⊤}
 use Rattle.lf_meaning.specs.Judgements.{IsSignature}
 use Rattle.name_meaning.specs.Names.{same_name as same_bytes, Name, Text, is_among}
 use Rattle.lf_typing.proofs.Growing.{empty_signature}
-use Rattle.log_meaning.specs.Log.{Library, text_of}
+use Rattle.edit_log_meaning.specs.Log.{Library, text_of}
 use Rattle.translation_typing.proofs.Laws.{typing_is_carried}
 use Rattle.library_meaning.specs.Faces.{TheoryFace, ViewFace, IsAbsent, IsTheory, IsView, Environment, theory_of, includes_of, own_of, own_parts, flat_signature, flat_of}
 use Rattle.library_meaning.specs.Coherence.{IsCoherent}
 use Rattle.text_meaning.specs.Trees.{Module, SigModule, ViewModule, first_name}
 use Rattle.text_meaning.specs.Reading.{ModuleText, ModuleTree, JudgementTree, Answer, Read, Syntax, TooDeep, Unsupported}
 use Rattle.text_meaning.specs.TextAnswers.{read}
-use Rattle.expansion_meaning.specs.Rules.{Rule}
+use Rattle.elaborate_meaning.specs.Rules.{Rule}
 use Rattle.link_meaning.specs.Refusals.{Outcome, demand}
 use Rattle.link_laws.proofs.Covered.{good_same}
 use Rattle.link_laws.proofs.Valued.{demand_holds}
@@ -36,7 +36,7 @@ use Rattle.face_typing.proofs.Below.ProperImages.{images_proper}
 use Rattle.std.proofs.lemmas.Option.{same_Some}
 use Rattle.name_laws.proofs.Order.{same_sound}
 use Rattle.list_laws.proofs.Answers.{came_by}
-use Rattle.walk_meaning.specs.Walks.{ungrounded_names}
+use Rattle.module_graph_meaning.specs.Walks.{ungrounded_names}
 use Rattle.translation_typing.proofs.Proper.{proper_atomic_over}
 
 -- ---- one module

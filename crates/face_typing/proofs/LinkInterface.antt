@@ -7,11 +7,11 @@ use Rattle.library_meaning.specs.Faces.{theory_of, includes_of, own_parts, flat_
 use Rattle.text_meaning.specs.Trees.{Assign}
 use Rattle.link_meaning.specs.Assignments.{Setting}
 use Rattle.link_meaning.specs.Passes.{link_map}
-use Rattle.holding_laws.specs.ExpansionHolds.{scope_signature}
+use Rattle.constant_laws.specs.ExpansionHolds.{scope_signature}
 use Rattle.link_laws.proofs.ImagesHold.{SettingHolds}
 use Rattle.link_laws.proofs.LinksHold.{added_all}
-use Rattle.row_typing.specs.TypedFaces.{HaveFittingImages, IsTypedEnvironment}
-use Rattle.row_typing.specs.TypedLinks.{HereTyped}
+use Rattle.morphism_words_typing.specs.TypedFaces.{HaveFittingImages, IsTypedEnvironment}
+use Rattle.morphism_words_typing.specs.TypedLinks.{HereTyped}
 
 -- what is known where a link is checked
 pub record SettingTyped (setting : Setting) : Type 0 where

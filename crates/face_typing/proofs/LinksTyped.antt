@@ -14,7 +14,7 @@ use Rattle.translation_typing.specs.TypedTranslation.{IsTypedTranslation}
 use Rattle.translation_typing.proofs.Laws.{class_carried, value_carried}
 use Rattle.library_meaning.specs.Faces.{own_part, own_parts, flat_of}
 use Rattle.library_meaning.specs.Coherence.{declared_names, mapped_names, IsCoherentMap}
-use Rattle.expansion_typing.proofs.Expanding.{DeclaredTyped, value_fits}
+use Rattle.elaborate_typing.proofs.Expanding.{DeclaredTyped, value_fits}
 use Rattle.link_meaning.specs.Refusals.{each}
 use Rattle.link_meaning.specs.Assignments.{Setting, included_theories, Assigned, read_assigns}
 use Rattle.link_meaning.specs.Coverings.{covered_tests}
@@ -24,18 +24,18 @@ use Rattle.link_meaning.specs.Induced.{defined_by, induced_with}
 use Rattle.link_laws.proofs.Covered.{good_same}
 use Rattle.link_laws.proofs.Reading.{assigns_sound}
 use Rattle.link_laws.proofs.Linked.{own_named, passes_sound}
-use Rattle.holding_laws.specs.HoldingLaws.{Grows}
-use Rattle.holding_laws.specs.ExpansionHolds.{scope_signature}
-use Rattle.holding_laws.proofs.Declared.{front_grows, take_grows, class_in}
-use Rattle.holding_laws.proofs.Translating.{placed_in}
+use Rattle.constant_laws.specs.HoldingLaws.{Grows}
+use Rattle.constant_laws.specs.ExpansionHolds.{scope_signature}
+use Rattle.constant_laws.proofs.Declared.{front_grows, take_grows, class_in}
+use Rattle.constant_laws.proofs.Translating.{placed_in}
 use Rattle.link_laws.proofs.Onces.{Once, once_left, once_names, member_declared}
 use Rattle.link_laws.proofs.ImagesHold.{SettingHolds}
 use Rattle.link_laws.proofs.AssignedHold.{ReachedHolds, reached_holds, rest_splits, items_hold}
 use Rattle.link_laws.proofs.LinksHold.{added_by, added, added_all, map_holds, undefined_itself}
-use Rattle.row_typing.specs.TypedFaces.{HaveFittingImages}
+use Rattle.morphism_words_typing.specs.TypedFaces.{HaveFittingImages}
 use Rattle.face_typing.proofs.LinkInterface.{SettingTyped, LinkTyped, LinksAreTyped}
-use Rattle.row_typing.proofs.Grown.{fits_more, declaration_more}
-use Rattle.row_typing.proofs.Places.{class_declared, typed_more, typed_by_members}
+use Rattle.morphism_words_typing.proofs.Grown.{fits_more, declaration_more}
+use Rattle.morphism_words_typing.proofs.Places.{class_declared, typed_more, typed_by_members}
 use Rattle.face_typing.proofs.Assigning.{ItemTyped, TargetsFree, items_typed, targets_free}
 use Rattle.face_typing.proofs.CoveredValues.{flat_is_once, not_own, proper, ImageAt, image_at, covered_value, included_fits, done_is, declared}
 use Rattle.face_typing.proofs.SharedValues.{definition_keeps, shared_fits}

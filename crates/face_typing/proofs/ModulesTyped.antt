@@ -9,8 +9,8 @@ use Rattle.translation_meaning.specs.TypedMaps.{IsTypedMap}
 use Rattle.library_meaning.specs.Faces.{StructureFace, TheoryFace, ViewFace, IsAbsent, Environment, theory_of, structure_of, own_parts, flat_signature, flat_of}
 use Rattle.library_meaning.specs.Coherence.{IsCoherentTheory, IsCoherent}
 use Rattle.text_meaning.specs.Trees.{Expr, Written, Assign, Decl, IncludeDecl, StructDecl, ConstDecl, first_name}
-use Rattle.expansion_meaning.specs.Values.{expand_class, expand_value}
-use Rattle.expansion_laws.proofs.ValuesStand.{class_sound, value_sound}
+use Rattle.elaborate_meaning.specs.Values.{expand_class, expand_value}
+use Rattle.elaborate_laws.proofs.ValuesStand.{class_sound, value_sound}
 use Rattle.face_typing.specs.Below.TypingOfExpansion.{IsTypedScope}
 use Rattle.face_typing.proofs.Below.Expanding.{standing_class_is_class, standing_value_fits}
 use Rattle.link_meaning.specs.Refusals.{labelled}

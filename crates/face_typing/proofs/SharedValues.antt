@@ -25,18 +25,18 @@ use Rattle.link_meaning.specs.Passes.{ByStructure, reached_by, is_own}
 use Rattle.link_meaning.specs.Equations.{IsDefinition, OwnHasValue, HasValueBy, MeetsEquations}
 use Rattle.link_meaning.specs.Induced.{induced_with}
 use Rattle.link_laws.proofs.Linked.{own_named}
-use Rattle.holding_laws.specs.HoldingLaws.{Grows}
-use Rattle.holding_laws.specs.ExpansionHolds.{scope_signature}
+use Rattle.constant_laws.specs.HoldingLaws.{Grows}
+use Rattle.constant_laws.specs.ExpansionHolds.{scope_signature}
 use Rattle.link_laws.specs.LinkTargets.{target_of}
 use Rattle.link_laws.proofs.Onces.{Once}
 use Rattle.link_laws.proofs.WordsHold.{flat_once, paths_of_theory}
 use Rattle.link_laws.proofs.ImagesHold.{SettingHolds, Source, source_of, valued}
 use Rattle.face_typing.proofs.LinkInterface.{SettingTyped}
-use Rattle.row_typing.proofs.Grown.{fits_more}
-use Rattle.row_typing.proofs.WordsTyped.{flat_typed}
-use Rattle.row_typing.proofs.SameValues.{SameAt, classes_same}
-use Rattle.row_typing.proofs.Places.{copy_at, copies_at, copies_append, copies_next, Split, split_member, image_through, typed_by_members, parts_of, LinkPlaced}
-use Rattle.row_typing.proofs.PlacedLinks.{found, PlacedAs, link_placed}
+use Rattle.morphism_words_typing.proofs.Grown.{fits_more}
+use Rattle.morphism_words_typing.proofs.WordsTyped.{flat_typed}
+use Rattle.morphism_words_typing.proofs.SameValues.{SameAt, classes_same}
+use Rattle.morphism_words_typing.proofs.Places.{copy_at, copies_at, copies_append, copies_next, Split, split_member, image_through, typed_by_members, parts_of, LinkPlaced}
+use Rattle.morphism_words_typing.proofs.PlacedLinks.{found, PlacedAs, link_placed}
 use Rattle.face_typing.proofs.Assigning.{ItemTyped, TargetsFree, reached_behind}
 use Rattle.face_typing.proofs.CoveredValues.{known_as, same_declaration, flat_is_once, reached_member, proper, image_at, done_is}
 use Rattle.std.proofs.lemmas.Option.{same_Some}

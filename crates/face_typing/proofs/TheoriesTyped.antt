@@ -15,8 +15,8 @@ use Rattle.library_laws.proofs.ClosureMembers.{inclusion_old}
 use Rattle.text_meaning.specs.Trees.{Written, first_name}
 use Rattle.link_meaning.specs.Induced.{induced, with_structure}
 use Rattle.verdict_meaning.specs.Modules.{with_constant, structure_setting}
-use Rattle.holding_laws.specs.HoldingLaws.{Grows}
-use Rattle.holding_laws.proofs.Declared.{front_grows}
+use Rattle.constant_laws.specs.HoldingLaws.{Grows}
+use Rattle.constant_laws.proofs.Declared.{front_grows}
 use Rattle.face_typing.proofs.Below.Onces.{Once, once_left, member_grows}
 use Rattle.coherence_laws.proofs.TheoriesHold.{here_once}
 use Rattle.face_typing.specs.Below.TypedFaces.{copies_of, HaveFittingImages, IsPlaced, IsTypedTheory, IsTypedEnvironment}

@@ -13,7 +13,7 @@ use Rattle.library_meaning.specs.Faces.{TheoryFace, Environment, theory_of, incl
 use Rattle.library_meaning.specs.Closure.{sees}
 use Rattle.library_meaning.specs.Coherence.{IsClosure, IsCoherent}
 use Rattle.link_laws.proofs.Linked.{known_theory}
-use Rattle.holding_laws.specs.HoldingLaws.{Grows}
+use Rattle.constant_laws.specs.HoldingLaws.{Grows}
 use Rattle.face_typing.proofs.Below.Onces.{Once, once_left, member_grows, closure_once, parts_joined}
 use Rattle.face_typing.specs.Below.TypedFaces.{HaveFittingImages, IsTypedEnvironment}
 use Rattle.face_typing.proofs.Below.Grown.{fits_more, declaration_more}

@@ -1,6 +1,6 @@
 -- What those above cite of the crates below, which they have from here.
 pub use Rattle.coherence_laws.specs.BuildingLaws
 pub use Rattle.coherence_laws.specs.CoherenceLaws
-pub use Rattle.expansion_typing.specs.TypingOfExpansion
-pub use Rattle.row_typing.specs.TypedFaces
-pub use Rattle.row_typing.specs.TypedLinks
+pub use Rattle.elaborate_typing.specs.TypingOfExpansion
+pub use Rattle.morphism_words_typing.specs.TypedFaces
+pub use Rattle.morphism_words_typing.specs.TypedLinks

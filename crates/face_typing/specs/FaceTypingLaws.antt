@@ -1,7 +1,7 @@
 -- Accepted theories flatten to well-typed signatures; accepted views and structures carry typing (this profile).
 use Rattle.std.specs.Prelude.{◌≡◌, ℕ, true, List, slice_get, Some}
 use Rattle.name_meaning.specs.Names.{Name}
-use Rattle.log_meaning.specs.Log.{Library}
+use Rattle.edit_log_meaning.specs.Log.{Library}
 use Rattle.lf_meaning.specs.Terms.{Object, Family, Context}
 use Rattle.lf_meaning.specs.Judgements.{IsTyping, IsSignature}
 use Rattle.translation_meaning.specs.Translation.{translate_object, translate_family}
@@ -9,7 +9,7 @@ use Rattle.translation_meaning.specs.ProperValues.{ValuesAreProper}
 use Rattle.translation_typing.specs.TypedTranslation.{translate_context, IsTypedTranslation}
 use Rattle.library_meaning.specs.Faces.{StructureFace, TheoryFace, ViewFace, IsTheory, IsView, Environment, flat_signature, flat_of}
 use Rattle.library_meaning.specs.Coherence.{IsCoherent}
-use Rattle.walk_meaning.specs.Walks.{is_grounded}
+use Rattle.module_graph_meaning.specs.Walks.{is_grounded}
 use Rattle.text_meaning.specs.Dependencies.{dependencies}
 use Rattle.verdict_meaning.specs.Rounds.{known_of, verdicts, told_by, known_to}
 use Rattle.coherence_laws.specs.CoherenceLaws.{AreClosed}

@@ -10,7 +10,7 @@ use Rattle.text_meaning.specs.Trees.{Assign}
 use Rattle.link_meaning.specs.Assignments.{Setting}
 use Rattle.link_meaning.specs.Passes.{link_map}
 use Rattle.link_laws.specs.BetweenTheories.{IsBetweenTheories}
-use Rattle.row_typing.specs.TypedFaces.{IsTypedEnvironment}
+use Rattle.morphism_words_typing.specs.TypedFaces.{IsTypedEnvironment}
 
 -- Where all that is known is coherent and well typed, and the passes over the assignments of a link between known theories
 -- answer a map, it is typed.

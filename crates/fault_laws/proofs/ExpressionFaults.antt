@@ -8,12 +8,12 @@ use Rattle.translation_meaning.specs.Heads.{Head, ObjectHead, FamilyHead}
 use Rattle.library_meaning.specs.Resolution.{Scope, Resolved, Variable, Declared, Unknown, Ambiguous, resolve}
 use Rattle.text_meaning.specs.Tokens.{Span}
 use Rattle.text_meaning.specs.Trees.{Expr, TypeExpr, NameExpr, AppExpr, PiExpr, LamExpr, TypedLamExpr, ArrowExpr, BackExpr, Exprs, NoArgs, ThenArg}
-use Rattle.expansion_meaning.specs.Rules.{Rule}
-use Rattle.expansion_meaning.specs.Answers.{Answer, must, or_broken}
-use Rattle.expansion_meaning.specs.Locals.{Locals, with_local, variables_of, family_at}
-use Rattle.expansion_meaning.specs.NameHeads.{Level, Objects, Families, level_of, same_level, variable_head, resolved_head, name_head}
-use Rattle.expansion_meaning.specs.Expansion.{span_of, lambda_at, domain_of, object_at, family_at_type, expand_object, expand_head, expand_arguments, expand_family, expand_kind}
-use Rattle.expansion_meaning.specs.Values.{ends_in_type, class_by, expand_class, lambda_at_kind, family_at_kind, expand_family_value, class_level, resolved_declaration, named_value, built_value, expand_value}
+use Rattle.elaborate_meaning.specs.Rules.{Rule}
+use Rattle.elaborate_meaning.specs.Answers.{Answer, must, or_broken}
+use Rattle.elaborate_meaning.specs.Locals.{Locals, with_local, variables_of, family_at}
+use Rattle.elaborate_meaning.specs.NameHeads.{Level, Objects, Families, level_of, same_level, variable_head, resolved_head, name_head}
+use Rattle.elaborate_meaning.specs.Expansion.{span_of, lambda_at, domain_of, object_at, family_at_type, expand_object, expand_head, expand_arguments, expand_family, expand_kind}
+use Rattle.elaborate_meaning.specs.Values.{ends_in_type, class_by, expand_class, lambda_at_kind, family_at_kind, expand_family_value, class_level, resolved_declaration, named_value, built_value, expand_value}
 use Rattle.span_meaning.specs.Spans.{ExprStands, ExprsStand}
 use Rattle.fault_laws.specs.RulesBroken.{expression_rules, Tells}
 use Rattle.fault_laws.proofs.Telling.{tells_then, tells_test, tells_there}

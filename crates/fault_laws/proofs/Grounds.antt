@@ -5,15 +5,15 @@ use Rattle.std.proofs.lemmas.Bool.{and_from, and_parts}
 use Rattle.name_meaning.specs.Names.{Name, Text, same_name, is_among}
 use Rattle.name_laws.proofs.Order.{among_member, member_among, same_sound}
 use Rattle.list_laws.proofs.Members.{Member, filter_in}
-use Rattle.log_meaning.specs.Log.{Library, text_of, is_present}
-use Rattle.walk_meaning.specs.Walks.{direct, ungrounded_names, is_ungrounded, is_grounded}
-use Rattle.walk_meaning.specs.Reach.{reach}
-use Rattle.walk_laws.proofs.Walking.{ungrounded_dependency, grounded_dependency}
-use Rattle.walk_laws.proofs.Reaching.{reach_closed, reach_first}
-use Rattle.walk_laws.proofs.Agreement.{direct_same}
-use Rattle.walk_laws.proofs.Graphs.{left_ungrounded}
+use Rattle.edit_log_meaning.specs.Log.{Library, text_of, is_present}
+use Rattle.module_graph_meaning.specs.Walks.{direct, ungrounded_names, is_ungrounded, is_grounded}
+use Rattle.module_graph_meaning.specs.Reach.{reach}
+use Rattle.module_graph_laws.proofs.Walking.{ungrounded_dependency, grounded_dependency}
+use Rattle.module_graph_laws.proofs.Reaching.{reach_closed, reach_first}
+use Rattle.module_graph_laws.proofs.Agreement.{direct_same}
+use Rattle.module_graph_laws.proofs.Graphs.{left_ungrounded}
 use Rattle.text_meaning.specs.Dependencies.{dependencies}
-use Rattle.expansion_meaning.specs.Rules.{Rule}
+use Rattle.elaborate_meaning.specs.Rules.{Rule}
 use Rattle.link_meaning.specs.Refusals.{Refusal}
 use Rattle.verdict_meaning.specs.Verdicts.{Verdict, Refused, judge}
 use Rattle.verdict_meaning.specs.Rounds.{others_reached, verdict_of, known_to}

@@ -15,9 +15,9 @@ use Rattle.library_meaning.specs.Resolution.{own_at}
 use Rattle.library_meaning.specs.Words.{Link, UnknownModule, RefusedModule, WrongKind, UnknownStructure, EndsApart, RowMeaning, RowMeans, RowFaulty, row_meaning}
 use Rattle.text_meaning.specs.Tokens.{Span}
 use Rattle.text_meaning.specs.Trees.{Expr, Written, Assign, IncludeAssign, StructAssign, ConstAssign}
-use Rattle.expansion_meaning.specs.Rules.{Rule}
-use Rattle.expansion_meaning.specs.Expansion.{span_of}
-use Rattle.expansion_meaning.specs.Values.{expand_value}
+use Rattle.elaborate_meaning.specs.Rules.{Rule}
+use Rattle.elaborate_meaning.specs.Expansion.{span_of}
+use Rattle.elaborate_meaning.specs.Values.{expand_value}
 use Rattle.link_meaning.specs.Refusals.{Outcome, labelled, demand, or_refused, each}
 use Rattle.link_meaning.specs.Assignments.{Setting, is_or_includes, included_theories, Assigned, Covering, Sharing, Giving, label_along, word_place, or_word_fault, paths_of, link_of, structure_at, covering_ends, sharing_ends, is_free, read_assign, with_target, read_assigns}
 use Rattle.link_meaning.specs.Coverings.{Cover, cover_if, cover_by, covers_of, first_covering, disagrees, none_disagrees, covered_test, covered_tests, covered_value}

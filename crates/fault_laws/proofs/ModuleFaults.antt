@@ -11,8 +11,8 @@ use Rattle.text_meaning.specs.Trees.{Expr, Written, Assign, IncludeAssign, Struc
 use Rattle.text_meaning.specs.Reading.{ModuleText, ModuleTree, JudgementTree, Answer, Read, Syntax, TooDeep, Unsupported}
 use Rattle.text_meaning.specs.TextAnswers.{read}
 use Rattle.text_meaning.specs.Dependencies.{Dependency, is_own_word, unless_own, at_written, word_dependencies, assign_dependencies, decl_dependencies, module_dependencies}
-use Rattle.expansion_meaning.specs.Rules.{Rule}
-use Rattle.expansion_meaning.specs.Values.{expand_class, expand_value}
+use Rattle.elaborate_meaning.specs.Rules.{Rule}
+use Rattle.elaborate_meaning.specs.Values.{expand_class, expand_value}
 use Rattle.link_meaning.specs.Refusals.{Refusal, Outcome, labelled, demand}
 use Rattle.link_meaning.specs.Passes.{link_map}
 use Rattle.verdict_meaning.specs.Modules.{known_theory, module_test, scope_in, is_used, unused_test, declared_value, structure_setting, declare, declare_all, empty_theory, view_setting, checked_view}

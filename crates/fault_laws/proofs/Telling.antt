@@ -4,8 +4,8 @@ use Rattle.std.specs.Prelude.{⊤}
 use Rattle.name_meaning.specs.Names.{Path}
 use Rattle.list_laws.proofs.Members.{Member, any_found, any_of, append_left}
 use Rattle.text_meaning.specs.Tokens.{Span}
-use Rattle.expansion_meaning.specs.Rules.{Rule, number_of}
-use Rattle.expansion_meaning.specs.Answers.{Answer, must, or_broken}
+use Rattle.elaborate_meaning.specs.Rules.{Rule, number_of}
+use Rattle.elaborate_meaning.specs.Answers.{Answer, must, or_broken}
 use Rattle.answer_meaning.specs.Answers.{◌>>=◌}
 use Rattle.link_meaning.specs.Refusals.{Outcome, labelled, demand, or_refused, each}
 use Rattle.fault_laws.specs.RulesBroken.{IsOneOf, Tells, Refuses}

@@ -3,16 +3,16 @@ use Rattle.std.specs.Prelude.{◌≡◌, ◌↔◌, ℕ, Bool, true, List, lengt
 use Rattle.name_meaning.specs.Names.{Name, Text, is_among}
 use Rattle.lf_meaning.specs.Terms.{Family}
 use Rattle.lf_meaning.specs.Signatures.{Class}
-use Rattle.log_meaning.specs.Log.{Library, text_of}
-use Rattle.walk_meaning.specs.Walks.{is_grounded, is_ungrounded}
+use Rattle.edit_log_meaning.specs.Log.{Library, text_of}
+use Rattle.module_graph_meaning.specs.Walks.{is_grounded, is_ungrounded}
 use Rattle.library_meaning.specs.Faces.{TheoryFace, Environment}
 use Rattle.library_meaning.specs.Resolution.{Scope}
 use Rattle.text_meaning.specs.Trees.{Expr, Assign, Decl}
 use Rattle.text_meaning.specs.Dependencies.{dependencies}
-use Rattle.expansion_meaning.specs.Rules.{Rule}
-use Rattle.expansion_meaning.specs.Locals.{Locals}
-use Rattle.expansion_meaning.specs.Expansion.{expand_object, expand_family, expand_kind}
-use Rattle.expansion_meaning.specs.Values.{expand_class, expand_value}
+use Rattle.elaborate_meaning.specs.Rules.{Rule}
+use Rattle.elaborate_meaning.specs.Locals.{Locals}
+use Rattle.elaborate_meaning.specs.Expansion.{expand_object, expand_family, expand_kind}
+use Rattle.elaborate_meaning.specs.Values.{expand_class, expand_value}
 use Rattle.link_meaning.specs.Refusals.{Refusal}
 use Rattle.link_meaning.specs.Assignments.{Setting}
 use Rattle.link_meaning.specs.Passes.{link_map}

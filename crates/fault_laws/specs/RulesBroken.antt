@@ -3,8 +3,8 @@ use Rattle.std.specs.Prelude.{◌≡◌, true, List, [], ◌∷◌, ◌++◌, Op
 use Rattle.std.specs.List.{list_any}
 use Rattle.name_meaning.specs.Names.{Name}
 use Rattle.text_meaning.specs.Tokens.{Span}
-use Rattle.expansion_meaning.specs.Rules.{Rule, number_of}
-use Rattle.expansion_meaning.specs.Answers.{Answer}
+use Rattle.elaborate_meaning.specs.Rules.{Rule, number_of}
+use Rattle.elaborate_meaning.specs.Answers.{Answer}
 use Rattle.link_meaning.specs.Refusals.{Outcome}
 
 -- The rule is one of these.

@@ -2,9 +2,9 @@
 use Rattle.std.proofs.Common.{◌≡◌, ◌≤◌, ℕ, suc, [], ◌++◌, length, take, drop, slice_get, Some, ⊎_elim, sym, ap, ◌∙◌, subst}
 use Rattle.std.proofs.lemmas.List.{take_all, take-append-drop}
 use Rattle.list_laws.proofs.Places.{take_more}
-use Rattle.log_meaning.specs.Log.{Edit, Log}
-use Rattle.log_meaning.specs.Append.{appended, appended_all}
-use Rattle.log_laws.proofs.Libraries.{fold_last}
+use Rattle.edit_log_meaning.specs.Log.{Edit, Log}
+use Rattle.edit_log_meaning.specs.Append.{appended, appended_all}
+use Rattle.edit_log_laws.proofs.Libraries.{fold_last}
 use Rattle.text_meaning.specs.Dependencies.{dependencies}
 use Rattle.board_meaning.specs.Events.{History, log_of}
 use Rattle.board_meaning.specs.Legal.{IsLegal}

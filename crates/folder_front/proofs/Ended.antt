@@ -5,8 +5,8 @@ use Rattle.mmt_outside.specs.Bytes.{Taken}
 use Rattle.mmt_outside.specs.Files.{Files}
 use Rattle.mmt_outside.specs.declared.fault.OutFault.{OutFault}
 use Rattle.mmt_outside.specs.declared.fault.OutFault.TheVariants.{Failed, Memory as NoMemory}
-use Rattle.log_meaning.specs.Log.{Log}
-use Rattle.log_meaning.specs.Append.{appended_all}
+use Rattle.edit_log_meaning.specs.Log.{Log}
+use Rattle.edit_log_meaning.specs.Append.{appended_all}
 use Rattle.board_meaning.specs.Events.{History, log_of}
 use Rattle.run_meaning.specs.Files.{load}
 use Rattle.run_meaning.specs.Folders.{folder_parts}

@@ -6,8 +6,8 @@ use Rattle.name_meaning.specs.Names.{Name, Text, same_name}
 use Rattle.name_meaning.specs.Rows.{Rows, row_of, with_row}
 use Rattle.name_laws.proofs.Order.{same_sound}
 use Rattle.name_laws.proofs.Rows.{row_with}
-use Rattle.log_meaning.specs.Log.{Put, Log, library_of, text_of, is_present}
-use Rattle.log_laws.proofs.Libraries.{fold_last, text_last}
+use Rattle.edit_log_meaning.specs.Log.{Put, Log, library_of, text_of, is_present}
+use Rattle.edit_log_laws.proofs.Libraries.{fold_last, text_last}
 use Rattle.run_meaning.specs.Files.{File, Origin}
 use Rattle.run_meaning.specs.Folders.{origin_named}
 use Rattle.mmt_syntax.specs.declared.origin.Origin as shown

@@ -4,7 +4,7 @@ use Rattle.std.specs.Prelude.{IfOk, IfSome, IsErrOf, OnOk}
 use Rattle.mmt_outside.specs.Bytes.{Taken}
 use Rattle.mmt_outside.specs.Faults.{Rose}
 use Rattle.mmt_outside.specs.Files.{Files}
-use Rattle.log_meaning.specs.Log.{Log}
+use Rattle.edit_log_meaning.specs.Log.{Log}
 use Rattle.text_meaning.specs.Dependencies.{dependencies}
 use Rattle.board_meaning.specs.Events.{History, log_of}
 use Rattle.board_meaning.specs.Ready.{is_closed}

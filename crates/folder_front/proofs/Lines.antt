@@ -3,7 +3,7 @@ use Rattle.std.proofs.Common.{◌≡◌, ◌≤◌, ◌+◌, ℕ, true, false, n
 use Rattle.std.proofs.lemmas.List.{length-take}
 use Rattle.std.specs.Prelude.{option_map}
 use Rattle.name_meaning.specs.Names.{Name, Text}
-use Rattle.log_meaning.specs.Log.{Log, library_of, text_of, version_of}
+use Rattle.edit_log_meaning.specs.Log.{Log, library_of, text_of, version_of}
 use Rattle.fault_laws.proofs.Grounds.{verdicts_stand_in_texts}
 use Rattle.verdict_meaning.specs.Verdicts as verdicts
 use Rattle.verdict_meaning.specs.Rounds.{verdict_of}

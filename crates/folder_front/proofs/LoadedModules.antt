@@ -1,7 +1,7 @@
 -- What the files of a folder are loaded to: each edit is made, and each module came from its origin.
 use Rattle.std.proofs.Common.{◌≡◌, ◌-◌, Bool, true, false, cond, List, [], ◌∷◌, ◌++◌, length, fold, nat_lt, Option, Some, None, refl, sym, subst, append_assoc, append-nil, arith}
-use Rattle.log_meaning.specs.Log.{Put, Log}
-use Rattle.log_meaning.specs.Append.{appended}
+use Rattle.edit_log_meaning.specs.Log.{Put, Log}
+use Rattle.edit_log_meaning.specs.Append.{appended}
 use Rattle.name_meaning.specs.Limits.{file_limit}
 use Rattle.text_meaning.specs.Cutting.{lex}
 use Rattle.text_meaning.specs.Splitting.{Piece, Division, Pieces, SyntaxFault, UnsupportedFault}

@@ -1,7 +1,7 @@
 -- Logs of which each edit was made over those before it.
 use Rattle.std.proofs.Common.{◌≡◌, List, [], ◌∷◌, ◌++◌, sym, ap, ◌∙◌, subst, append_assoc, append-nil}
-use Rattle.log_meaning.specs.Log.{Edit, Log}
-use Rattle.log_meaning.specs.Append.{appended, appended_all}
+use Rattle.edit_log_meaning.specs.Log.{Edit, Log}
+use Rattle.edit_log_meaning.specs.Append.{appended, appended_all}
 
 -- Each of these edits is made over the log and the edits before it.
 abbrev pub AreMade : Log → List Edit → Type 0

@@ -6,8 +6,8 @@ use Rattle.std.proofs.lemmas.Grind.{flat_map-append}
 use Rattle.std.proofs.lemmas.Option.{same_Some}
 use Rattle.mmt_outside.specs.Bytes.{Taken, appended, flushed, TookPrefix}
 use Rattle.mmt_outside.proofs.Bytes.{TookPrefix-append}
-use Rattle.log_meaning.specs.Log.{Log}
-use Rattle.log_meaning.specs.Append.{appended_all}
+use Rattle.edit_log_meaning.specs.Log.{Log}
+use Rattle.edit_log_meaning.specs.Append.{appended_all}
 use Rattle.text_meaning.specs.Dependencies.{dependencies}
 use Rattle.board_meaning.specs.Events.{History, log_of}
 use Rattle.run_meaning.specs.Parts.{Part, parts_text, parts_told}

@@ -4,7 +4,7 @@ use Rattle.std.proofs.lemmas.List.{length-map}
 use Rattle.std.proofs.lemmas.Simd.{map-map}
 use Rattle.name_meaning.specs.Names.{Name}
 use Rattle.name_meaning.specs.Rows.{row_of}
-use Rattle.log_meaning.specs.Log.{Log, Module, library_of, names_of, text_of}
+use Rattle.edit_log_meaning.specs.Log.{Log, Module, library_of, names_of, text_of}
 use Rattle.text_meaning.specs.Dependencies.{dependencies}
 use Rattle.printing_meaning.specs.FolderLines.{files_line}
 use Rattle.run_meaning.specs.Parts.{Part, silent_part, part_about}

@@ -5,8 +5,8 @@ use Rattle.std.proofs.lemmas.List.Elements.{filter_map-append}
 use Rattle.std.specs.List.{cons_option}
 use Rattle.name_meaning.specs.Names.{Name}
 use Rattle.list_laws.proofs.Members.{Member, in_append, in_option, member_place, option_first, option_rest, place_member}
-use Rattle.log_meaning.specs.Log.{Log, library_of, version_of}
-use Rattle.walk_meaning.specs.Walks.{is_grounded}
+use Rattle.edit_log_meaning.specs.Log.{Log, library_of, version_of}
+use Rattle.module_graph_meaning.specs.Walks.{is_grounded}
 use Rattle.text_meaning.specs.Dependencies.{dependencies}
 use Rattle.board_meaning.specs.Events.{History, log_of}
 use Rattle.board_meaning.specs.Standing.{IsBacked}

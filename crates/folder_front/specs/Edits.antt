@@ -1,7 +1,7 @@
 -- The first edits of a log, made on a board (this profile).
 use Rattle.std.specs.Prelude.{◌≡◌, [], ◌++◌}
-use Rattle.log_meaning.specs.Log.{Log}
-use Rattle.log_meaning.specs.Append.{appended_all}
+use Rattle.edit_log_meaning.specs.Log.{Log}
+use Rattle.edit_log_meaning.specs.Append.{appended_all}
 use Rattle.text_meaning.specs.Dependencies.{dependencies}
 use Rattle.board_meaning.specs.Events.{History, log_of}
 use Rattle.board_meaning.specs.Legal.{IsLegal}

@@ -2,7 +2,7 @@
 use Rattle.std.specs.Prelude.{ℕ, ◌+◌, Bool, true, false, not, ◌||◌, List, [], ◌∷◌, ◌++◌, length, map, filter, fold, nat_eq, Option, Some, None, if◌then◌else◌}
 use Rattle.name_meaning.specs.Names.{Name, Text}
 use Rattle.name_meaning.specs.Rows.{Rows, row_of, with_row}
-use Rattle.log_meaning.specs.Log.{Log, library_of, names_of, text_of, version_of}
+use Rattle.edit_log_meaning.specs.Log.{Log, library_of, names_of, text_of, version_of}
 use Rattle.text_meaning.specs.Dependencies.{dependencies}
 use Rattle.printing_meaning.specs.Printed.{absent_line}
 use Rattle.printing_meaning.specs.VerdictLines.{judged_line}

@@ -1,6 +1,6 @@
 //! The edits that put the modules of a folder on a board.
 ghost use Rattle.std.specs.Prelude.{◌≡◌, [], IfOk, OnErr};
-ghost use Rattle.log_meaning.specs.Append.{appended_all};
+ghost use Rattle.edit_log_meaning.specs.Append.{appended_all};
 ghost use Rattle.board_seats.specs.Seats.{Keeps};
 ghost use Rattle.board_front.specs.Staying.{IsAtFront, IsFront};
 ghost use Rattle.folder_front.specs.Edits.{MadeFirst};

@@ -1,8 +1,8 @@
 //! The verdict lines of all modules.
 ghost use Rattle.std.specs.Prelude.{◌≡◌, ◌+◌, ◌≤◌, ◌∷◌, [], IfOk, length, map, not};
 ghost use Rattle.name_meaning.specs.Names.{Name};
-ghost use Rattle.log_meaning.specs.Log as logs;
-ghost use Rattle.log_meaning.specs.Log.{library_of, names_of};
+ghost use Rattle.edit_log_meaning.specs.Log as logs;
+ghost use Rattle.edit_log_meaning.specs.Log.{library_of, names_of};
 ghost use Rattle.run_meaning.specs.Folders as meant;
 ghost use Rattle.judged_meaning.specs.JudgingByRules.{rules};
 ghost use Rattle.board_seats.specs.Seats.{Keeps};

@@ -3,13 +3,13 @@ use Rattle.std.proofs.Common.{◌≡◌, ℕ, suc, ◌+◌, Bool, true, false, n
 use Rattle.std.proofs.lemmas.Bool.Decides.{nat_tests}
 use Rattle.name_meaning.specs.Names.{Name, Text, same_name, comes_before}
 use Rattle.name_meaning.specs.Limits.{text_limit, module_limit, edit_limit, total_limit}
-use Rattle.log_meaning.specs.Log.{Put, Log, Module, Library, with_module, library_of, text_of, is_present, version_of}
-use Rattle.log_meaning.specs.Append.{Edited, Made, Same, Absent, Full, TooLong, TooMany, total_size, is_text, made_unless_full, append_answer, log_after, appended}
+use Rattle.edit_log_meaning.specs.Log.{Put, Log, Module, Library, with_module, library_of, text_of, is_present, version_of}
+use Rattle.edit_log_meaning.specs.Append.{Edited, Made, Same, Absent, Full, TooLong, TooMany, total_size, is_text, made_unless_full, append_answer, log_after, appended}
 use Rattle.printing_meaning.specs.FolderLines.{LongFile, DuplicateName, TooManyModules, FullLog}
 use Rattle.run_meaning.specs.Files.{refused_by}
 use Rattle.list_laws.proofs.Options.{none_of}
-use Rattle.log_laws.proofs.Libraries.{library_last, text_last}
-use Rattle.log_laws.proofs.Limits.{made_within, empty_within}
+use Rattle.edit_log_laws.proofs.Libraries.{library_last, text_last}
+use Rattle.edit_log_laws.proofs.Limits.{made_within, empty_within}
 use Rattle.folder_load.specs.Ahead.{word_of, word_by, IsFresh}
 
 -- ---- why a text is refused, by numbers

@@ -8,7 +8,7 @@ use Rattle.run_meaning.specs.Files as meant
 use Rattle.run_meaning.specs.Files.{File, load_file, load, module_files}
 use Rattle.list_laws.proofs.Members.{Member, in_map, place_member}
 use Rattle.list_laws.proofs.Places.{take_more}
-use Rattle.log_laws.proofs.Libraries.{fold_last}
+use Rattle.edit_log_laws.proofs.Libraries.{fold_last}
 use Rattle.folder_load.specs.Shown.{file_of}
 use Rattle.folder_load.specs.Loads.{AreFilesOf, AreModuleNames, LoadsFolder, IsLoadedSoFar, nothing_loaded}
 use Rattle.folder_load.specs.declared.loaded.Loaded.{Loaded}

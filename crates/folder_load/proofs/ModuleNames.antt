@@ -5,7 +5,7 @@ use Rattle.name_meaning.specs.Names.{Name}
 use Rattle.run_meaning.specs.Files.{File, module_files}
 use Rattle.list_laws.proofs.Members.{Member, in_map, map_in}
 use Rattle.list_laws.proofs.Options.{some_of}
-use Rattle.walk_laws.proofs.Reaching.{one_list}
+use Rattle.module_graph_laws.proofs.Reaching.{one_list}
 use Rattle.folder_load.specs.Loads.{AreFilesOf, AreInOrder, AreModuleNames}
 use Rattle.folder_load.proofs.Contained.{member_contains, contains_member}
 use Rattle.folder_load.proofs.FileOrder.{names_of, module_names_ascending, module_file_in, module_name_of}

@@ -5,10 +5,10 @@ use Rattle.std.proofs.lemmas.List.{append-nil}
 use Rattle.name_meaning.specs.Names.{Name, Text, same_name}
 use Rattle.name_meaning.specs.Rows.{row_of, with_row}
 use Rattle.name_laws.proofs.Rows.{row_with}
-use Rattle.log_meaning.specs.Log.{Edit, Put, library_of, is_present}
-use Rattle.log_meaning.specs.Append.{appended, appended_all, total_size}
-use Rattle.log_laws.proofs.Libraries.{fold_last}
-use Rattle.log_laws.proofs.Limits.{total_last}
+use Rattle.edit_log_meaning.specs.Log.{Edit, Put, library_of, is_present}
+use Rattle.edit_log_meaning.specs.Append.{appended, appended_all, total_size}
+use Rattle.edit_log_laws.proofs.Libraries.{fold_last}
+use Rattle.edit_log_laws.proofs.Limits.{total_last}
 use Rattle.edit_log.specs.Readings.{read_edit}
 use Rattle.folder_load.specs.Ahead.{word_of, edits_of, ahead, IsFresh, IsTallied, Follows}
 use Rattle.folder_load.specs.declared.following.Following.{Following}

@@ -3,8 +3,8 @@ use Rattle.std.proofs.Common.{◌≡◌, ℕ, suc, ◌≤◌, List, [], ◌∷�
 use Rattle.std.proofs.lemmas.List.{drop_all, take_all, map-append}
 use Rattle.std.proofs.lemmas.Simd.{map-map}
 use Rattle.list_laws.proofs.Places.{take_more, drop_here}
-use Rattle.log_meaning.specs.Log.{Log}
-use Rattle.log_meaning.specs.Append.{appended}
+use Rattle.edit_log_meaning.specs.Log.{Log}
+use Rattle.edit_log_meaning.specs.Append.{appended}
 use Rattle.text_meaning.specs.Splitting.{Piece}
 use Rattle.printing_meaning.specs.FolderLines as lines
 use Rattle.run_meaning.specs.Files as meant

@@ -3,8 +3,8 @@ use Rattle.std.specs.Prelude.{◌≡◌, ◌≤◌, ◌+◌, ◌||◌, ℕ, Bool
 use Rattle.name_meaning.specs.Limits.{text_limit, module_limit, total_limit}
 use Rattle.name_meaning.specs.Names.{Name, Text}
 use Rattle.name_meaning.specs.Rows.{row_of}
-use Rattle.log_meaning.specs.Log.{Edit, Put, Log, library_of, is_present, version_of}
-use Rattle.log_meaning.specs.Append.{append_answer, appended_all, total_size, IsWithinLimits}
+use Rattle.edit_log_meaning.specs.Log.{Edit, Put, Log, library_of, is_present, version_of}
+use Rattle.edit_log_meaning.specs.Append.{append_answer, appended_all, total_size, IsWithinLimits}
 use Rattle.text_meaning.specs.Splitting.{Piece}
 use Rattle.printing_meaning.specs.FolderLines as lines
 use Rattle.printing_meaning.specs.FolderLines.{LongFile, DuplicateName, TooManyModules, FullLog}

@@ -3,8 +3,8 @@ ghost use Rattle.std.specs.Prelude.{◌≡◌, ◌+◌, ◌<◌, ◌≤◌, ◌^
 ghost use Rattle.std.specs.Option.{option_map};
 ghost use Rattle.name_meaning.specs.Limits.{total_limit};
 ghost use Rattle.name_meaning.specs.Rows.{row_of, with_row};
-ghost use Rattle.log_meaning.specs.Log as logs;
-ghost use Rattle.log_meaning.specs.Log.{library_of, is_present};
+ghost use Rattle.edit_log_meaning.specs.Log as logs;
+ghost use Rattle.edit_log_meaning.specs.Log.{library_of, is_present};
 ghost use Rattle.run_meaning.specs.Files.{name_of, text_in, origin_of, piece_word};
 ghost use Rattle.edit_log.specs.Readings.{read_edit};
 ghost use Rattle.twelf_reader.specs.Division.{read_piece};

@@ -1,6 +1,6 @@
 //! The files of a folder, loaded one after another.
 ghost use Rattle.std.specs.Prelude.{◌≡◌, ◌+◌, ◌++◌, [], List, ℕ, map, OnOk};
-ghost use Rattle.log_meaning.specs.Append.{appended_all};
+ghost use Rattle.edit_log_meaning.specs.Append.{appended_all};
 ghost use Rattle.run_meaning.specs.Files.{load_file};
 ghost use Rattle.run_meaning.specs.Files as meant;
 ghost use Rattle.edit_log.specs.Readings.{read_edit};

@@ -1,9 +1,9 @@
 -- What is asked for, and what is told, behind one later edit more.
 use Rattle.std.proofs.Common.{◌≡◌, ℕ, suc, ◌+◌, ◌≤◌, List, [], ◌∷◌, ◌++◌, length, refl, sym, ap, ◌∙◌, arith, append_assoc, append-nil}
 use Rattle.std.proofs.lemmas.List.{append_cancel_left}
-use Rattle.log_meaning.specs.Log.{Edit, Log, library_of}
-use Rattle.log_meaning.specs.Append.{Edited, Made, Same, Absent, Full, TooLong, TooMany, append_answer, appended, appended_all, log_after}
-use Rattle.walk_meaning.specs.Walks.{Dependencies}
+use Rattle.edit_log_meaning.specs.Log.{Edit, Log, library_of}
+use Rattle.edit_log_meaning.specs.Append.{Edited, Made, Same, Absent, Full, TooLong, TooMany, append_answer, appended, appended_all, log_after}
+use Rattle.module_graph_meaning.specs.Walks.{Dependencies}
 use Rattle.run_meaning.specs.Parts.{Telling, told_of_all}
 use Rattle.run_meaning.specs.Generator.{asked_after, asked_by, first_puts, generated, generator_told, grounded_names, installs_of, later_puts, told_after_each}
 use Rattle.script_reader.proofs.GeneratedPlaces.{later_put}

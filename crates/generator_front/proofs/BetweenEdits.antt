@@ -1,8 +1,8 @@
 -- Every grounded name stands before each edit, where the history goes on with one edit at most and then every grounded name stands.
 use Rattle.std.proofs.Common.{◌≡◌, ◌≤◌, suc, true, [], ◌∷◌, ◌++◌, length, filter_map, Option, Some, None, is_some, refl, sym, ap, subst, arith, append_assoc}
 use Rattle.std.specs.List.{cons_option}
-use Rattle.log_meaning.specs.Log.{Edit, Log, library_of}
-use Rattle.walk_meaning.specs.Walks.{Dependencies, is_grounded}
+use Rattle.edit_log_meaning.specs.Log.{Edit, Log, library_of}
+use Rattle.module_graph_meaning.specs.Walks.{Dependencies, is_grounded}
 use Rattle.board_meaning.specs.Events.{Entry, History, edit_in, log_of}
 use Rattle.board_meaning.specs.Standing.{is_edit_of}
 use Rattle.board_meaning.specs.Legal.{IsLegal}

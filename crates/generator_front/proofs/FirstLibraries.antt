@@ -6,13 +6,13 @@ use Rattle.std.proofs.lemmas.Fmt.{decimal_injective}
 use Rattle.name_meaning.specs.Names.{Name, Text, is_among, same_name}
 use Rattle.name_laws.proofs.Order.{among_member, same_sound}
 use Rattle.list_laws.proofs.Members.{Member}
-use Rattle.log_meaning.specs.Log.{Edit, Log, library_of, text_of}
-use Rattle.log_meaning.specs.Append.{Edited, Made, Same, Absent, Full, TooLong, TooMany, append_answer, appended, appended_all, log_after}
-use Rattle.log_laws.specs.LogLaws.{left_by}
-use Rattle.log_laws.proofs.Libraries.{fold_last, text_last}
-use Rattle.walk_meaning.specs.Walks.{direct, of_text}
-use Rattle.walk_meaning.specs.Reach.{reach}
-use Rattle.walk_laws.proofs.Reaching.{reach_least}
+use Rattle.edit_log_meaning.specs.Log.{Edit, Log, library_of, text_of}
+use Rattle.edit_log_meaning.specs.Append.{Edited, Made, Same, Absent, Full, TooLong, TooMany, append_answer, appended, appended_all, log_after}
+use Rattle.edit_log_laws.specs.LogLaws.{left_by}
+use Rattle.edit_log_laws.proofs.Libraries.{fold_last, text_last}
+use Rattle.module_graph_meaning.specs.Walks.{direct, of_text}
+use Rattle.module_graph_meaning.specs.Reach.{reach}
+use Rattle.module_graph_laws.proofs.Reaching.{reach_least}
 use Rattle.text_meaning.specs.Dependencies.{dependencies}
 use Rattle.board_meaning.specs.Events.{History, library_after, log_of}
 use Rattle.board_meaning.specs.Legal.{IsLegal}

@@ -4,9 +4,9 @@ use Rattle.std.specs.Prelude.{Result, Ok, Err}
 use Rattle.std.specs.Result.{is_err}
 use Rattle.std.proofs.lemmas.List.Sums.{fold-append}
 use Rattle.list_laws.proofs.Places.{take_length, take_more}
-use Rattle.log_meaning.specs.Log.{Edit, Log}
-use Rattle.log_meaning.specs.Append.{appended, appended_all}
-use Rattle.log_laws.proofs.Libraries.{fold_last}
+use Rattle.edit_log_meaning.specs.Log.{Edit, Log}
+use Rattle.edit_log_meaning.specs.Append.{appended, appended_all}
+use Rattle.edit_log_laws.proofs.Libraries.{fold_last}
 use Rattle.board_meaning.specs.Events.{History, log_of}
 use Rattle.board_meaning.specs.Legal.{IsLegal}
 use Rattle.board_laws.proofs.Legality.{legal_empty}

@@ -1,7 +1,7 @@
 -- What the generator leaves stays so where the history goes on without an edit.
 use Rattle.std.proofs.Common.{◌≡◌, ℕ, true, ◌++◌, Result, Ok, Err, IfOk, sym, ap, ◌∙◌, subst, arith}
-use Rattle.log_meaning.specs.Log.{Log, library_of}
-use Rattle.walk_meaning.specs.Walks.{is_grounded}
+use Rattle.edit_log_meaning.specs.Log.{Log, library_of}
+use Rattle.module_graph_meaning.specs.Walks.{is_grounded}
 use Rattle.text_meaning.specs.Dependencies.{dependencies}
 use Rattle.board_meaning.specs.Events.{History, log_of}
 use Rattle.board_meaning.specs.Ready.{is_closed}

@@ -4,10 +4,10 @@ use Rattle.std.proofs.lemmas.Bool.{and_parts}
 use Rattle.std.proofs.lemmas.List.{append_cancel_left}
 use Rattle.std.proofs.Common.{append-nil}
 use Rattle.name_meaning.specs.Names.{Name}
-use Rattle.log_meaning.specs.Log.{Library, Log, is_present, library_of, names_of}
-use Rattle.log_meaning.specs.Append.{appended, appended_all}
-use Rattle.walk_meaning.specs.Walks.{is_grounded, is_ungrounded}
-use Rattle.walk_laws.proofs.Walking.{present_in}
+use Rattle.edit_log_meaning.specs.Log.{Library, Log, is_present, library_of, names_of}
+use Rattle.edit_log_meaning.specs.Append.{appended, appended_all}
+use Rattle.module_graph_meaning.specs.Walks.{is_grounded, is_ungrounded}
+use Rattle.module_graph_laws.proofs.Walking.{present_in}
 use Rattle.text_meaning.specs.Dependencies.{dependencies}
 use Rattle.board_meaning.specs.Events.{History, log_of}
 use Rattle.board_meaning.specs.Legal.{IsLegal}

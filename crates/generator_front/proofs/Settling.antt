@@ -4,8 +4,8 @@ use Rattle.std.proofs.lemmas.Bool.{and_parts, cases_lt}
 use Rattle.std.proofs.lemmas.Option.{slice_get_within}
 use Rattle.name_meaning.specs.Names.{Name}
 use Rattle.list_laws.proofs.Members.{member_place}
-use Rattle.log_meaning.specs.Log.{Log, is_present, library_of, names_of}
-use Rattle.walk_meaning.specs.Walks.{is_ungrounded}
+use Rattle.edit_log_meaning.specs.Log.{Log, is_present, library_of, names_of}
+use Rattle.module_graph_meaning.specs.Walks.{is_ungrounded}
 use Rattle.text_meaning.specs.Dependencies.{dependencies}
 use Rattle.turn_meaning.specs.Passes.{Pass}
 use Rattle.board_meaning.specs.Events.{Entry, History, log_of, library_after}

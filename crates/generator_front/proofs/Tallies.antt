@@ -6,8 +6,8 @@ use Rattle.std.proofs.lemmas.List.Sums.{sum_by-cons}
 use Rattle.name_meaning.specs.Names.{Name}
 use Rattle.list_laws.proofs.Members.{Member, in_append, place_member}
 use Rattle.list_laws.proofs.Places.{drop_here, take_drop, take_more}
-use Rattle.log_meaning.specs.Log.{Log, is_present, library_of, names_of, version_of}
-use Rattle.walk_laws.proofs.Walking.{in_present}
+use Rattle.edit_log_meaning.specs.Log.{Log, is_present, library_of, names_of, version_of}
+use Rattle.module_graph_laws.proofs.Walking.{in_present}
 use Rattle.text_meaning.specs.Dependencies.{dependencies}
 use Rattle.board_meaning.specs.Events.{History, log_of}
 use Rattle.board_meaning.specs.Legal.{IsLegal}

@@ -1,6 +1,6 @@
 //! Every module is brought to a verdict.
 ghost use Rattle.std.specs.Prelude.{◌≡◌, ◌≤◌, IfOk, OnOk, length};
-ghost use Rattle.log_meaning.specs.Log.{library_of, names_of};
+ghost use Rattle.edit_log_meaning.specs.Log.{library_of, names_of};
 ghost use Rattle.text_meaning.specs.Dependencies.{dependencies};
 ghost use Rattle.install_laws.specs.InstallLaws.{AllStand};
 ghost use Rattle.board_seats.specs.Seats.{Keeps};

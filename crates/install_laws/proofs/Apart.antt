@@ -3,11 +3,11 @@ use Rattle.std.proofs.Common.{◌≡◌, ℕ, ◌+◌, Bool, true, false, not, c
 use Rattle.std.specs.List.{cons_option}
 use Rattle.std.proofs.lemmas.Bool.{and_parts}
 use Rattle.name_meaning.specs.Names.{Name, Text, comes_before, is_among, same_name, with_name}
-use Rattle.log_meaning.specs.Log.{Edit, Put, Drop, Log, is_present, library_of, names_of}
-use Rattle.log_laws.proofs.Libraries.{library_last, names_with}
-use Rattle.walk_meaning.specs.Walks.{Dependencies, is_ungrounded}
-use Rattle.walk_meaning.specs.Reach.{reach}
-use Rattle.walk_laws.proofs.Reaching.{reach_first}
+use Rattle.edit_log_meaning.specs.Log.{Edit, Put, Drop, Log, is_present, library_of, names_of}
+use Rattle.edit_log_laws.proofs.Libraries.{library_last, names_with}
+use Rattle.module_graph_meaning.specs.Walks.{Dependencies, is_ungrounded}
+use Rattle.module_graph_meaning.specs.Reach.{reach}
+use Rattle.module_graph_laws.proofs.Reaching.{reach_first}
 use Rattle.name_laws.proofs.Order.{member_among}
 use Rattle.board_meaning.specs.Events.{Event, Entry, History, edit_in, library_after, log_of}
 use Rattle.board_meaning.specs.Standing.{installed_claim, installed_claims, installs, standing_count, stands}

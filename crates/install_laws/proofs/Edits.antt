@@ -2,12 +2,12 @@
 use Rattle.std.proofs.Common.{◌≡◌, suc, ◌+◌, Bool, true, false, not, cond, List, [], ◌∷◌, ◌++◌, ◌&&◌, length, filter, refl, sym, ap, ap₂, ◌∙◌, subst, true≢false, arith}
 use Rattle.std.proofs.lemmas.Bool.{false_from_ne_true}
 use Rattle.name_meaning.specs.Names.{Name, same_name, is_among}
-use Rattle.log_meaning.specs.Log.{Edit, edited_name, Library, names_of, library_of, text_of}
-use Rattle.log_laws.specs.LogLaws.{left_by}
-use Rattle.log_laws.proofs.Libraries.{text_last}
-use Rattle.walk_meaning.specs.Walks.{Dependencies, is_grounded}
-use Rattle.walk_meaning.specs.Reach.{reach, AgreesOn}
-use Rattle.walk_laws.proofs.Agreement.{reach_same, grounded_same}
+use Rattle.edit_log_meaning.specs.Log.{Edit, edited_name, Library, names_of, library_of, text_of}
+use Rattle.edit_log_laws.specs.LogLaws.{left_by}
+use Rattle.edit_log_laws.proofs.Libraries.{text_last}
+use Rattle.module_graph_meaning.specs.Walks.{Dependencies, is_grounded}
+use Rattle.module_graph_meaning.specs.Reach.{reach, AgreesOn}
+use Rattle.module_graph_laws.proofs.Agreement.{reach_same, grounded_same}
 use Rattle.name_laws.proofs.Order.{same_sound}
 use Rattle.board_meaning.specs.Events.{EditMade, Entry, History, edit_of, log_of, library_after}
 use Rattle.board_meaning.specs.Standing.{stands, standing_count}

@@ -2,9 +2,9 @@
 use Rattle.std.proofs.Common.{◌≡◌, ℕ, suc, ◌+◌, Bool, true, false, List, [], ◌∷◌, ◌++◌, length, filter, filter_map, cond, Option, Some, None, is_some, option_to_list, refl, sym, ap, ◌∙◌, subst, true≢false, arith, append_assoc, append-nil}
 use Rattle.std.specs.List.{cons_option, list_any}
 use Rattle.name_meaning.specs.Names.{Name}
-use Rattle.log_meaning.specs.Log.{Edit, edited_name, Log, names_of, library_of}
-use Rattle.log_meaning.specs.Append.{Edited, Made, append_answer, log_after, appended}
-use Rattle.walk_meaning.specs.Walks.{Dependencies}
+use Rattle.edit_log_meaning.specs.Log.{Edit, edited_name, Log, names_of, library_of}
+use Rattle.edit_log_meaning.specs.Append.{Edited, Made, append_answer, log_after, appended}
+use Rattle.module_graph_meaning.specs.Walks.{Dependencies}
 use Rattle.list_laws.proofs.Places.{get_last, take_front, take_length}
 use Rattle.board_meaning.specs.Events.{Event, EditMade, Claim, Install, Stale, Release, Close, Entry, History, edit_of, edit_in, log_of, library_after, version_after}
 use Rattle.board_meaning.specs.Standing.{installed_claim, installed_claims, supports, stands, standing_count, installs}

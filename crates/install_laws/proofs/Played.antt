@@ -4,8 +4,8 @@ use Rattle.std.proofs.lemmas.Option.{same_Some}
 use Rattle.std.proofs.lemmas.Bool.Decides.{nat_tests}
 use Rattle.name_meaning.specs.Names.{Name}
 use Rattle.list_laws.proofs.Members.{Member, in_append, append_left, in_map, in_filter_map, member_place, place_member}
-use Rattle.log_meaning.specs.Log.{Log, names_of, library_of, version_of}
-use Rattle.walk_meaning.specs.Walks.{Dependencies, is_grounded}
+use Rattle.edit_log_meaning.specs.Log.{Log, names_of, library_of, version_of}
+use Rattle.module_graph_meaning.specs.Walks.{Dependencies, is_grounded}
 use Rattle.board_meaning.specs.Events.{History, version_after}
 use Rattle.board_meaning.specs.Standing.{IsBacked}
 use Rattle.board_laws.proofs.Backing.{standing_backed, stays_backed}

@@ -1,8 +1,8 @@
 -- What is told where every grounded name stands.
 use Rattle.std.proofs.Common.{◌≡◌, Bool, true, false, cond, List, ◌++◌, Some, None, refl, subst}
 use Rattle.name_meaning.specs.Names.{Name}
-use Rattle.log_meaning.specs.Log.{names_of}
-use Rattle.walk_meaning.specs.Walks.{Dependencies, is_grounded}
+use Rattle.edit_log_meaning.specs.Log.{names_of}
+use Rattle.module_graph_meaning.specs.Walks.{Dependencies, is_grounded}
 use Rattle.list_laws.proofs.Members.{place_member}
 use Rattle.board_meaning.specs.Events.{History, log_of, library_after, version_after}
 use Rattle.board_meaning.specs.Standing.{IsBacked}

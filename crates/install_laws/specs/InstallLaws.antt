@@ -1,9 +1,9 @@
 -- Laws of how many verdicts are installed (this profile).
 use Rattle.std.specs.Prelude.{◌≡◌, ◌+◌, true, false, List, [], ◌∷◌, ◌++◌, length, is_some}
 use Rattle.name_meaning.specs.Names.{Name, is_among}
-use Rattle.log_meaning.specs.Log.{Edit, Put, Drop, Log, is_present, library_of}
-use Rattle.walk_meaning.specs.Walks.{Dependencies, is_grounded}
-use Rattle.walk_meaning.specs.Reach.{reach}
+use Rattle.edit_log_meaning.specs.Log.{Edit, Put, Drop, Log, is_present, library_of}
+use Rattle.module_graph_meaning.specs.Walks.{Dependencies, is_grounded}
+use Rattle.module_graph_meaning.specs.Reach.{reach}
 use Rattle.board_meaning.specs.Events.{History, edit_in, log_of, library_after}
 use Rattle.board_meaning.specs.Standing.{stands, standing_count, installs}
 use Rattle.board_meaning.specs.Legal.{IsLegal}

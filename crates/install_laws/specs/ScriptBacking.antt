@@ -1,6 +1,6 @@
 -- Laws of histories that back what is told of a script (this profile).
 use Rattle.std.specs.Prelude.{◌≡◌, ℕ, ◌<◌, ◌≤◌, true, List, [], ◌∷◌, ◌++◌, length, slice_get, Some}
-use Rattle.log_meaning.specs.Log.{Log}
+use Rattle.edit_log_meaning.specs.Log.{Log}
 use Rattle.board_meaning.specs.Events.{History, log_of}
 use Rattle.board_meaning.specs.Standing.{stands}
 use Rattle.run_meaning.specs.ScriptCommands.{Command}

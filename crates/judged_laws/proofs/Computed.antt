@@ -3,9 +3,9 @@ use Rattle.std.proofs.Common.{refl}
 use Rattle.std.specs.Str.{is_utf8, chars}
 use Rattle.std.specs.Str.Lossy.{utf8_valid_len}
 use Rattle.name_meaning.specs.Names.{is_among, with_name, with_names, is_ascending}
-use Rattle.log_meaning.specs.Log.{with_module, without_module, text_of, library_of}
-use Rattle.walk_meaning.specs.Walks.{direct, walking, is_ungrounded, ungrounded_names}
-use Rattle.walk_meaning.specs.Reach.{reach_within, reach}
+use Rattle.edit_log_meaning.specs.Log.{with_module, without_module, text_of, library_of}
+use Rattle.module_graph_meaning.specs.Walks.{direct, walking, is_ungrounded, ungrounded_names}
+use Rattle.module_graph_meaning.specs.Reach.{reach_within, reach}
 use Rattle.lf_meaning.specs.HeadMaps.{image_of}
 use Rattle.translation_meaning.specs.Translation.{translate_object, translate_head, translate_family, translate_kind, translate_value, compose}
 use Rattle.translation_meaning.specs.Differ.{differ_from}
@@ -16,9 +16,9 @@ use Rattle.library_meaning.specs.Words.{structures_link, row_from, row_meaning}
 use Rattle.text_meaning.specs.Cutting.{cut_on, lex}
 use Rattle.text_meaning.specs.Parsing.{resume, answer_on, parse}
 use Rattle.text_meaning.specs.TextAnswers.{read}
-use Rattle.expansion_meaning.specs.NameHeads.{name_head}
-use Rattle.expansion_meaning.specs.Expansion.{expand_object, expand_head, expand_arguments, expand_family, expand_kind}
-use Rattle.expansion_meaning.specs.Values.{ends_in_type, expand_class, expand_family_value, expand_value}
+use Rattle.elaborate_meaning.specs.NameHeads.{name_head}
+use Rattle.elaborate_meaning.specs.Expansion.{expand_object, expand_head, expand_arguments, expand_family, expand_kind}
+use Rattle.elaborate_meaning.specs.Values.{ends_in_type, expand_class, expand_family_value, expand_value}
 use Rattle.link_meaning.specs.Assignments.{is_beginning, read_assigns}
 use Rattle.link_meaning.specs.Coverings.{covered_tests}
 use Rattle.link_meaning.specs.Passes.{rest_behind, reached_by, map_all, assigned_map, link_map}
@@ -30,7 +30,7 @@ use Rattle.std.specs.Fmt.{digits}
 use lib.Utf8.{encode}
 use Rattle.printing_meaning.specs.Lines.{lines_of}
 use Rattle.printing_meaning.specs.ScriptLines.{text_before, behind_end}
-use Rattle.log_meaning.specs.Append.{append_answer, appended, appended_all}
+use Rattle.edit_log_meaning.specs.Append.{append_answer, appended, appended_all}
 use Rattle.text_meaning.specs.Dividing.{divide_on, divide}
 use Rattle.printing_meaning.specs.Prefixes.{marks, free_from, prefix_of}
 use Rattle.printing_meaning.specs.Constants.{path_text}

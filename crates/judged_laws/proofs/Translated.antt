@@ -7,10 +7,10 @@ use Rattle.text_meaning.specs.Reading.{JudgementText, ModuleTree, JudgementTree,
 use Rattle.text_meaning.specs.TextAnswers.{read}
 use Rattle.reading_laws.proofs.OneAnswer.{one_reading}
 use Rattle.library_meaning.specs.Faces.{TheoryFace, ViewFace, Known, IsAbsent, IsRefused, IsTheory, IsView, view_face, Environment, theory_of}
-use Rattle.expansion_meaning.specs.Answers as answers
-use Rattle.expansion_meaning.specs.Expansion.{expand_object, expand_family}
-use Rattle.expansion_laws.proofs.Sound.{object_sound, family_sound}
-use Rattle.expansion_laws.proofs.Complete.{object_complete, family_complete}
+use Rattle.elaborate_meaning.specs.Answers as answers
+use Rattle.elaborate_meaning.specs.Expansion.{expand_object, expand_family}
+use Rattle.elaborate_laws.proofs.Sound.{object_sound, family_sound}
+use Rattle.elaborate_laws.proofs.Complete.{object_complete, family_complete}
 use Rattle.verdict_meaning.specs.Modules.{scope_in}
 use Rattle.judged_meaning.specs.Carrying.{CarriedTo, NoSuchView, carried_object, carried_family, carried_over, carried_text, carried_along, carry}
 use Rattle.judged_laws.specs.CarryingLaws.{IsTranslated, CarryIsTranslation, OnlyViewsCarry, ViewsAreFound, UnreadIsIll, FamilyIsIllFirst, ObjectIsIllNext}

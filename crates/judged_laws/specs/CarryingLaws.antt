@@ -7,10 +7,10 @@ use Rattle.text_meaning.specs.Trees.{Judgement}
 use Rattle.text_meaning.specs.Reading.{JudgementText, JudgementTree, Read, Syntax, TooDeep, Unsupported, Reads}
 use Rattle.translation_meaning.specs.Translation.{translate_object, translate_family}
 use Rattle.library_meaning.specs.Faces.{TheoryFace, ViewFace, IsView, Environment, theory_of}
-use Rattle.expansion_meaning.specs.Rules.{Rule}
-use Rattle.expansion_meaning.specs.Answers.{Fault}
-use Rattle.expansion_meaning.specs.Expansion.{expand_object, expand_family}
-use Rattle.expansion_meaning.specs.Stands.{StandsObject, StandsFamily}
+use Rattle.elaborate_meaning.specs.Rules.{Rule}
+use Rattle.elaborate_meaning.specs.Answers.{Fault}
+use Rattle.elaborate_meaning.specs.Expansion.{expand_object, expand_family}
+use Rattle.elaborate_meaning.specs.Stands.{StandsObject, StandsFamily}
 use Rattle.verdict_meaning.specs.Modules.{scope_in}
 use Rattle.judged_meaning.specs.Carrying.{CarriedTo, NoSuchView, IllBy, fault_at, carry}
 

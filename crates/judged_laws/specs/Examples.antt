@@ -1,6 +1,6 @@
 -- Worked cases: whole scripts, a folder and the generator, with the verdicts of the rules.
 use Rattle.std.specs.Prelude.{◌≡◌, ℕ, List, [], ◌∷◌, ◌++◌, codes}
-use Rattle.log_meaning.specs.Log.{library_of}
+use Rattle.edit_log_meaning.specs.Log.{library_of}
 use Rattle.run_meaning.specs.Files.{File}
 use Rattle.run_meaning.specs.Generator.{declarations_of}
 use Rattle.run_meaning.specs.ScriptLogs.{script_log}

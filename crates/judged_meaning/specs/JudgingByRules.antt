@@ -1,7 +1,7 @@
 -- The judging of the rules: that of the verdict of each module over its library (this profile).
 use Rattle.std.specs.Prelude.{[], Option, Some, None}
 use Rattle.name_meaning.specs.Names.{Name, Text}
-use Rattle.log_meaning.specs.Log.{Library}
+use Rattle.edit_log_meaning.specs.Log.{Library}
 use Rattle.verdict_meaning.specs.Below.Refusals as refusals
 use Rattle.verdict_meaning.specs.Below.Rules.{word_of}
 use Rattle.text_meaning.specs.Dependencies.{dependencies}

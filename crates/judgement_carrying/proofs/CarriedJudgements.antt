@@ -3,7 +3,7 @@ use Rattle.std.proofs.Common.{◌≡◌, [], ◌++◌, Some, None, Result, Ok, E
 use Rattle.std.proofs.lemmas.Option.{same_Some}
 use Rattle.name_meaning.specs.Names.{Name, Text}
 use Rattle.name_meaning.specs.Rows.{Rows, row_names}
-use Rattle.log_meaning.specs.Log.{Library}
+use Rattle.edit_log_meaning.specs.Log.{Library}
 use Rattle.lf_meaning.specs.Terms.{Object, Family}
 use Rattle.text_meaning.specs.Trees.{Judgement}
 use Rattle.text_meaning.specs.Reading.{JudgementText, JudgementTree, Answer, Read}
@@ -11,12 +11,12 @@ use Rattle.text_meaning.specs.TextAnswers.{read}
 use Rattle.library_meaning.specs.Faces as faces
 use Rattle.library_meaning.specs.Faces.{Known, IsAbsent, IsRefused, IsTheory, IsView, view_face, Environment, theory_of, view_of, includes_of, own_of, own_parts, flat_signature, flat_of}
 use Rattle.library_meaning.specs.Coherence.{IsCoherentMap, IsCoherentView}
-use Rattle.expansion_meaning.specs.Answers as answers
-use Rattle.expansion_meaning.specs.Expansion.{expand_object, expand_family}
-use Rattle.expansion_laws.proofs.Sound.{object_sound, family_sound}
-use Rattle.holding_laws.specs.ExpansionHolds.{ScopeHolds}
-use Rattle.holding_laws.proofs.Expanding.{standing_object_holds, standing_family_holds}
-use Rattle.holding_laws.proofs.Translating.{coherent_maps_into}
+use Rattle.elaborate_meaning.specs.Answers as answers
+use Rattle.elaborate_meaning.specs.Expansion.{expand_object, expand_family}
+use Rattle.elaborate_laws.proofs.Sound.{object_sound, family_sound}
+use Rattle.constant_laws.specs.ExpansionHolds.{ScopeHolds}
+use Rattle.constant_laws.proofs.Expanding.{standing_object_holds, standing_family_holds}
+use Rattle.constant_laws.proofs.Translating.{coherent_maps_into}
 use Rattle.library_meaning.specs.Holding.{FamilyHolds}
 use Rattle.link_laws.proofs.Scopes.{theory_scopes_hold}
 use Rattle.verdict_meaning.specs.Modules.{scope_in}

@@ -5,7 +5,7 @@ use Rattle.name_meaning.specs.Names.{Name, is_among}
 use Rattle.name_meaning.specs.Rows.{Rows, row_names, row_of}
 use Rattle.name_laws.proofs.Rows.{row_among}
 use Rattle.name_laws.proofs.RowLookups.{row_mapped}
-use Rattle.log_meaning.specs.Log.{Library}
+use Rattle.edit_log_meaning.specs.Log.{Library}
 use Rattle.library_meaning.specs.Environments.{known_or_absent}
 use Rattle.verdict_meaning.specs.Verdicts as meaning
 use Rattle.verdict_meaning.specs.Verdicts.{known_by}

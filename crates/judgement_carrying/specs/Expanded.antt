@@ -1,6 +1,6 @@
 -- What expansion answers, as carrying a judgement tells it.
 use Rattle.std.specs.Prelude.{◌≡◌, Result, Ok, Err, ⊤}
-use Rattle.expansion_meaning.specs.Answers.{Answer}
+use Rattle.elaborate_meaning.specs.Answers.{Answer}
 use Rattle.mmt_syntax.specs.Readings.{read_span}
 use Rattle.mmt_interface.specs.ReadRules.{read_rule}
 use Rattle.mmt_interface.specs.declared.carried.CarryFault.{CarryFault}

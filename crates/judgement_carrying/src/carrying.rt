@@ -1,19 +1,19 @@
 //! Judgements carried along views (Rabe and Kohlhase 2013, section 4: morphisms carry judgements).
 ghost use Rattle.std.specs.Prelude.{◌≡◌, ◌≤◌, [], Some, None, length, IfOk};
 ghost use Rattle.name_meaning.specs.Limits.{line_limit};
-ghost use Rattle.log_meaning.specs.Log.{Library};
+ghost use Rattle.edit_log_meaning.specs.Log.{Library};
 ghost use Rattle.text_meaning.specs.Reading.{Answer};
 ghost use Rattle.library_meaning.specs.Coherence.{IsCoherentMap};
 ghost use Rattle.library_meaning.specs.Faces as known;
 ghost use Rattle.library_meaning.specs.Faces.{Environment, flat_of, flat_signature};
 ghost use Rattle.translation_meaning.specs.Translation.{translate_family, translate_object};
 ghost use Rattle.translation_meaning.specs.Unmapped.{unmapped_family, unmapped_object};
-ghost use Rattle.expansion_meaning.specs.Expansion.{expand_family, expand_object};
+ghost use Rattle.elaborate_meaning.specs.Expansion.{expand_family, expand_object};
 ghost use Rattle.verdict_meaning.specs.Modules.{scope_in};
 ghost use Rattle.judged_meaning.specs.Carrying as meaning;
 ghost use Rattle.judged_meaning.specs.Carrying.{carried_over, carried_text, fault_at, IllBy};
 ghost use Rattle.carried_typing.specs.CarriedTyping.{IsCarried};
-ghost use Rattle.holding_laws.specs.ExpansionHolds.{ScopeHolds};
+ghost use Rattle.constant_laws.specs.ExpansionHolds.{ScopeHolds};
 ghost use Rattle.term_trees.specs.Readings.{read_family, read_map, read_object};
 ghost use Rattle.mmt_syntax.specs.Readings as syntax;
 ghost use Rattle.mmt_syntax.specs.Readings.{read_expr};

@@ -15,11 +15,11 @@ use Rattle.link_meaning.specs.Assignments.{Setting, is_or_includes, codomain_see
 use Rattle.link_meaning.specs.AssignmentsRead.{AssignReads, AssignsRead}
 use Rattle.link_meaning.specs.Passes.{rest_behind, Reached, ByNone, ByValue, ByStructure, by_rest, by_equal, equal_paths, reached_by, induced_constant}
 use Rattle.link_meaning.specs.Equations.{IsCopied, IsUnassigned, OwnHasValue}
-use Rattle.holding_laws.specs.HoldingLaws.{Grows}
-use Rattle.holding_laws.specs.ExpansionHolds.{scope_signature}
-use Rattle.holding_laws.proofs.Growing.{value_grows}
-use Rattle.holding_laws.proofs.Expanding.{DeclaredHolds, value_holds}
-use Rattle.holding_laws.proofs.Translating.{alike_through, alike_back, value_at_alike}
+use Rattle.constant_laws.specs.HoldingLaws.{Grows}
+use Rattle.constant_laws.specs.ExpansionHolds.{scope_signature}
+use Rattle.constant_laws.proofs.Growing.{value_grows}
+use Rattle.constant_laws.proofs.Expanding.{DeclaredHolds, value_holds}
+use Rattle.constant_laws.proofs.Translating.{alike_through, alike_back, value_at_alike}
 use Rattle.link_laws.specs.LinkTargets.{LinkHolds}
 use Rattle.link_laws.proofs.WordsHold.{row_holds}
 use Rattle.link_laws.proofs.ImagesHold.{AlikeHolds, Source, source_of, SettingHolds, link_image_holds}

@@ -1,3 +1,3 @@
 -- What those above cite of the crates below, which they have from here.
-pub use Rattle.expansion_laws.proofs.ValuesStand
-pub use Rattle.holding_laws.proofs.Declared
+pub use Rattle.elaborate_laws.proofs.ValuesStand
+pub use Rattle.constant_laws.proofs.Declared

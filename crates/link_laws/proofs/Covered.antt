@@ -10,7 +10,7 @@ use Rattle.translation_meaning.specs.Differ.{value_in, agree, agree_on, differ_f
 use Rattle.library_meaning.specs.Faces.{own_part}
 use Rattle.library_meaning.specs.Words.{Link}
 use Rattle.text_meaning.specs.Tokens.{Span}
-use Rattle.expansion_meaning.specs.Rules.{Rule}
+use Rattle.elaborate_meaning.specs.Rules.{Rule}
 use Rattle.link_meaning.specs.Refusals.{Outcome, or_refused}
 use Rattle.link_meaning.specs.Assignments.{Setting, is_or_includes, Assigned, Covering, Sharing, Giving}
 use Rattle.link_meaning.specs.Coverings.{Cover, cover_if, cover_by, covers_of, is_identity_covering, identity_on, first_map, covering_by, first_covering, disagrees, none_disagrees, covered_test, value_by, covered_value}

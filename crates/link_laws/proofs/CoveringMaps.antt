@@ -16,7 +16,7 @@ use Rattle.library_meaning.specs.Closure.{sees}
 use Rattle.library_meaning.specs.Holding.{ClassHolds, OptionalValueHolds}
 use Rattle.library_meaning.specs.Coherence.{DeclarationsHold}
 use Rattle.library_meaning.specs.Words.{identity_mapping, identity_map}
-use Rattle.expansion_meaning.specs.Rules.{Rule}
+use Rattle.elaborate_meaning.specs.Rules.{Rule}
 use Rattle.answer_meaning.specs.Answers.{◌>>=◌}
 use Rattle.link_meaning.specs.Refusals.{Refusal, Outcome, or_refused, each}
 use Rattle.link_meaning.specs.Assignments.{Setting, included_theories, Assigned}

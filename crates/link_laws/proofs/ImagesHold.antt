@@ -20,11 +20,11 @@ use Rattle.link_meaning.specs.Assignments.{Setting, is_or_includes, codomain_see
 use Rattle.link_meaning.specs.Coverings.{identity_covers, is_identity_covering, is_none_of, covers_of}
 use Rattle.link_meaning.specs.Equations.{IsCovering, ByIdentity, ByAssignment}
 use Rattle.link_laws.proofs.Linked.{declarations_hold, own_named, includes_other}
-use Rattle.holding_laws.specs.HoldingLaws.{Grows}
-use Rattle.holding_laws.specs.ExpansionHolds.{scope_signature}
-use Rattle.holding_laws.proofs.Growing.{value_grows}
-use Rattle.holding_laws.proofs.Declared.{class_in, value_at}
-use Rattle.holding_laws.proofs.Translating.{placed_in, alike_through}
+use Rattle.constant_laws.specs.HoldingLaws.{Grows}
+use Rattle.constant_laws.specs.ExpansionHolds.{scope_signature}
+use Rattle.constant_laws.proofs.Growing.{value_grows}
+use Rattle.constant_laws.proofs.Declared.{class_in, value_at}
+use Rattle.constant_laws.proofs.Translating.{placed_in, alike_through}
 use Rattle.link_laws.proofs.Onces.{Once, once_names, declaration_member, member_declared, HoldAfter, own_is_once, declarations_from}
 use Rattle.link_laws.specs.LinkTargets.{target_of, HereHolds, LinkHolds}
 use Rattle.link_laws.specs.BetweenTheories.{IsBetweenTheories}

@@ -14,7 +14,7 @@ use Rattle.link_meaning.specs.Assignments.{Setting, included_theories}
 use Rattle.link_meaning.specs.Passes.{induced_constant, is_own}
 use Rattle.link_meaning.specs.Induced.{induced_with, induced_from, induced}
 use Rattle.link_laws.proofs.Linked.{own_named, own_by, includes_other}
-use Rattle.holding_laws.proofs.Translating.{placed_in}
+use Rattle.constant_laws.proofs.Translating.{placed_in}
 use Rattle.link_laws.proofs.Onces.{Once, once_names, member_declared}
 use Rattle.link_laws.proofs.WordsHold.{flat_once}
 use Rattle.link_laws.proofs.ImagesHold.{SettingHolds}

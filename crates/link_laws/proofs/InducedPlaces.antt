@@ -12,7 +12,7 @@ use Rattle.link_meaning.specs.Passes.{induced_constant}
 use Rattle.link_meaning.specs.Equations.{MeetsEquations}
 use Rattle.link_meaning.specs.Induced.{defined_by, induced_with, induced_from}
 use Rattle.link_meaning.specs.LinkMaps.{IsSettled}
-use Rattle.holding_laws.proofs.Translating.{Placed, placed_in}
+use Rattle.constant_laws.proofs.Translating.{Placed, placed_in}
 use Rattle.link_laws.specs.InducedConstants.{IsInducedAt, InducedByPlace}
 use Rattle.link_laws.proofs.Onces.{member_declared}
 use Rattle.link_laws.proofs.WordsHold.{flat_once}

@@ -13,7 +13,7 @@ use Rattle.library_meaning.specs.Closure.{sees}
 use Rattle.library_meaning.specs.Coherence.{IsCoherent, DeclarationsHold}
 use Rattle.library_meaning.specs.Words.{Link}
 use Rattle.text_meaning.specs.Tokens.{Span}
-use Rattle.expansion_meaning.specs.Rules.{Rule}
+use Rattle.elaborate_meaning.specs.Rules.{Rule}
 use Rattle.link_meaning.specs.Refusals.{or_refused, each}
 use Rattle.link_meaning.specs.Assignments.{Setting, included_theories, Assigned, Covering, Sharing, Giving, label_along, read_assigns}
 use Rattle.link_meaning.specs.Coverings.{Cover, covers_of, first_covering, covered_test, covered_tests, covered_value}

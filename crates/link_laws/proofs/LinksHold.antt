@@ -15,7 +15,7 @@ use Rattle.library_meaning.specs.Faces.{TheoryFace, theory_of, own_of, own_part,
 use Rattle.library_meaning.specs.Holding.{SameLevel, ClassHolds, ValueHolds, OptionalValueHolds, AlikeClasses}
 use Rattle.library_meaning.specs.Coherence.{DeclarationsHold, IsCoherentMap}
 use Rattle.text_meaning.specs.Tokens.{Span}
-use Rattle.expansion_meaning.specs.Rules.{Rule}
+use Rattle.elaborate_meaning.specs.Rules.{Rule}
 use Rattle.link_meaning.specs.Assignments.{Setting, included_theories, Assigned, Covering}
 use Rattle.link_meaning.specs.Coverings.{first_covering, value_by, covered_value}
 use Rattle.link_meaning.specs.Passes.{reached_by, induced_constant, is_own, image_by, mapping_to, map_all}
@@ -26,13 +26,13 @@ use Rattle.link_laws.proofs.Covered.{there_refused, first_is_covering}
 use Rattle.link_laws.proofs.Valued.{own_sound}
 use Rattle.link_laws.proofs.Following.{Follows, walk_follows}
 use Rattle.link_laws.proofs.Linked.{own_named, declarations_hold, includes_other, included_in}
-use Rattle.holding_laws.specs.HoldingLaws.{Grows}
-use Rattle.holding_laws.specs.TranslationHolds.{MapsInto}
-use Rattle.holding_laws.specs.ExpansionHolds.{scope_signature}
-use Rattle.holding_laws.proofs.Growing.{class_grows, value_grows, optional_grows}
-use Rattle.holding_laws.proofs.Declared.{front_grows, class_in, class_at, value_at}
-use Rattle.holding_laws.proofs.Expanding.{DeclaredHolds}
-use Rattle.holding_laws.proofs.Translating.{coherent_maps_into, class_translated, value_translated, translated_alike, value_at_alike, alike_through, alike_back}
+use Rattle.constant_laws.specs.HoldingLaws.{Grows}
+use Rattle.constant_laws.specs.TranslationHolds.{MapsInto}
+use Rattle.constant_laws.specs.ExpansionHolds.{scope_signature}
+use Rattle.constant_laws.proofs.Growing.{class_grows, value_grows, optional_grows}
+use Rattle.constant_laws.proofs.Declared.{front_grows, class_in, class_at, value_at}
+use Rattle.constant_laws.proofs.Expanding.{DeclaredHolds}
+use Rattle.constant_laws.proofs.Translating.{coherent_maps_into, class_translated, value_translated, translated_alike, value_at_alike, alike_through, alike_back}
 use Rattle.link_laws.proofs.Onces.{Apart, Once, once_append, once_names, once_apart, member_declared, HoldAfter, after_declarations, hold_append}
 use Rattle.link_laws.proofs.WordsHold.{map_grows, theory_at, flat_once, includes_theories}
 use Rattle.link_laws.proofs.ImagesHold.{SettingHolds, covering_holds, alike_itself}

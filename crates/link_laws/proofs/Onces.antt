@@ -13,10 +13,10 @@ use Rattle.library_meaning.specs.Closure.{sees}
 use Rattle.library_meaning.specs.Holding.{ClassHolds, OptionalValueHolds}
 use Rattle.library_meaning.specs.Coherence.{IsClosure, DeclarationsHold, IsCoherent}
 use Rattle.link_laws.proofs.Linked.{known_theory, own_named}
-use Rattle.holding_laws.specs.HoldingLaws.{Grows}
-use Rattle.holding_laws.specs.ExpansionHolds.{NamesOnce}
-use Rattle.holding_laws.proofs.Growing.{class_grows, optional_grows}
-use Rattle.holding_laws.proofs.Declared.{declared_as}
+use Rattle.constant_laws.specs.HoldingLaws.{Grows}
+use Rattle.constant_laws.specs.ExpansionHolds.{NamesOnce}
+use Rattle.constant_laws.proofs.Growing.{class_grows, optional_grows}
+use Rattle.constant_laws.proofs.Declared.{declared_as}
 use Rattle.std.proofs.lemmas.Option.{same_Some}
 use Rattle.lf_term_laws.proofs.Declarations.{declared_some}
 

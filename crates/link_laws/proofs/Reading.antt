@@ -5,7 +5,7 @@ use Rattle.library_meaning.specs.Faces.{own_part}
 use Rattle.library_meaning.specs.Resolution.{own_at}
 use Rattle.library_meaning.specs.Words.{Link, RowMeaning, RowMeans, RowFaulty, row_meaning}
 use Rattle.text_meaning.specs.Trees.{Written, Assign, IncludeAssign, StructAssign, ConstAssign}
-use Rattle.expansion_meaning.specs.Rules.{Rule}
+use Rattle.elaborate_meaning.specs.Rules.{Rule}
 use Rattle.link_meaning.specs.Refusals.{demand, or_refused}
 use Rattle.link_meaning.specs.Assignments.{Setting, Assigned, label_along, word_place, or_word_fault, paths_of, link_of, structure_at, covering_ends, sharing_ends, is_free, read_assign, with_target, read_assigns}
 use Rattle.link_meaning.specs.AssignmentsRead.{AssignReads, AssignsRead}

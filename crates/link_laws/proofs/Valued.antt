@@ -7,12 +7,12 @@ use Rattle.lf_meaning.specs.Equality.{same_value}
 use Rattle.lf_term_laws.proofs.Equality.{same_value_sound, same_value_itself}
 use Rattle.translation_meaning.specs.Differ.{value_in}
 use Rattle.text_meaning.specs.Tokens.{Span}
-use Rattle.expansion_meaning.specs.Rules.{Rule}
-use Rattle.expansion_meaning.specs.Answers.{Answer}
-use Rattle.expansion_meaning.specs.Expansion.{span_of}
-use Rattle.expansion_meaning.specs.Values.{expand_value}
-use Rattle.expansion_meaning.specs.Stands.{StandsValue}
-use Rattle.expansion_laws.proofs.ValuesStand.{value_sound, value_complete}
+use Rattle.elaborate_meaning.specs.Rules.{Rule}
+use Rattle.elaborate_meaning.specs.Answers.{Answer}
+use Rattle.elaborate_meaning.specs.Expansion.{span_of}
+use Rattle.elaborate_meaning.specs.Values.{expand_value}
+use Rattle.elaborate_meaning.specs.Stands.{StandsValue}
+use Rattle.elaborate_laws.proofs.ValuesStand.{value_sound, value_complete}
 use Rattle.link_meaning.specs.Refusals.{labelled, demand, or_refused}
 use Rattle.link_meaning.specs.Assignments.{Setting, label_along}
 use Rattle.link_meaning.specs.Passes.{Reached, ByNone, ByValue, ByStructure, is_definition, copied_value, unassigned_value, constant_in, own_image}

@@ -12,9 +12,9 @@ use Rattle.library_meaning.specs.Closure.{sees}
 use Rattle.library_meaning.specs.Coherence.{AreTheories, IsClosure, IsCoherentMap, IsCoherentTheory, IsCoherent}
 use Rattle.library_meaning.specs.Words.{Link, structure_link, followed_by, behind_structure, structures_of, link_by, is_empty, structures_link, Meaning, Means, Faulty, or_unknown, simple_word, longer_word, EndsApart, is_here, word_meaning, meets, RowMeaning, RowMeans, RowFaulty, next_by, row_from, first_by, row_meaning}
 use Rattle.link_laws.proofs.Linked.{known_theory, own_named, includes_other}
-use Rattle.holding_laws.specs.HoldingLaws.{Grows}
-use Rattle.holding_laws.proofs.Growing.{class_grows, value_grows}
-use Rattle.holding_laws.proofs.Translating.{composition_is_coherent}
+use Rattle.constant_laws.specs.HoldingLaws.{Grows}
+use Rattle.constant_laws.proofs.Growing.{class_grows, value_grows}
+use Rattle.constant_laws.proofs.Translating.{composition_is_coherent}
 use Rattle.link_laws.specs.LinkTargets.{target_of, StructuresHold, HereHolds, LinkHolds}
 use Rattle.link_laws.proofs.Onces.{Once, once_append, member_grows, own_is_once, closure_once}
 use Rattle.std.proofs.lemmas.Option.{same_Some}

@@ -4,7 +4,7 @@ use Rattle.name_meaning.specs.Names.{Path}
 use Rattle.lf_meaning.specs.HeadMaps.{HeadMap}
 use Rattle.library_meaning.specs.Faces.{own_part}
 use Rattle.text_meaning.specs.Trees.{Assign}
-use Rattle.expansion_meaning.specs.Rules.{Rule}
+use Rattle.elaborate_meaning.specs.Rules.{Rule}
 use Rattle.answer_meaning.specs.Answers.{◌>>=◌}
 use Rattle.link_meaning.specs.Refusals.{Refusal, Outcome, each}
 use Rattle.link_meaning.specs.Assignments.{Setting, Assigned}

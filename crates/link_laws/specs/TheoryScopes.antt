@@ -4,7 +4,7 @@ use Rattle.name_meaning.specs.Names.{Name}
 use Rattle.library_meaning.specs.Faces.{Environment, theory_of, includes_of, own_part}
 use Rattle.library_meaning.specs.Coherence.{IsCoherent}
 use Rattle.library_meaning.specs.Resolution.{Scope}
-use Rattle.holding_laws.specs.ExpansionHolds.{ScopeHolds}
+use Rattle.constant_laws.specs.ExpansionHolds.{ScopeHolds}
 
 -- All constants of a theory, and what it includes.
 abbrev pub theory_scope : Environment → Name → Scope

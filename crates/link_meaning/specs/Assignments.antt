@@ -9,7 +9,7 @@ use Rattle.library_meaning.specs.Resolution.{Scope, own_at}
 use Rattle.library_meaning.specs.Words.{Link, structures_of, structures_link, WordFault, UnknownModule, RefusedModule, WrongKind, UnknownStructure, EndsApart, RowMeaning, RowMeans, RowFaulty, row_meaning}
 use Rattle.text_meaning.specs.Tokens.{Span}
 use Rattle.text_meaning.specs.Trees.{Expr, Written, Assign, IncludeAssign, StructAssign, ConstAssign}
-use Rattle.expansion_meaning.specs.Rules.{Rule}
+use Rattle.elaborate_meaning.specs.Rules.{Rule}
 use Rattle.answer_meaning.specs.Answers.{◌>>=◌}
 use Rattle.link_meaning.specs.Refusals.{Outcome, refused, demand, or_refused}
 

@@ -4,7 +4,7 @@ use Rattle.std.specs.Prelude.{◌≡◌, ℕ, true, List, [], ◌∷◌, ◌++�
 use Rattle.name_meaning.specs.Names.{Name}
 use Rattle.lf_meaning.specs.Signatures.{Declaration, Signature}
 use Rattle.lf_meaning.specs.HeadMaps.{Mapping, HeadMap}
-use Rattle.expansion_meaning.specs.Below.Translation.{translate_class}
+use Rattle.elaborate_meaning.specs.Below.Translation.{translate_class}
 use Rattle.library_meaning.specs.Faces.{own_parts}
 use Rattle.library_meaning.specs.Closure.{sees}
 use Rattle.library_meaning.specs.Coherence.{declared_names, mapped_names}

@@ -6,12 +6,12 @@ use Rattle.name_meaning.specs.Names.{Name}
 use Rattle.lf_meaning.specs.Terms.{Constant}
 use Rattle.lf_meaning.specs.Signatures.{Value, Declaration}
 use Rattle.lf_meaning.specs.HeadMaps.{HeadMap}
-use Rattle.expansion_meaning.specs.Below.Differ.{value_in, differ}
+use Rattle.elaborate_meaning.specs.Below.Differ.{value_in, differ}
 use Rattle.library_meaning.specs.Faces.{Environment, theory_of, includes_of, own_part}
 use Rattle.library_meaning.specs.Closure.{sees}
 use Rattle.library_meaning.specs.Words.{identity_map}
 use Rattle.text_meaning.specs.Tokens.{Span}
-use Rattle.expansion_meaning.specs.Rules.{Rule}
+use Rattle.elaborate_meaning.specs.Rules.{Rule}
 use Rattle.answer_meaning.specs.Answers.{◌>>=◌}
 use Rattle.link_meaning.specs.Refusals.{Outcome, refused, or_refused, each}
 use Rattle.link_meaning.specs.Assignments.{Setting, is_or_includes, codomain_sees, included_theories, Assigned, Covering, Sharing, Giving}

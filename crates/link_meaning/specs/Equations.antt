@@ -4,14 +4,14 @@ use Rattle.std.specs.Prelude.{◌≡◌, ℕ, true, false, List, slice_get, Opti
 use Rattle.name_meaning.specs.Names.{Name, Path}
 use Rattle.lf_meaning.specs.Signatures.{Class, Value, SameAs, Declaration}
 use Rattle.lf_meaning.specs.HeadMaps.{Mapping, HeadMap}
-use Rattle.expansion_meaning.specs.Below.Translation.{translate_class, translate_value}
-use Rattle.expansion_meaning.specs.Below.Differ.{value_in}
+use Rattle.elaborate_meaning.specs.Below.Translation.{translate_class, translate_value}
+use Rattle.elaborate_meaning.specs.Below.Differ.{value_in}
 use Rattle.library_meaning.specs.Faces.{theory_of, includes_of, own_parts, flat_of}
 use Rattle.library_meaning.specs.Closure.{sees}
 use Rattle.library_meaning.specs.Coherence.{declared_names, mapped_names}
 use Rattle.library_meaning.specs.Words.{Link}
 use Rattle.text_meaning.specs.Tokens.{Span}
-use Rattle.expansion_meaning.specs.Stands.{StandsValue}
+use Rattle.elaborate_meaning.specs.Stands.{StandsValue}
 use Rattle.link_meaning.specs.Assignments.{Setting, is_or_includes, included_theories, Assigned, Covering, Sharing}
 use Rattle.link_meaning.specs.Coverings.{is_identity_covering, identity_on}
 use Rattle.link_meaning.specs.Passes.{Reached, ByNone, ByValue, ByStructure, reached_by, induced_constant, constant_in, is_own}

@@ -7,16 +7,16 @@ use Rattle.lf_meaning.specs.Terms.{Constant}
 use Rattle.lf_meaning.specs.Signatures.{Class, Value, SameAs, Declaration, Signature}
 use Rattle.lf_meaning.specs.Equality.{same_value}
 use Rattle.lf_meaning.specs.HeadMaps.{Mapping, HeadMap}
-use Rattle.expansion_meaning.specs.Below.Translation.{translate_class, translate_value}
-use Rattle.expansion_meaning.specs.Below.Differ.{value_in, agree}
+use Rattle.elaborate_meaning.specs.Below.Translation.{translate_class, translate_value}
+use Rattle.elaborate_meaning.specs.Below.Differ.{value_in, agree}
 use Rattle.library_meaning.specs.Faces.{theory_of, includes_of, own_parts, flat_of}
 use Rattle.library_meaning.specs.Words.{Link}
 use Rattle.text_meaning.specs.Tokens.{Span}
 use Rattle.text_meaning.specs.Trees.{Expr, Assign}
-use Rattle.expansion_meaning.specs.Rules.{Rule}
+use Rattle.elaborate_meaning.specs.Rules.{Rule}
 use Rattle.answer_meaning.specs.Answers.{◌>>=◌}
-use Rattle.expansion_meaning.specs.Expansion.{span_of}
-use Rattle.expansion_meaning.specs.Values.{expand_value}
+use Rattle.elaborate_meaning.specs.Expansion.{span_of}
+use Rattle.elaborate_meaning.specs.Values.{expand_value}
 use Rattle.link_meaning.specs.Refusals.{Outcome, refused, labelled, demand, or_refused, each}
 use Rattle.link_meaning.specs.Assignments.{Setting, Assigned, Covering, Sharing, Giving, label_along, is_beginning, read_assigns}
 use Rattle.link_meaning.specs.Coverings.{covered_tests, covering_value}

@@ -2,8 +2,8 @@
 use Rattle.std.specs.Prelude.{Bool, true, false, Option, Some, None, Result, Ok, Err, List, [], ◌∷◌, ⊤}
 use Rattle.name_meaning.specs.Names.{Path}
 use Rattle.text_meaning.specs.Tokens.{Span}
-use Rattle.expansion_meaning.specs.Rules.{Rule}
-use Rattle.expansion_meaning.specs.Answers.{Answer}
+use Rattle.elaborate_meaning.specs.Rules.{Rule}
+use Rattle.elaborate_meaning.specs.Answers.{Answer}
 use Rattle.answer_meaning.specs.Answers.{◌>>=◌}
 
 -- A rule that is broken, where, and of what.

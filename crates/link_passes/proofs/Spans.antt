@@ -2,7 +2,7 @@
 use Rattle.std.proofs.Common.{◌≡◌, List, Some, None, refl, ap, ◌∙◌}
 use Rattle.text_meaning.specs.Tokens as tokens
 use Rattle.text_meaning.specs.Trees as trees
-use Rattle.expansion_meaning.specs.Expansion.{span_of}
+use Rattle.elaborate_meaning.specs.Expansion.{span_of}
 use Rattle.mmt_syntax.specs.Readings.{read_span, read_node_layer, read_expr_layer, read_exprs_layer, read_expr}
 use Rattle.mmt_syntax.specs.declared.expr.Expr.{Expr}
 use Rattle.mmt_syntax.specs.declared.expr.Node.TheOpen as node

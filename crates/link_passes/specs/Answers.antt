@@ -2,7 +2,7 @@
 use Rattle.std.specs.Prelude.{◌≡◌, ⊤}
 use Rattle.name_meaning.specs.Names.{Path}
 use Rattle.text_meaning.specs.Tokens.{Span}
-use Rattle.expansion_meaning.specs.Rules.{Rule}
+use Rattle.elaborate_meaning.specs.Rules.{Rule}
 use Rattle.mmt_interface.specs.Readings.{read_refusal}
 use Rattle.link_setting.specs.declared.fault.LinkFault.{LinkFault}
 use Rattle.link_setting.specs.declared.fault.LinkFault.TheVariants.{Broken, Memory}

@@ -10,8 +10,8 @@ use Rattle.library_meaning.specs.Words.{Link}
 use Rattle.text_meaning.specs.Tokens.{Span}
 use Rattle.text_meaning.specs.Trees.{Expr}
 use Rattle.answer_meaning.specs.Answers.{◌>>=◌}
-use Rattle.expansion_meaning.specs.Rules.{Rule}
-use Rattle.expansion_meaning.specs.Values.{expand_value}
+use Rattle.elaborate_meaning.specs.Rules.{Rule}
+use Rattle.elaborate_meaning.specs.Values.{expand_value}
 use Rattle.link_meaning.specs.Refusals.{Outcome, labelled, demand, or_refused}
 use Rattle.link_meaning.specs.Assignments.{Setting, Assigned, label_along}
 use Rattle.link_meaning.specs.Passes.{Reached, reached_by, own_image, is_definition, is_own, constant_in, shares}

@@ -1,7 +1,7 @@
 //! The values of the domain's own constants.
 ghost use Rattle.std.specs.Prelude.{◌≡◌, None, IfOk};
-ghost use Rattle.expansion_meaning.specs.Rules.{DefinitionClash, MorphismsDisagree};
-ghost use Rattle.expansion_meaning.specs.Expansion.{span_of};
+ghost use Rattle.elaborate_meaning.specs.Rules.{DefinitionClash, MorphismsDisagree};
+ghost use Rattle.elaborate_meaning.specs.Expansion.{span_of};
 ghost use Rattle.link_meaning.specs.Assignments.{label_along};
 ghost use Rattle.link_meaning.specs.Passes as passes;
 ghost use Rattle.link_meaning.specs.Refusals as refusals;

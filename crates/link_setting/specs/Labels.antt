@@ -2,7 +2,7 @@
 use Rattle.std.specs.Prelude.{◌≡◌, Option, Some, None, ⊤}
 use Rattle.name_meaning.specs.Names.{Path}
 use Rattle.text_meaning.specs.Tokens.{Span}
-use Rattle.expansion_meaning.specs.Rules.{Rule}
+use Rattle.elaborate_meaning.specs.Rules.{Rule}
 use Rattle.link_meaning.specs.Assignments.{Setting, label_along}
 use Rattle.mmt_interface.specs.Readings.{read_refusal}
 use Rattle.link_setting.specs.declared.fault.LinkFault.{LinkFault}

@@ -11,8 +11,8 @@ use Rattle.library_meaning.specs.Faces.{TheoryFace, Environment, theory_of, incl
 use Rattle.library_meaning.specs.Closure.{sees}
 use Rattle.library_meaning.specs.Coherence.{IsCoherentMap, IsCoherent}
 use Rattle.library_meaning.specs.Words.{Link, Means, meets, word_meaning, first_by, row_meaning, row_from}
-use Rattle.holding_laws.specs.HoldingLaws.{Grows}
-use Rattle.holding_laws.proofs.Translating.{composition_is_coherent}
+use Rattle.constant_laws.specs.HoldingLaws.{Grows}
+use Rattle.constant_laws.proofs.Translating.{composition_is_coherent}
 use Rattle.link_laws.specs.LinkTargets.{target_of, HereHolds, LinkHolds}
 use Rattle.link_laws.proofs.WordsHold.{map_grows, includes_theories, included_grows, structure_member, accepted_target, structure_holds, row_holds}
 use Rattle.mapping_laws.specs.FollowedLinks.{StructuresAreFollowed, WordsAreFollowed}

@@ -10,7 +10,7 @@ use Rattle.list_laws.proofs.Members.{Member}
 use Rattle.library_meaning.specs.Holding.{OptionalValueHolds}
 use Rattle.library_meaning.specs.Faces.{flat_of}
 use Rattle.library_meaning.specs.Coherence.{declared_names, mapped_names, DeclarationsHold}
-use Rattle.holding_laws.specs.ExpansionHolds.{NamesOnce}
+use Rattle.constant_laws.specs.ExpansionHolds.{NamesOnce}
 use Rattle.link_meaning.specs.Coverings.{covering_value}
 use Rattle.link_meaning.specs.CoveringMaps.{cover_all}
 use Rattle.link_meaning.specs.Passes.{mapping_to}

@@ -7,7 +7,7 @@ use Rattle.lf_meaning.specs.HeadMaps.{Mapping, HeadMap, image_of}
 use Rattle.translation_meaning.specs.Unmapped.{unmapped_class, unmapped_value}
 use Rattle.library_meaning.specs.Faces.{Environment, theory_of, flat_of}
 use Rattle.library_meaning.specs.Coherence.{declared_names, mapped_names, DeclarationsHold, IsCoherent}
-use Rattle.holding_laws.specs.ExpansionHolds.{NamesOnce}
+use Rattle.constant_laws.specs.ExpansionHolds.{NamesOnce}
 use Rattle.link_meaning.specs.Assignments.{Setting, Assigned}
 use Rattle.link_meaning.specs.CoveringMaps.{cover_all}
 

@@ -5,8 +5,8 @@ use Rattle.std.proofs.lemmas.List.{take_all}
 use Rattle.mmt_outside.specs.Bytes.{Taken, appended, flushed, TookPrefix}
 use Rattle.mmt_outside.proofs.Bytes.{TookPrefix-none}
 use Rattle.text_meaning.specs.Dependencies.{dependencies}
-use Rattle.log_meaning.specs.Log.{Log}
-use Rattle.log_meaning.specs.Append.{appended_all}
+use Rattle.edit_log_meaning.specs.Log.{Log}
+use Rattle.edit_log_meaning.specs.Append.{appended_all}
 use Rattle.board_meaning.specs.Events.{History, log_of}
 use Rattle.board_meaning.specs.Ready.{is_closed}
 use Rattle.board_meaning.specs.Standing.{installs}

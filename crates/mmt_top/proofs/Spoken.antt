@@ -5,9 +5,9 @@ use Rattle.std.specs.List.{cons_option}
 use Rattle.std.proofs.lemmas.Option.{same_Some}
 use Rattle.name_meaning.specs.Names.{Name, Text}
 use Rattle.list_laws.proofs.Members.{Member, in_map, in_filter_map, place_member}
-use Rattle.log_meaning.specs.Log.{Edit, Log, library_of, names_of, version_of}
-use Rattle.log_meaning.specs.Append.{appended}
-use Rattle.walk_meaning.specs.Walks.{is_grounded}
+use Rattle.edit_log_meaning.specs.Log.{Edit, Log, library_of, names_of, version_of}
+use Rattle.edit_log_meaning.specs.Append.{appended}
+use Rattle.module_graph_meaning.specs.Walks.{is_grounded}
 use Rattle.text_meaning.specs.Dependencies.{dependencies}
 use Rattle.board_meaning.specs.Events.{History, log_of}
 use Rattle.board_meaning.specs.Standing.{stands}

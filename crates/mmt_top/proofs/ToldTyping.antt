@@ -5,9 +5,9 @@ use Rattle.mmt_outside.specs.Files.{Files}
 use Rattle.run_meaning.specs.Files.{load}
 use Rattle.run_meaning.specs.Folders.{folder_told}
 use Rattle.run_meaning.specs.ScriptLogs.{script_log, script_told}
-use Rattle.word_list_meaning.specs.WordLists.{CheckFolder, Generate, Play, Run, Task}
+use Rattle.command_words_meaning.specs.WordLists.{CheckFolder, Generate, Play, Run, Task}
 use Rattle.judged_meaning.specs.JudgingByRules.{rules}
-use Rattle.told_typing.proofs.KeptTyping.{all_are_typed}
+use Rattle.output_typing.proofs.KeptTyping.{all_are_typed}
 use Rattle.mmt_top.specs.Typing.{TellsTyped}
 
 pub tells_typed : (task : Task) (left : Option (List ℕ)) (files : Option Files) → TellsTyped task left files

@@ -8,7 +8,7 @@ use Rattle.mmt_outside.proofs.Bytes.{TookPrefix-append}
 use Rattle.printing_meaning.specs.Lines.{lines_of}
 use Rattle.printing_meaning.specs.Printed.{bad_line, unended_line}
 use Rattle.printing_meaning.specs.ScriptLines.{line_after}
-use Rattle.log_meaning.specs.Log.{Log}
+use Rattle.edit_log_meaning.specs.Log.{Log}
 use Rattle.text_meaning.specs.Dependencies.{dependencies}
 use Rattle.board_meaning.specs.Events.{History, log_of}
 use Rattle.board_meaning.specs.Legal.{IsLegal}

@@ -1,7 +1,7 @@
 -- How a command is answered (this profile).
 use Rattle.std.specs.Prelude.{◌≡◌, ℕ, List, Option, Some, None, Result, Ok, Err}
 use Rattle.mmt_outside.specs.Bytes.{Taken, appended, TookPrefix}
-use Rattle.log_meaning.specs.Log.{Log}
+use Rattle.edit_log_meaning.specs.Log.{Log}
 use Rattle.board_meaning.specs.Events.{History}
 use Rattle.run_meaning.specs.ScriptCommands.{Command}
 use Rattle.run_meaning.specs.ScriptOutput.{command_text, log_after}

@@ -2,8 +2,8 @@
 use Rattle.std.specs.Prelude.{◌≡◌, ◌++◌, ℕ, true, List, [], Option, nat_eq, if◌then◌else◌}
 use Rattle.mmt_outside.specs.Bytes.{Taken, appended, flushed, TookPrefix}
 use Rattle.text_meaning.specs.Dependencies.{dependencies}
-use Rattle.log_meaning.specs.Log.{Log}
-use Rattle.log_meaning.specs.Append.{appended_all}
+use Rattle.edit_log_meaning.specs.Log.{Log}
+use Rattle.edit_log_meaning.specs.Append.{appended_all}
 use Rattle.board_meaning.specs.Events.{History, log_of}
 use Rattle.board_meaning.specs.Legal.{IsLegal}
 use Rattle.board_meaning.specs.Ready.{is_closed}

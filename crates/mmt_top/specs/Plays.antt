@@ -1,6 +1,6 @@
 -- What playing commands does to a board (this profile).
 use Rattle.std.specs.Prelude.{◌≡◌, ◌⊎◌, ◌++◌, ◌∷◌, List}
-use Rattle.log_meaning.specs.Log.{Log}
+use Rattle.edit_log_meaning.specs.Log.{Log}
 use Rattle.board_meaning.specs.Events.{History, log_of}
 use Rattle.run_meaning.specs.ScriptCommands.{Command}
 use Rattle.run_meaning.specs.ScriptOutput.{log_after}

@@ -6,7 +6,7 @@ use Rattle.mmt_outside.specs.Files.{Files}
 use Rattle.printing_meaning.specs.Printed.{usage_line}
 use Rattle.run_meaning.specs.ScriptItems.{script_of}
 use Rattle.run_meaning.specs.ScriptOutput.{has_fault}
-use Rattle.word_list_meaning.specs.WordLists.{Task, Play, CheckFolder, Generate, Run}
+use Rattle.command_words_meaning.specs.WordLists.{Task, Play, CheckFolder, Generate, Run}
 use Rattle.judged_meaning.specs.Outputs.{generate_output, play_output}
 use Rattle.run_status.specs.Flushed.{FlushesAt}
 use Rattle.run_status.specs.Taking.{TookOn}

@@ -1,15 +1,15 @@
 -- What is promised of the typing of the modules that a task tells of (this profile).
 use Rattle.std.specs.Prelude.{ℕ, List, [], Option, IfSome}
-use Rattle.log_meaning.specs.Append.{appended_all}
+use Rattle.edit_log_meaning.specs.Append.{appended_all}
 use Rattle.text_meaning.specs.Dependencies.{dependencies}
 use Rattle.mmt_outside.specs.Files.{Files}
 use Rattle.run_meaning.specs.Files.{File, load}
 use Rattle.run_meaning.specs.Folders.{folder_told}
 use Rattle.run_meaning.specs.Generator.{generated, generator_told}
 use Rattle.run_meaning.specs.ScriptLogs.{script_log, script_told}
-use Rattle.word_list_meaning.specs.WordLists.{Task, Play, CheckFolder, Generate}
+use Rattle.command_words_meaning.specs.WordLists.{Task, Play, CheckFolder, Generate}
 use Rattle.judged_meaning.specs.JudgingByRules.{rules}
-use Rattle.told_typing.specs.ToldTyping.{AreTyped}
+use Rattle.output_typing.specs.ToldTyping.{AreTyped}
 use Rattle.folder_load.specs.Loads.{AreFilesOf}
 
 -- What a task tells, where the source and the folder tell what they hold.

@@ -8,7 +8,7 @@ ghost use Rattle.text_meaning.specs.Dependencies.{dependencies};
 ghost use Rattle.run_status.specs.Flushed.{FlushesAt};
 ghost use Rattle.run_status.specs.Taking.{TookOn};
 ghost use Rattle.folder_front.specs.Checked.{IsCheckStatus, IsFolderLed};
-ghost use Rattle.word_list_meaning.specs.WordLists.{CheckFolder};
+ghost use Rattle.command_words_meaning.specs.WordLists.{CheckFolder};
 ghost use Rattle.mmt_top.specs.FolderChecks.{PrintsFolder, LeavesFolder};
 ghost use Rattle.mmt_top.specs.Typing.{TellsTyped};
 

@@ -3,7 +3,7 @@ ghost use Rattle.std.specs.Prelude.{◌≡◌, ◌≤◌, true, false, [], Some,
 ghost use Rattle.std.specs.String.{string_bytes};
 ghost use Rattle.mmt_outside.specs.Bytes.{ReadPrefix};
 ghost use Rattle.mmt_outside.specs.Faults.{Rose};
-ghost use Rattle.word_list_meaning.specs.WordLists as meant;
+ghost use Rattle.command_words_meaning.specs.WordLists as meant;
 ghost use Rattle.run_status.specs.Flushed.{FlushesAt};
 ghost use Rattle.run_status.specs.Taking.{TookOn};
 ghost use Rattle.command_words.specs.ReadRuns.{IsWithin, read_run, read_task};

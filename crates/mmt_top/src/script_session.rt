@@ -6,7 +6,7 @@ ghost use Rattle.run_meaning.specs.ScriptItems.{script_of};
 ghost use Rattle.run_meaning.specs.ScriptOutput.{has_fault};
 ghost use Rattle.run_meaning.specs.ScriptLogs.{script_log, script_told};
 ghost use Rattle.judged_meaning.specs.JudgingByRules.{rules};
-ghost use Rattle.told_typing.specs.ToldTyping.{AreTyped};
+ghost use Rattle.output_typing.specs.ToldTyping.{AreTyped};
 ghost use Rattle.judged_meaning.specs.Outputs.{play_output};
 ghost use Rattle.board_meaning.specs.Events.{log_of};
 ghost use Rattle.board_meaning.specs.Legal.{IsLegal};

@@ -12,9 +12,9 @@ use Rattle.name_meaning.specs.Rows.{Rows, IsTable, row_names, row_of}
 use Rattle.name_laws.proofs.Order.{same_sound, same_itself, among_member, member_among}
 use Rattle.name_laws.proofs.Rows.{row_among}
 use Rattle.name_laws.proofs.RowLookups.{row_mapped}
-use Rattle.log_meaning.specs.Log.{Library, is_present}
-use Rattle.walk_meaning.specs.Reach.{reach}
-use Rattle.walk_meaning.specs.Subject.{answers_of, present_answer}
+use Rattle.edit_log_meaning.specs.Log.{Library, is_present}
+use Rattle.module_graph_meaning.specs.Reach.{reach}
+use Rattle.module_graph_meaning.specs.Subject.{answers_of, present_answer}
 use Rattle.library_meaning.specs.Faces.{IsAbsent}
 use Rattle.library_meaning.specs.Environments.{known_or_absent}
 use Rattle.text_meaning.specs.Dependencies.{dependencies}

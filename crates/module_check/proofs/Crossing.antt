@@ -1,2 +1,2 @@
 -- That verdicts may cross threads, for those who take `Mmt` as their subject.
-pub use Rattle.crossing_laws.proofs.Crossing.{verdict_row_send, verdict_row_sync}
+pub use Rattle.send_laws.proofs.Crossing.{verdict_row_send, verdict_row_sync}

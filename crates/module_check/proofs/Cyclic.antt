@@ -3,8 +3,8 @@ use Rattle.std.proofs.Common.{◌≡◌, ℕ, zero, suc, Bool, true, Some, List,
 use Rattle.std.specs.List.{list_any}
 use Rattle.name_meaning.specs.Names.{Name, Text, is_among, is_ascending}
 use Rattle.name_laws.proofs.Order.{ascending_filtered}
-use Rattle.log_meaning.specs.Log.{Library, IsLibrary, names_of}
-use Rattle.walk_meaning.specs.Walks.{Dependencies, ungrounded_names, walking, direct}
+use Rattle.edit_log_meaning.specs.Log.{Library, IsLibrary, names_of}
+use Rattle.module_graph_meaning.specs.Walks.{Dependencies, ungrounded_names, walking, direct}
 use Rattle.text_meaning.specs.Dependencies.{dependencies}
 use Rattle.text_meaning.specs.Reading.{ModuleText}
 use Rattle.text_meaning.specs.TextAnswers.{read}

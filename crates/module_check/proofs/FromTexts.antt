@@ -8,14 +8,14 @@ use Rattle.name_laws.proofs.Order.{among_member, member_among}
 use Rattle.name_laws.proofs.Rows.{row_among}
 use Rattle.name_laws.proofs.RowLookups.{row_mapped}
 use Rattle.list_laws.proofs.Options.{some_mapped}
-use Rattle.log_meaning.specs.Log.{Log, Library, library_of, is_present, names_of, text_of}
-use Rattle.log_laws.proofs.Libraries.{present_among, library_ascending}
+use Rattle.edit_log_meaning.specs.Log.{Log, Library, library_of, is_present, names_of, text_of}
+use Rattle.edit_log_laws.proofs.Libraries.{present_among, library_ascending}
 use Rattle.list_laws.proofs.Members.{Member, in_filter, in_append, place_member}
 use Rattle.list_laws.proofs.Places.{take_more}
-use Rattle.walk_meaning.specs.Walks.{is_grounded, is_ungrounded, ungrounded_names}
-use Rattle.walk_meaning.specs.Graphs.{Graph, HoldsDependencies, graph_grounded}
-use Rattle.walk_meaning.specs.Subject.{present_answer, answers_of}
-use Rattle.walk_laws.proofs.Graphs.{graph_grounds}
+use Rattle.module_graph_meaning.specs.Walks.{is_grounded, is_ungrounded, ungrounded_names}
+use Rattle.module_graph_meaning.specs.Graphs.{Graph, HoldsDependencies, graph_grounded}
+use Rattle.module_graph_meaning.specs.Subject.{present_answer, answers_of}
+use Rattle.module_graph_laws.proofs.Graphs.{graph_grounds}
 use Rattle.text_meaning.specs.Dependencies.{dependencies}
 use Rattle.verdict_meaning.specs.Verdicts as meaning
 use Rattle.verdict_meaning.specs.Rounds.{modules, verdict_of}

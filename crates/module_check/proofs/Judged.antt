@@ -3,8 +3,8 @@ use Rattle.std.proofs.Common.{◌≡◌, Bool, false, Some, Err, refl, sym, ap, 
 use Rattle.std.specs.Prelude.{Option}
 use Rattle.name_meaning.specs.Names.{Name, Text, is_among}
 use Rattle.name_meaning.specs.Rows.{Rows}
-use Rattle.log_meaning.specs.Log.{Library}
-use Rattle.walk_meaning.specs.Walks.{ungrounded_names}
+use Rattle.edit_log_meaning.specs.Log.{Library}
+use Rattle.module_graph_meaning.specs.Walks.{ungrounded_names}
 use Rattle.text_meaning.specs.Dependencies.{dependencies}
 use Rattle.text_meaning.specs.Reading.{Answer, ModuleText, ModuleTree, JudgementTree, Read, Syntax, TooDeep, Unsupported}
 use Rattle.text_meaning.specs.TextAnswers.{read}

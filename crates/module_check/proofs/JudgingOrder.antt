@@ -16,13 +16,13 @@ use Rattle.list_laws.proofs.Places.{place_within, split_at, get_take}
 use Rattle.name_meaning.specs.Names.{Name, same_name, comes_before, is_among, is_ascending}
 use Rattle.name_laws.proofs.Order.{among_member, member_among, same_itself, same_turned, ascending_filtered}
 use Rattle.name_laws.proofs.Rows.{different}
-use Rattle.log_meaning.specs.Log.{Library, names_of, is_present}
-use Rattle.walk_meaning.specs.Walks.{is_grounded, is_ungrounded, ungrounded_names, walking}
-use Rattle.walk_meaning.specs.Reach.{reach}
-use Rattle.walk_meaning.specs.Graphs.{Graph, HoldsDependencies, graph_reach}
-use Rattle.walk_laws.proofs.Graphs.{graph_reaches}
-use Rattle.walk_laws.proofs.Reaching.{one_list, reach_ascending, reach_first}
-use Rattle.walk_laws.proofs.Walking.{filter_shorter, present_in, ungrounded_in}
+use Rattle.edit_log_meaning.specs.Log.{Library, names_of, is_present}
+use Rattle.module_graph_meaning.specs.Walks.{is_grounded, is_ungrounded, ungrounded_names, walking}
+use Rattle.module_graph_meaning.specs.Reach.{reach}
+use Rattle.module_graph_meaning.specs.Graphs.{Graph, HoldsDependencies, graph_reach}
+use Rattle.module_graph_laws.proofs.Graphs.{graph_reaches}
+use Rattle.module_graph_laws.proofs.Reaching.{one_list, reach_ascending, reach_first}
+use Rattle.module_graph_laws.proofs.Walking.{filter_shorter, present_in, ungrounded_in}
 use Rattle.text_meaning.specs.Dependencies.{dependencies}
 use Rattle.verdict_meaning.specs.Rounds.{others_reached}
 use Rattle.coherence_laws.proofs.LibrariesHold.{grounded_short}

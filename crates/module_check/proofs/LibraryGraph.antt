@@ -6,12 +6,12 @@ use Rattle.name_meaning.specs.Names.{Name, same_name, comes_before, is_among, is
 use Rattle.name_meaning.specs.Rows.{row_names, row_of, with_row}
 use Rattle.name_laws.proofs.Order.{same_sound}
 use Rattle.name_laws.proofs.Rows.{different, not_before, row_with, names_with_row, row_among}
-use Rattle.log_meaning.specs.Log.{Library, is_present, names_of}
-use Rattle.log_laws.proofs.Libraries.{present_among}
+use Rattle.edit_log_meaning.specs.Log.{Library, is_present, names_of}
+use Rattle.edit_log_laws.proofs.Libraries.{present_among}
 use Rattle.list_laws.proofs.Members.{Member, place_member, all_at}
 use Rattle.list_laws.proofs.Places.{take_more, place_within, length_take}
-use Rattle.walk_meaning.specs.Walks.{Dependencies, direct}
-use Rattle.walk_meaning.specs.Graphs.{Graph, HoldsDependencies}
+use Rattle.module_graph_meaning.specs.Walks.{Dependencies, direct}
+use Rattle.module_graph_meaning.specs.Graphs.{Graph, HoldsDependencies}
 
 -- A name that comes after all others stands at the end.
 with_last : (n : Name) (names : List Name) → ((m : Name) → Member m names → comes_before m n ≡ true) → with_name n names ≡ names ++ n ∷ []

@@ -1,7 +1,7 @@
 -- Verdicts of a library are typed.
 use Rattle.std.proofs.Common.{◌≡◌, Some, ap}
 use Rattle.name_meaning.specs.Names.{Name}
-use Rattle.log_meaning.specs.Log.{Library}
+use Rattle.edit_log_meaning.specs.Log.{Library}
 use Rattle.verdict_meaning.specs.Verdicts.{Verdict, Accepted, Refused, Theory, View}
 use Rattle.verdict_meaning.specs.Rounds.{known_if, told_by, verdict_of}
 use Rattle.coherence_laws.proofs.LibrariesHold.{library_coherent}

@@ -1,8 +1,8 @@
 -- The order in which modules are judged (this profile).
 use Rattle.std.specs.Prelude.{◌≡◌, ◌≤◌, ℕ, true, List, length, slice_get, Some}
 use Rattle.name_meaning.specs.Names.{Name, is_among}
-use Rattle.log_meaning.specs.Log.{Library, is_present}
-use Rattle.walk_meaning.specs.Graphs.{Graph, graph_reach}
+use Rattle.edit_log_meaning.specs.Log.{Library, is_present}
+use Rattle.module_graph_meaning.specs.Graphs.{Graph, graph_reach}
 use Rattle.verdict_meaning.specs.Rounds.{others_reached}
 
 -- A name that stands before another one reaches no more names than that.

@@ -2,7 +2,7 @@
 use Rattle.std.specs.Prelude.{◌≡◌, Some}
 use Rattle.name_meaning.specs.Names.{Name}
 use Rattle.name_meaning.specs.Rows.{Rows, row_of}
-use Rattle.log_meaning.specs.Log.{Library}
+use Rattle.edit_log_meaning.specs.Log.{Library}
 use Rattle.verdict_meaning.specs.Verdicts as meaning
 use Rattle.verdict_meaning.specs.Rounds.{verdict_of}
 use Rattle.mmt_interface.specs.Readings.{read_faces}

@@ -1,6 +1,6 @@
 -- Faces that are of one library, whole reaches (this profile).
 use Rattle.name_meaning.specs.Rows.{Rows, row_names}
-use Rattle.log_meaning.specs.Log.{Library}
+use Rattle.edit_log_meaning.specs.Log.{Library}
 use Rattle.coherence_laws.specs.CoherenceLaws.{AreClosed}
 use Rattle.mmt_interface.specs.CoherentFaces.{AreCoherent}
 use Rattle.mmt_interface.specs.declared.verdict.Verdict.{Verdict}

@@ -1,6 +1,6 @@
 -- What a module is accepted as is well typed over all that the verdicts of its library tell (this profile).
 use Rattle.std.specs.Prelude.{⊤}
-use Rattle.log_meaning.specs.Log.{Library}
+use Rattle.edit_log_meaning.specs.Log.{Library}
 use Rattle.verdict_meaning.specs.Verdicts.{Verdict, Accepted, Refused, Theory, View}
 use Rattle.verdict_meaning.specs.Rounds.{told_by}
 use Rattle.judgement_carrying.specs.Below.CarryingMaps.{FlattensTyped, ViewCarriesTyping}

@@ -1,7 +1,7 @@
 -- The refusal of a text that does not read.
 use Rattle.std.specs.Prelude.{◌≡◌, ℕ, [], ◌∷◌}
 use Rattle.name_meaning.specs.Names.{Name}
-use Rattle.expansion_meaning.specs.Rules.{Rule}
+use Rattle.elaborate_meaning.specs.Rules.{Rule}
 use Rattle.link_meaning.specs.Refusals.{Refusal}
 use Rattle.link_setting.specs.declared.fault.LinkFault.{LinkFault}
 use Rattle.link_setting.specs.declared.fault.LinkFault.TheVariants.{Memory}

@@ -2,11 +2,11 @@
 ghost use Rattle.std.specs.Prelude.{◌≡◌, ◌≤◌, Some, length, true, IfOk};
 ghost use Rattle.name_meaning.specs.Limits.{text_limit};
 ghost use Rattle.name_meaning.specs.Names.{is_among, is_ascending};
-ghost use Rattle.log_meaning.specs.Log.{Library};
+ghost use Rattle.edit_log_meaning.specs.Log.{Library};
 ghost use Rattle.text_meaning.specs.Reading.{ModuleText};
 ghost use Rattle.text_meaning.specs.TextAnswers as texts;
 ghost use Rattle.library_meaning.specs.Faces.{IsAbsent};
-ghost use Rattle.expansion_meaning.specs.Rules as rules;
+ghost use Rattle.elaborate_meaning.specs.Rules as rules;
 ghost use Rattle.text_meaning.specs.Dependencies.{module_dependencies};
 ghost use Rattle.verdict_meaning.specs.Rounds.{modules, verdict_of};
 ghost use Rattle.verdict_meaning.specs.Verdicts.{cycle_at, judge_answer};

@@ -2,10 +2,10 @@
 ghost use Rattle.std.specs.Prelude.{◌≡◌, ◌∷◌, ◌++◌, [], List, ℕ, true, false, IfOk, OnOk};
 ghost use Rattle.name_meaning.specs.Names.{is_among};
 ghost use Rattle.name_meaning.specs.Rows.{row_names, row_of};
-ghost use Rattle.log_meaning.specs.Log.{library_of};
+ghost use Rattle.edit_log_meaning.specs.Log.{library_of};
 ghost use Rattle.text_meaning.specs.Dependencies.{dependencies};
-ghost use Rattle.walk_meaning.specs.Graphs.{HoldsDependencies, graph_grounded};
-ghost use Rattle.walk_meaning.specs.Walks.{is_grounded, is_ungrounded, ungrounded_names};
+ghost use Rattle.module_graph_meaning.specs.Graphs.{HoldsDependencies, graph_grounded};
+ghost use Rattle.module_graph_meaning.specs.Walks.{is_grounded, is_ungrounded, ungrounded_names};
 ghost use Rattle.verdict_meaning.specs.Rounds.{verdict_of};
 ghost use Rattle.mmt_interface.specs.CoherentFaces.{AreCoherent};
 ghost use Rattle.mmt_interface.specs.Readings.{read_faces};

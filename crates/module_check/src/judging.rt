@@ -1,7 +1,7 @@
 //! The verdict on a module, from its text and the verdicts of what it reaches.
 ghost use Rattle.std.specs.Prelude.{◌≡◌, ◌≤◌, ◌+◌, Some, length, IfOk, OnErr, OnOk};
 ghost use Rattle.name_meaning.specs.Limits.{text_limit};
-ghost use Rattle.log_meaning.specs.Log.{Library};
+ghost use Rattle.edit_log_meaning.specs.Log.{Library};
 ghost use Rattle.verdict_meaning.specs.Rounds.{modules, verdict_of};
 ghost use Rattle.mmt_interface.specs.Readings.{read_verdict};
 ghost use Rattle.module_graph.specs.Subjects.{IsGiven, read_answers};

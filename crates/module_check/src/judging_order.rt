@@ -1,6 +1,6 @@
 //! The order in which grounded modules are judged.
 ghost use Rattle.std.specs.Prelude.{◌≡◌, length, map, IfOk, IsPermutation};
-ghost use Rattle.walk_meaning.specs.Graphs.{graph_reach};
+ghost use Rattle.module_graph_meaning.specs.Graphs.{graph_reach};
 ghost use Rattle.module_check.specs.JudgingOrders.{RisesInReach};
 
 use lf_terms::{Memory, Name, Names};

@@ -3,10 +3,10 @@ ghost use Rattle.std.specs.Prelude.{◌≡◌, ◌∷◌, ◌++◌, [], true, If
 ghost use Rattle.std.specs.Option.{option_map};
 ghost use Rattle.name_meaning.specs.Names.{is_among};
 ghost use Rattle.name_meaning.specs.Rows.{row_names, IsTable};
-ghost use Rattle.log_meaning.specs.Log.{is_present, library_of};
+ghost use Rattle.edit_log_meaning.specs.Log.{is_present, library_of};
 ghost use Rattle.text_meaning.specs.Dependencies.{dependencies};
-ghost use Rattle.walk_meaning.specs.Graphs.{HoldsDependencies};
-ghost use Rattle.walk_meaning.specs.Subject.{answers_of, present_answer};
+ghost use Rattle.module_graph_meaning.specs.Graphs.{HoldsDependencies};
+ghost use Rattle.module_graph_meaning.specs.Subject.{answers_of, present_answer};
 ghost use Rattle.verdict_meaning.specs.Rounds.{modules};
 ghost use Rattle.mmt_interface.specs.Readings.{read_verdict};
 ghost use Rattle.module_graph.specs.Subjects.{read_answers};

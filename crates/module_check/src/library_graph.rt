@@ -1,10 +1,10 @@
 //! The graph of a log's library.
 ghost use Rattle.std.specs.Prelude.{◌≡◌, true, IfOk, OnOk};
 ghost use Rattle.name_meaning.specs.Rows.{with_row};
-ghost use Rattle.log_meaning.specs.Log.{is_present, library_of};
+ghost use Rattle.edit_log_meaning.specs.Log.{is_present, library_of};
 ghost use Rattle.text_meaning.specs.Dependencies as meaning;
-ghost use Rattle.walk_meaning.specs.Graphs.{HoldsDependencies};
-ghost use Rattle.walk_meaning.specs.Walks.{direct};
+ghost use Rattle.module_graph_meaning.specs.Graphs.{HoldsDependencies};
+ghost use Rattle.module_graph_meaning.specs.Walks.{direct};
 
 use crate::dependencies::dependencies;
 use edit_log::Log;

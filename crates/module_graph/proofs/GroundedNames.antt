@@ -6,16 +6,16 @@ use Rattle.std.specs.Cmp.Lexicographic.{slice_cmp}
 use Rattle.std.proofs.lemmas.Bool.{cases_Bool, and_from, and_parts, not_from_false, false_from_ne_true}
 use Rattle.name_meaning.specs.Names.{Name, is_ascending}
 use Rattle.name_meaning.specs.Rows.{row_names, row_of, IsTable, IsGap}
-use Rattle.log_meaning.specs.Log.{is_present}
-use Rattle.walk_meaning.specs.Walks.{is_ungrounded, is_grounded}
-use Rattle.walk_meaning.specs.Graphs.{Graph, row_dependencies, row_library, is_graph_ungrounded, graph_grounded}
+use Rattle.edit_log_meaning.specs.Log.{is_present}
+use Rattle.module_graph_meaning.specs.Walks.{is_ungrounded, is_grounded}
+use Rattle.module_graph_meaning.specs.Graphs.{Graph, row_dependencies, row_library, is_graph_ungrounded, graph_grounded}
 use Rattle.list_laws.proofs.Lists.{each_itself}
 use Rattle.list_laws.proofs.Members.{in_filter, filter_in, place_member}
 use Rattle.name_laws.proofs.Order.{among_member, ascending_filtered}
 use Rattle.name_laws.proofs.Searching.{searched}
 use Rattle.name_laws.proofs.Rows.{gap_absent, row_among}
-use Rattle.walk_laws.proofs.Graphs.{row_present}
-use Rattle.walk_laws.proofs.Walking.{walking_present, in_present, ungrounded_in}
+use Rattle.module_graph_laws.proofs.Graphs.{row_present}
+use Rattle.module_graph_laws.proofs.Walking.{walking_present, in_present, ungrounded_in}
 
 not_both : (b : Bool) → not b ≡ true → b ≡ true → ⊥
 not_both true f g = true≢false (sym f)

@@ -4,15 +4,15 @@ use Rattle.std.proofs.lemmas.Bool.{cases_lt}
 use Rattle.std.proofs.lemmas.List.{length-replicate}
 use Rattle.name_meaning.specs.Names.{Name}
 use Rattle.name_meaning.specs.Rows.{row_names, IsTable, row_of, IsGap}
-use Rattle.log_meaning.specs.Log.{is_present}
-use Rattle.walk_meaning.specs.Walks.{direct, is_grounded}
-use Rattle.walk_meaning.specs.Graphs.{Graph, row_dependencies, row_library}
+use Rattle.edit_log_meaning.specs.Log.{is_present}
+use Rattle.module_graph_meaning.specs.Walks.{direct, is_grounded}
+use Rattle.module_graph_meaning.specs.Graphs.{Graph, row_dependencies, row_library}
 use Rattle.list_laws.proofs.Members.{Member, place_member, in_append, append_left, append_right}
 use Rattle.list_laws.proofs.Places.{place_within}
 use Rattle.name_laws.proofs.Rows.{gap_absent, row_at, place_of_member}
 use Rattle.name_laws.proofs.Sorted.{one_place}
-use Rattle.walk_laws.proofs.Graphs.{row_direct, row_present, row_library_names, peeled_grounded, left_ungrounded}
-use Rattle.walk_laws.proofs.Walking.{present_in}
+use Rattle.module_graph_laws.proofs.Graphs.{row_direct, row_present, row_library_names, peeled_grounded, left_ungrounded}
+use Rattle.module_graph_laws.proofs.Walking.{present_in}
 use Rattle.module_graph.specs.Peeling.{IsPassed, IsWaiting, IsPeeling, TellsGrounded, IsOpenAt, AllPassed}
 use Rattle.module_graph.specs.PeelingState.{places}
 use Rattle.list_laws.proofs.Writes.{set_long, set_here, set_found, set_left, set_stays, item_at}

@@ -7,13 +7,13 @@ use Rattle.std.specs.List.{list_any, IsDistinct, AllByRecursion}
 use Rattle.indexmap.specs.IndexSet.{insert_key, insert_all}
 use Rattle.name_meaning.specs.Names.{Name, same_name, is_among, is_ascending}
 use Rattle.name_meaning.specs.Rows.{row_of}
-use Rattle.walk_meaning.specs.Reach.{reach}
-use Rattle.walk_meaning.specs.Graphs.{Graph, row_dependencies, row_library, graph_reach}
+use Rattle.module_graph_meaning.specs.Reach.{reach}
+use Rattle.module_graph_meaning.specs.Graphs.{Graph, row_dependencies, row_library, graph_reach}
 use Rattle.list_laws.proofs.Members.{Member, any_found, any_not, member_place, place_member, in_append, append_left, append_right, filter_in, flat_map_in}
 use Rattle.list_laws.proofs.Places.{get_front, place_within}
 use Rattle.name_laws.proofs.Order.{among_member, member_among, same_of}
-use Rattle.walk_laws.proofs.Graphs.{row_direct}
-use Rattle.walk_laws.proofs.Reaching.{one_list, reach_closed, reach_first, reach_ascending, reach_least}
+use Rattle.module_graph_laws.proofs.Graphs.{row_direct}
+use Rattle.module_graph_laws.proofs.Reaching.{one_list, reach_closed, reach_first, reach_ascending, reach_least}
 use Rattle.module_graph.specs.Reaching.{IsReachOf}
 
 -- ---- names that are added behind others where they are new

@@ -3,8 +3,8 @@
 use Rattle.std.specs.Prelude.{◌≡◌, ◌⊎◌, ℕ, ◌+◌, ◌*◌, ◌<◌, ◌≤◌, Bool, true, false, not, List, length, count_by, slice_get, Some}
 use Rattle.name_meaning.specs.Names.{Name}
 use Rattle.name_meaning.specs.Rows.{row_names, IsTable}
-use Rattle.walk_meaning.specs.Walks.{is_grounded}
-use Rattle.walk_meaning.specs.Graphs.{Graph, row_dependencies, row_library}
+use Rattle.module_graph_meaning.specs.Walks.{is_grounded}
+use Rattle.module_graph_meaning.specs.Graphs.{Graph, row_dependencies, row_library}
 use Rattle.list_laws.proofs.Members.{Member}
 
 -- The name is absent from the graph, or taken off.

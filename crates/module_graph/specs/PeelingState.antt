@@ -1,6 +1,6 @@
 -- The state in which names are taken off a graph (this profile).
 use Rattle.std.specs.Prelude.{ℕ, zero, suc, List, [], ◌∷◌, ◌++◌}
-use Rattle.walk_meaning.specs.Graphs.{Graph}
+use Rattle.module_graph_meaning.specs.Graphs.{Graph}
 use Rattle.module_graph.specs.Peeling.{IsPeeling, work_left}
 use Rattle.module_graph.specs.declared.grounding.Peeling.{Peeling}
 

@@ -2,7 +2,7 @@
 use Rattle.std.specs.Prelude.{List, [], unwrap_or}
 use Rattle.name_meaning.specs.Names.{Name}
 use Rattle.name_meaning.specs.Rows.{row_of}
-use Rattle.walk_meaning.specs.Graphs.{Graph, graph_reach}
+use Rattle.module_graph_meaning.specs.Graphs.{Graph, graph_reach}
 use Rattle.list_laws.proofs.Members.{Member}
 
 -- These names are just those that one of the first ones reaches, which are among them, and have their direct dependencies among them.

@@ -2,9 +2,9 @@
 use Rattle.std.specs.Prelude.{◌≡◌, true, List, map, Option, Some}
 use Rattle.std.specs.Option.{option_map}
 use Rattle.name_meaning.specs.Names.{Name, Text}
-use Rattle.log_meaning.specs.Log.{Library, IsLibrary, text_of}
-use Rattle.walk_meaning.specs.Walks.{is_grounded, is_ungrounded, ungrounded_names}
-use Rattle.walk_meaning.specs.Subject.{Subject, AnswersPresent, KeepsToReach, answers_of}
+use Rattle.edit_log_meaning.specs.Log.{Library, IsLibrary, text_of}
+use Rattle.module_graph_meaning.specs.Walks.{is_grounded, is_ungrounded, ungrounded_names}
+use Rattle.module_graph_meaning.specs.Subject.{Subject, AnswersPresent, KeepsToReach, answers_of}
 
 -- What answers under names stand for.
 abbrev pub read_answers : {Answer Meaning : Type 0} → (Answer → Meaning) → List (Name × Option Answer) → List (Name × Option Meaning)

@@ -1,7 +1,7 @@
 //! Which names of a graph are grounded. A name is taken off the graph once all its present dependencies are; what is left at the
 //! end lies on a cycle or reaches one.
 ghost use Rattle.std.specs.Prelude.{◌≡◌, ◌∷◌, ◌≤◌, [], ℕ, List, length, IfOk, OnOk, MatchOption};
-ghost use Rattle.walk_meaning.specs.Graphs.{graph_grounded};
+ghost use Rattle.module_graph_meaning.specs.Graphs.{graph_grounded};
 ghost use Rattle.name_meaning.specs.Rows.{IsTable};
 ghost use Rattle.module_graph.specs.Peeling.{IsOpenAt, AllPassed, TellsGrounded};
 ghost use Rattle.module_graph.specs.PeelingState.{IsState, IsStateWith, places, work};

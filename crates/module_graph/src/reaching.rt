@@ -5,7 +5,7 @@ ghost use Rattle.std.specs.Option.{option_copied, option_and_then};
 ghost use Rattle.indexmap.specs.IndexSet.{IsUnique, insert_all};
 ghost use Rattle.name_meaning.specs.Names.{is_among, same_name};
 ghost use Rattle.name_meaning.specs.Rows.{row_of};
-ghost use Rattle.walk_meaning.specs.Graphs.{graph_reach};
+ghost use Rattle.module_graph_meaning.specs.Graphs.{graph_reach};
 ghost use Rattle.module_graph.specs.Reaching.{IsReachOf};
 
 use crate::Graph;

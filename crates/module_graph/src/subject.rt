@@ -1,8 +1,8 @@
 //! What is judged: modules whose answers depend on the answers of what they reach.
 ghost use Rattle.std.specs.Prelude.{◌≡◌, ◌+◌, ◌≤◌, List, ℕ, Option, Some, length, IfOk, OnErr, OnOk};
 ghost use Rattle.name_meaning.specs.Limits.{text_limit};
-ghost use Rattle.log_meaning.specs.Log.{Library};
-ghost use Rattle.walk_meaning.specs.Subject as subjects;
+ghost use Rattle.edit_log_meaning.specs.Log.{Library};
+ghost use Rattle.module_graph_meaning.specs.Subject as subjects;
 ghost use Rattle.module_graph.specs.Subjects.{IsLawful, IsGiven, IsCyclic, read_answers};
 
 use crate::Answers;

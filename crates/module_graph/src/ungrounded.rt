@@ -1,6 +1,6 @@
 //! The first ungrounded name of a list.
 ghost use Rattle.std.specs.Prelude.{◌≡◌, position};
-ghost use Rattle.walk_meaning.specs.Graphs.{is_graph_ungrounded, graph_grounded};
+ghost use Rattle.module_graph_meaning.specs.Graphs.{is_graph_ungrounded, graph_grounded};
 
 use crate::Graph;
 use lf_terms::{Name, Names};

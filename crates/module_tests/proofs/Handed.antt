@@ -1,7 +1,7 @@
 -- What is known of the job that a claim hands out, where it hands one out.
 use Rattle.std.proofs.Common.{◌≡◌, ◌<◌, ℕ, true, false, length, slice_get, nat_eq, Option, Some, None, IfSome, option_map, sym, arith, eqb-true}
 use Rattle.std.proofs.lemmas.Bool.{and_parts, false_from_ne_true}
-use Rattle.walk_meaning.specs.Subject.{Subject}
+use Rattle.module_graph_meaning.specs.Subject.{Subject}
 use Rattle.board_meaning.specs.Events.{History}
 use Rattle.board_meaning.specs.Claims.{is_open}
 use Rattle.board_meaning.specs.Machine.{Job, claim_reply, ClaimCall, is_by, may_call, after_call}

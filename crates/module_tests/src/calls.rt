@@ -1,6 +1,6 @@
 //! Single calls, by any pass, with what is seen of them. A call that finds no memory is as one that was refused.
 ghost use Rattle.std.specs.Prelude.{◌≡◌, ◌<◌, ℕ, false, length, nat_eq, IfOk, IfSome, Some};
-ghost use Rattle.log_meaning.specs.Log.{Library};
+ghost use Rattle.edit_log_meaning.specs.Log.{Library};
 ghost use Rattle.board_meaning.specs.Events.{library_after};
 ghost use Rattle.board_meaning.specs.Machine as machine;
 ghost use Rattle.module_graph.specs.Subjects.{IsGiven, read_answers};

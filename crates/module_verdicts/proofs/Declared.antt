@@ -6,8 +6,8 @@ use Rattle.lf_meaning.specs.Signatures.{Declaration}
 use Rattle.answer_meaning.specs.Answers.{◌>>=◌}
 use Rattle.text_meaning.specs.Trees.{Written, Expr, StructDecl, ConstDecl, first_name}
 use Rattle.library_meaning.specs.Faces.{TheoryFace, Known, IsAbsent, IsRefused, IsTheory, IsView, Environment, theory_of, theory_face}
-use Rattle.expansion_meaning.specs.Rules.{Rule}
-use Rattle.expansion_meaning.specs.Values.{expand_class}
+use Rattle.elaborate_meaning.specs.Rules.{Rule}
+use Rattle.elaborate_meaning.specs.Values.{expand_class}
 use Rattle.link_meaning.specs.Refusals.{Outcome, labelled, demand}
 use Rattle.link_meaning.specs.Passes.{link_map}
 use Rattle.link_meaning.specs.Induced.{with_structure}

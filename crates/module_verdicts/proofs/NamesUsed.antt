@@ -10,7 +10,7 @@ use Rattle.lf_meaning.specs.Signatures.{Declaration, declaration_of}
 use Rattle.library_meaning.specs.Faces.{structure_of}
 use Rattle.library_meaning.specs.Resolution.{Scope, own_at}
 use Rattle.text_meaning.specs.Trees.{Written, Expr, first_name}
-use Rattle.expansion_meaning.specs.Values.{expand_class}
+use Rattle.elaborate_meaning.specs.Values.{expand_class}
 use Rattle.link_meaning.specs.Refusals.{labelled}
 use Rattle.verdict_meaning.specs.Modules.{declared_value, is_used}
 use Rattle.library_laws.proofs.OwnConstants.{own_found}

@@ -4,7 +4,7 @@ use Rattle.name_meaning.specs.Names.{Name, same_name}
 use Rattle.answer_meaning.specs.Answers.{◌>>=◌}
 use Rattle.text_meaning.specs.Trees.{Written, Decl, Module, SigModule, first_name}
 use Rattle.library_meaning.specs.Faces.{TheoryFace, Environment, flat_signature}
-use Rattle.expansion_meaning.specs.Rules.{Rule}
+use Rattle.elaborate_meaning.specs.Rules.{Rule}
 use Rattle.link_meaning.specs.Refusals.{demand}
 use Rattle.verdict_meaning.specs.Modules.{declare_all, empty_theory}
 use Rattle.verdict_meaning.specs.Verdicts.{Theory, checked, judge_tree, written_name}

@@ -6,7 +6,7 @@ use Rattle.answer_meaning.specs.Answers.{◌>>=◌}
 use Rattle.text_meaning.specs.Trees.{Written, Expr, first_name}
 use Rattle.library_meaning.specs.Faces.{TheoryFace}
 use Rattle.library_meaning.specs.Resolution.{Scope}
-use Rattle.expansion_meaning.specs.Values.{expand_class}
+use Rattle.elaborate_meaning.specs.Values.{expand_class}
 use Rattle.link_meaning.specs.Refusals.{Outcome, labelled}
 use Rattle.verdict_meaning.specs.Modules.{declared_value}
 

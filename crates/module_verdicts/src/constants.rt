@@ -2,7 +2,7 @@
 ghost use Rattle.std.specs.Prelude.{◌≡◌, None, OnOk};
 ghost use Rattle.std.specs.Option.{option_map};
 ghost use Rattle.lf_meaning.specs.Signatures.{declaration_of};
-ghost use Rattle.expansion_meaning.specs.Values.{expand_class, expand_value};
+ghost use Rattle.elaborate_meaning.specs.Values.{expand_class, expand_value};
 ghost use Rattle.link_meaning.specs.Refusals as refusals;
 ghost use Rattle.verdict_meaning.specs.Modules as modules;
 ghost use Rattle.term_trees.specs.Readings.{read_class, read_declaration, read_value};

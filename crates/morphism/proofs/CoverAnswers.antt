@@ -11,8 +11,8 @@ use Rattle.link_meaning.specs.AssignmentsRead.{AssignsRead}
 use Rattle.link_meaning.specs.Coverings.{covered_tests}
 use Rattle.link_meaning.specs.CoveringMaps.{covering_map, MeetsCoverings}
 use Rattle.link_meaning.specs.LinkMaps.{IsSettled}
-use Rattle.row_typing.proofs.Below.Reading.{assignments_are_read}
-use Rattle.row_typing.proofs.Below.CoveringMaps.{covering_map_meets_coverings, coverings_refuse_by_tests, covering_rules}
+use Rattle.morphism_words_typing.proofs.Below.Reading.{assignments_are_read}
+use Rattle.morphism_words_typing.proofs.Below.CoveringMaps.{covering_map_meets_coverings, coverings_refuse_by_tests, covering_rules}
 use Rattle.mmt_interface.specs.Readings.{read_refusal}
 use Rattle.link_passes.specs.Below.Answers.{IsFirstRefusal, Links, RefusesNothing}
 use Rattle.morphism.specs.CoverCalls.{first_passes, BreaksCoveringRule}

@@ -5,7 +5,7 @@ use Rattle.lf_meaning.specs.HeadMaps.{HeadMap}
 use Rattle.text_meaning.specs.Trees.{Written, Assign}
 use Rattle.library_meaning.specs.Faces as faces
 use Rattle.library_meaning.specs.Faces.{theory_of, includes_of}
-use Rattle.expansion_meaning.specs.Rules as rules
+use Rattle.elaborate_meaning.specs.Rules as rules
 use Rattle.answer_meaning.specs.Answers.{◌>>=◌}
 use Rattle.link_meaning.specs.Refusals.{Outcome}
 use Rattle.link_meaning.specs.Assignments.{Setting, read_assigns}

@@ -4,7 +4,7 @@ use Rattle.std.specs.Prelude.{slice_get}
 use Rattle.name_meaning.specs.Names.{Path}
 use Rattle.text_meaning.specs.Trees.{Written}
 use Rattle.answer_meaning.specs.Answers.{◌>>=◌}
-use Rattle.expansion_meaning.specs.Rules.{Rule}
+use Rattle.elaborate_meaning.specs.Rules.{Rule}
 use Rattle.library_meaning.specs.Faces.{Environment, TheoryFace}
 use Rattle.library_meaning.specs.Words.{Link, Meaning, Means, Faulty, EndsApart, RowFaulty, first_by, followed_by, meets, next_by, row_from, row_meaning, word_meaning}
 use Rattle.link_meaning.specs.Assignments.{or_word_fault, paths_of, place_of, rule_of, word_place}

@@ -2,7 +2,7 @@
 use Rattle.std.specs.Prelude.{◌≡◌, ◌⊎◌, Result, Ok, Err, ⊤}
 use Rattle.name_meaning.specs.Names.{Path}
 use Rattle.library_meaning.specs.Words as words
-use Rattle.expansion_meaning.specs.Rules as rules
+use Rattle.elaborate_meaning.specs.Rules as rules
 use Rattle.link_meaning.specs.Refusals.{Outcome, refused}
 use Rattle.mmt_syntax.specs.Readings.{read_span}
 use Rattle.mmt_interface.specs.ReadRules.{read_rule}

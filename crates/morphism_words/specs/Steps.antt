@@ -4,7 +4,7 @@ use Rattle.name_meaning.specs.Names.{Name, Path}
 use Rattle.text_meaning.specs.Tokens.{Span}
 use Rattle.text_meaning.specs.Trees.{Written}
 use Rattle.answer_meaning.specs.Answers.{◌>>=◌}
-use Rattle.expansion_meaning.specs.Rules.{Rule}
+use Rattle.elaborate_meaning.specs.Rules.{Rule}
 use Rattle.library_meaning.specs.Faces.{Environment, Known, IsAbsent, IsRefused, IsTheory, IsView, TheoryFace}
 use Rattle.library_meaning.specs.Words.{Link, Meaning, Means, Faulty, followed_by, is_here, longer_word, meets, or_unknown, structures_link, structures_of, word_meaning}
 use Rattle.link_meaning.specs.Assignments.{rule_of}

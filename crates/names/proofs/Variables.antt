@@ -7,7 +7,7 @@ use Rattle.library_meaning.specs.Resolution.{is_variable, variable_from}
 use Rattle.mmt_syntax.specs.Readings.{read_binder}
 use Rattle.term_trees.specs.declared.fam.Fam.{Fam}
 use Rattle.mmt_syntax.specs.declared.expr.Binder.{Binder}
-use Rattle.expansion_meaning.specs.Locals.{variables_of}
+use Rattle.elaborate_meaning.specs.Locals.{variables_of}
 use Rattle.names.specs.Readings.{read_local, read_variables}
 
 -- One more variable is the innermost.

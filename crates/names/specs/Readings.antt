@@ -3,7 +3,7 @@ use Rattle.std.specs.Prelude.{List, map, reverse, Result, Ok, Err}
 use Rattle.term_trees.specs.Readings.{read_family, read_declaration, read_signature}
 use Rattle.term_trees.specs.declared.fam.Fam.{Fam}
 use Rattle.library_meaning.specs.Resolution as resolution
-use Rattle.expansion_meaning.specs.Locals.{Local, Locals, variables_of}
+use Rattle.elaborate_meaning.specs.Locals.{Local, Locals, variables_of}
 use Rattle.mmt_syntax.specs.Readings.{read_binder}
 use Rattle.mmt_syntax.specs.declared.expr.Binder.{Binder}
 use Rattle.mmt_interface.specs.Readings.{environment_of}

@@ -3,8 +3,8 @@ use Rattle.std.specs.Prelude.{ℕ, suc, List, [], ◌∷◌, ◌++◌, length, c
 use Rattle.std.specs.Fmt.{decimal}
 use Rattle.printing_meaning.specs.Printed.{end_of_line}
 use Rattle.name_meaning.specs.Names.{Name}
-use Rattle.log_meaning.specs.Log.{Edit, Put, Drop, edited_name, Log, version_of}
-use Rattle.log_meaning.specs.Append.{Edited, Made, Same, Absent, Full, TooLong, TooMany, append_answer, appended}
+use Rattle.edit_log_meaning.specs.Log.{Edit, Put, Drop, edited_name, Log, version_of}
+use Rattle.edit_log_meaning.specs.Append.{Edited, Made, Same, Absent, Full, TooLong, TooMany, append_answer, appended}
 
 abbrev pub made_word : Edit → List ℕ
 made_word (Put name text) = codes "put"

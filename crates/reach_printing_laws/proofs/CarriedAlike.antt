@@ -1,7 +1,7 @@
 -- What carrying comes to depends on the faces of the view's reach alone, faults included.
 use Rattle.std.proofs.Common.{◌≡◌, Bool, true, [], Option, Some, None, Ok, Err, refl, sym, ap, ◌∙◌}
 use Rattle.name_meaning.specs.Names.{Name, Path, Text}
-use Rattle.log_meaning.specs.Log.{Library}
+use Rattle.edit_log_meaning.specs.Log.{Library}
 use Rattle.lf_meaning.specs.Terms.{Family}
 use Rattle.lf_meaning.specs.HeadMaps.{HeadMap}
 use Rattle.library_meaning.specs.Faces.{TheoryFace, ViewFace, Known, IsAbsent, IsRefused, IsTheory, IsView, Environment, theory_face, view_face, theory_of, view_of}
@@ -11,8 +11,8 @@ use Rattle.link_laws.proofs.Linked.{known_theory}
 use Rattle.text_meaning.specs.Trees.{Judgement}
 use Rattle.text_meaning.specs.Reading as reading
 use Rattle.text_meaning.specs.TextAnswers.{read}
-use Rattle.expansion_meaning.specs.Answers.{Answer}
-use Rattle.expansion_meaning.specs.Expansion.{expand_family}
+use Rattle.elaborate_meaning.specs.Answers.{Answer}
+use Rattle.elaborate_meaning.specs.Expansion.{expand_family}
 use Rattle.verdict_meaning.specs.Modules.{scope_in}
 use Rattle.verdict_meaning.specs.Rounds.{known_of, verdicts, told_by}
 use Rattle.carried_typing.proofs.Below.Alike.{AllNamed, stands_for_alike}

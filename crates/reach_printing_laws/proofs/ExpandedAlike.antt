@@ -8,11 +8,11 @@ use Rattle.library_meaning.specs.Resolution.{Scope, Variables, resolve}
 use Rattle.text_meaning.specs.Tokens.{Span}
 use Rattle.text_meaning.specs.Trees.{Expr, TypeExpr, NameExpr, AppExpr, PiExpr, LamExpr, TypedLamExpr, ArrowExpr, BackExpr, Exprs, NoArgs, ThenArg}
 use Rattle.answer_meaning.specs.Answers.{◌>>=◌}
-use Rattle.expansion_meaning.specs.Rules.{Rule}
-use Rattle.expansion_meaning.specs.Answers.{must, or_broken}
-use Rattle.expansion_meaning.specs.Locals.{Locals, variables_of, with_local}
-use Rattle.expansion_meaning.specs.NameHeads.{Level, Objects, Families, level_of, same_level, resolved_head, name_head}
-use Rattle.expansion_meaning.specs.Expansion.{span_of, lambda_at, domain_of, object_at, family_at_type, expand_object, expand_head, expand_arguments, expand_family}
+use Rattle.elaborate_meaning.specs.Rules.{Rule}
+use Rattle.elaborate_meaning.specs.Answers.{must, or_broken}
+use Rattle.elaborate_meaning.specs.Locals.{Locals, variables_of, with_local}
+use Rattle.elaborate_meaning.specs.NameHeads.{Level, Objects, Families, level_of, same_level, resolved_head, name_head}
+use Rattle.elaborate_meaning.specs.Expansion.{span_of, lambda_at, domain_of, object_at, family_at_type, expand_object, expand_head, expand_arguments, expand_family}
 
 module _ (one two : Scope) (alike : (variables : Variables) (path : Path) → resolve one variables path ≡ resolve two variables path) where
   head_named : (level : Level) (locals : Locals) (span : Span) (path : Path) → name_head level one locals span path ≡ name_head level two locals span path

@@ -3,7 +3,7 @@ use Rattle.std.specs.Prelude.{codes, flat_map, length}
 use Rattle.std.specs.Fmt.{decimal}
 use Rattle.std.proofs.Common.{◌≡◌, ℕ, true, List, ◌++◌, sym, ap, ◌∙◌}
 use Rattle.name_meaning.specs.Names.{Name}
-use Rattle.log_meaning.specs.Log.{Library}
+use Rattle.edit_log_meaning.specs.Log.{Library}
 use Rattle.lf_meaning.specs.Signatures.{Signature}
 use Rattle.library_meaning.specs.Faces.{TheoryFace, ViewFace, Environment, IsTheory, IsView, theory_face, includes_of, own_of, own_part, own_parts, flat_of, flat_signature}
 use Rattle.printing_meaning.specs.Printed.{end_of_line, named_at}

@@ -1,7 +1,7 @@
 -- Lines and flat texts of accepted modules, over what is known of some names (this profile).
 use Rattle.std.specs.Prelude.{◌≡◌, ℕ, List}
 use Rattle.name_meaning.specs.Names.{Name, Text}
-use Rattle.log_meaning.specs.Log.{Library}
+use Rattle.edit_log_meaning.specs.Log.{Library}
 use Rattle.library_meaning.specs.Faces.{TheoryFace, ViewFace, Environment, IsTheory, IsView}
 use Rattle.verdict_meaning.specs.Rounds.{known_of, verdicts, told_by}
 use Rattle.printing_meaning.specs.VerdictLines.{theory_line, view_line}

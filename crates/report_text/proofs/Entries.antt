@@ -4,7 +4,7 @@ use Rattle.std.proofs.Common.{◌≡◌, ℕ, zero, suc, ◌+◌, ◌<◌, ◌�
 use Rattle.std.proofs.Math.Seq.{drop-cons}
 use Rattle.std.proofs.lemmas.List.{drop_all}
 use Rattle.std.proofs.lemmas.Option.{slice_get_within, get_or_from_slice_get}
-use Rattle.log_meaning.specs.Log.{Edit, Log, edit_at}
+use Rattle.edit_log_meaning.specs.Log.{Edit, Log, edit_at}
 use Rattle.printing_meaning.specs.EditLines.{entry_line, entry_lines}
 
 pub edit_behind : (log : Log) (before : ℕ) → edit_at log (before + 1) ≡ slice_get log before

@@ -5,7 +5,7 @@ ghost use Rattle.printing_meaning.specs.CarriedLines.{carried_line, Carries, Ill
 ghost use Rattle.printing_meaning.specs.Constants.{Seen};
 ghost use Rattle.judged_meaning.specs.Carrying.{Carriage};
 ghost use Rattle.judged_meaning.specs.JudgingByRules.{printed_carriage};
-ghost use Rattle.expansion_meaning.specs.Rules.{word_of};
+ghost use Rattle.elaborate_meaning.specs.Rules.{word_of};
 ghost use Rattle.term_trees.specs.Readings.{read_family, read_object};
 ghost use Rattle.mmt_interface.specs.Carriages.{IsCarriage, IsCarryFault};
 ghost use Rattle.mmt_interface.specs.ReadRules.{read_rule};

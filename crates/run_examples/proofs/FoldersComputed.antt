@@ -4,10 +4,10 @@ use Rattle.std.specs.Str.{is_utf8, chars}
 use Rattle.std.specs.Fmt.{digits}
 use lib.Utf8.{encode}
 use Rattle.name_meaning.specs.Names.{is_among, with_name, with_names}
-use Rattle.walk_meaning.specs.Walks.{direct, walking, is_ungrounded, ungrounded_names}
-use Rattle.walk_meaning.specs.Reach.{reach_within, reach}
-use Rattle.log_meaning.specs.Log.{with_module, without_module, library_of, text_of}
-use Rattle.log_meaning.specs.Append.{append_answer, appended}
+use Rattle.module_graph_meaning.specs.Walks.{direct, walking, is_ungrounded, ungrounded_names}
+use Rattle.module_graph_meaning.specs.Reach.{reach_within, reach}
+use Rattle.edit_log_meaning.specs.Log.{with_module, without_module, library_of, text_of}
+use Rattle.edit_log_meaning.specs.Append.{append_answer, appended}
 use Rattle.text_meaning.specs.Cutting.{cut_on, lex}
 use Rattle.text_meaning.specs.Dividing.{divide_on, divide}
 use Rattle.printing_meaning.specs.Constants.{path_text}

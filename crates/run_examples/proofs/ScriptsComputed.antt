@@ -6,13 +6,13 @@ use lib.Utf8.{encode}
 use Rattle.printing_meaning.specs.Lines.{lines_of}
 use Rattle.printing_meaning.specs.ScriptLines.{text_before, behind_end}
 use Rattle.name_meaning.specs.Names.{is_among, is_ascending, with_name, with_names}
-use Rattle.log_meaning.specs.Log.{with_module, without_module, library_of, text_of}
-use Rattle.log_meaning.specs.Append.{append_answer, appended}
+use Rattle.edit_log_meaning.specs.Log.{with_module, without_module, library_of, text_of}
+use Rattle.edit_log_meaning.specs.Append.{append_answer, appended}
 use Rattle.printing_meaning.specs.EditLines.{entry_lines}
 use Rattle.run_meaning.specs.ScriptCommands.{parted_at_space}
 use Rattle.run_meaning.specs.ScriptItems.{items_within, script_of}
 use Rattle.run_meaning.specs.ScriptOutput.{report_text, flat_text, carry_text, command_parts, log_after, output_from, output_of}
-use Rattle.walk_meaning.specs.Walks.{direct, walking, is_ungrounded, ungrounded_names}
+use Rattle.module_graph_meaning.specs.Walks.{direct, walking, is_ungrounded, ungrounded_names}
 use Rattle.run_meaning.specs.ScriptLogs.{script_log, told_from, script_told}
 use Rattle.run_examples.specs.ScriptExamples.{NothingIsPrinted, PutTwiceDroppedTwice, LogIsPrinted, UnendedText, BadCommand, LongComment, TooLongComment, CutInCommand, CutBehindCommand, CutInEndLine, CutBehindEndLine, CutInName, NoJudgement, LastReturnCounts, LastReturnIsBlank, CommentOfBytes, OtherLines, LogIsLeft, TellsGrounded}
 

@@ -1,7 +1,7 @@
 -- The worked examples compute.
 use Rattle.std.proofs.Common.{refl}
-use Rattle.word_list_meaning.specs.WordLists.{run_of}
-use Rattle.word_list_meaning.specs.WordAnswers.{words_outcome}
+use Rattle.command_words_meaning.specs.WordLists.{run_of}
+use Rattle.command_words_meaning.specs.WordAnswers.{words_outcome}
 use Rattle.run_examples.specs.WordExamples.{PlaysAreAccepted, ChecksAreAccepted, GeneratorsAreAccepted, OthersAreNot, OthersAreAnswered}
 
 abbrev computing : Unit {0}

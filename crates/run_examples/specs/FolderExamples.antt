@@ -3,8 +3,8 @@ use Rattle.std.specs.Prelude.{◌≡◌, ℕ, true, false, List, [], ◌∷◌, 
 use Rattle.lf_meaning.specs.Terms.{Ty}
 use Rattle.lf_meaning.specs.Signatures.{KindClass, Declaration}
 use Rattle.name_meaning.specs.Names.{same_name, Name, Text}
-use Rattle.log_meaning.specs.Log.{Put, Drop, Library, edited_name, library_of}
-use Rattle.walk_meaning.specs.Walks.{Dependencies}
+use Rattle.edit_log_meaning.specs.Log.{Put, Drop, Library, edited_name, library_of}
+use Rattle.module_graph_meaning.specs.Walks.{Dependencies}
 use Rattle.library_meaning.specs.Faces.{TheoryFace}
 use Rattle.printing_meaning.specs.VerdictLines.{Judged, Refused, AcceptedTheory}
 use Rattle.printing_meaning.specs.CarriedLines.{NoView}

@@ -1,7 +1,7 @@
 -- Worked examples of scripts, for any judging.
 use Rattle.std.specs.Prelude.{◌≡◌, ℕ, List, [], ◌∷◌, ◌++◌, take, replicate, codes}
 use Rattle.name_meaning.specs.Names.{Name, Text}
-use Rattle.log_meaning.specs.Log.{Put, Drop, Library}
+use Rattle.edit_log_meaning.specs.Log.{Put, Drop, Library}
 use Rattle.printing_meaning.specs.VerdictLines.{Refused}
 use Rattle.printing_meaning.specs.CarriedLines.{NoView}
 use Rattle.run_meaning.specs.Judging.{Judging}

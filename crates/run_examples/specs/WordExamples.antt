@@ -1,7 +1,7 @@
 -- Worked examples of words: which lists are accepted, and what they ask for.
 use Rattle.std.specs.Prelude.{◌≡◌, ℕ, false, [], ◌∷◌, Some, map, codes}
-use Rattle.word_list_meaning.specs.WordLists.{Task, Play, CheckFolder, Generate, Run, run_of, is_accepted}
-use Rattle.word_list_meaning.specs.WordAnswers.{Outcome, Begins, Ends, words_outcome}
+use Rattle.command_words_meaning.specs.WordLists.{Task, Play, CheckFolder, Generate, Run, run_of, is_accepted}
+use Rattle.command_words_meaning.specs.WordAnswers.{Outcome, Begins, Ends, words_outcome}
 
 abbrev pub by : Task → ℕ → Run
 by task workers = record { task = task; workers = workers }

@@ -3,9 +3,9 @@ use Rattle.std.proofs.Common.{◌≡◌, ℕ, Bool, true, false, cond, List, [],
 use Rattle.std.specs.Prelude.{Some, None, map}
 use Rattle.std.specs.List.{cons_option}
 use Rattle.name_meaning.specs.Names.{Name}
-use Rattle.log_meaning.specs.Log.{Edit, Log, names_of, library_of, version_of}
-use Rattle.log_meaning.specs.Append.{appended, appended_all}
-use Rattle.walk_meaning.specs.Walks.{is_grounded}
+use Rattle.edit_log_meaning.specs.Log.{Edit, Log, names_of, library_of, version_of}
+use Rattle.edit_log_meaning.specs.Append.{appended, appended_all}
+use Rattle.module_graph_meaning.specs.Walks.{is_grounded}
 use Rattle.run_meaning.specs.Judging.{Judging}
 use Rattle.run_meaning.specs.Parts.{Telling, telling_of, told_of_all}
 use Rattle.run_meaning.specs.Generator.{first_puts, later_puts, told_after_each, generator_told}

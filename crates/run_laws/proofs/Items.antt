@@ -5,7 +5,7 @@ use Rattle.std.proofs.lemmas.List.{length-append}
 use Rattle.printing_meaning.specs.Lines.{content_of}
 use Rattle.printing_meaning.specs.ScriptLines.{text_before, behind_end, line_after}
 use Rattle.run_laws.proofs.TextLemmas.{behind_end-shorter}
-use Rattle.log_meaning.specs.Log.{Put}
+use Rattle.edit_log_meaning.specs.Log.{Put}
 use Rattle.run_meaning.specs.ScriptCommands.{kept, Command, EditCommand, Said, Puts, Says, Wrong, said_by, Next, Ends, Gives, Bad, Unended, ended, put_of, next_by, next_of}
 use Rattle.name_meaning.specs.Limits.{put_limit}
 use Rattle.run_meaning.specs.ScriptItems.{Item, Spoken, items_by, items_within, items_of}

@@ -2,9 +2,9 @@
 use Rattle.std.proofs.Common.{◌≡◌, suc, ◌<◌, ◌≤◌, Bool, true, false, length, nat_lt, refl, sym, ap, ◌∙◌, arith, ltb-true, ltb-false, lt-ltb}
 use Rattle.std.proofs.lemmas.List.{take_all}
 use Rattle.name_meaning.specs.Names.{Name, Text}
-use Rattle.log_meaning.specs.Log.{Put, Log}
+use Rattle.edit_log_meaning.specs.Log.{Put, Log}
 use Rattle.name_meaning.specs.Limits.{text_limit}
-use Rattle.log_meaning.specs.Append.{Edited, TooLong, append_answer, log_after, appended}
+use Rattle.edit_log_meaning.specs.Append.{Edited, TooLong, append_answer, log_after, appended}
 use Rattle.list_laws.proofs.Places.{length_take}
 use Rattle.printing_meaning.specs.EditLines.{edit_word, edit_line, edited_line}
 use Rattle.run_meaning.specs.ScriptCommands.{kept}

@@ -7,10 +7,10 @@ use Rattle.std.proofs.lemmas.List.Folds.{list_all-append}
 use Rattle.std.proofs.lemmas.List.Sums.{fold-append}
 use Rattle.std.proofs.lemmas.List.Elements.{filter_map-append}
 use Rattle.name_meaning.specs.Names.{Name}
-use Rattle.log_meaning.specs.Log.{Edit, Log, names_of, library_of, version_of}
-use Rattle.log_meaning.specs.Append.{Edited, Made, Same, Absent, Full, TooLong, TooMany, append_answer, log_after as left_by, appended, appended_all}
+use Rattle.edit_log_meaning.specs.Log.{Edit, Log, names_of, library_of, version_of}
+use Rattle.edit_log_meaning.specs.Append.{Edited, Made, Same, Absent, Full, TooLong, TooMany, append_answer, log_after as left_by, appended, appended_all}
 use Rattle.list_laws.proofs.Places.{take_front, take_length}
-use Rattle.walk_meaning.specs.Walks.{Dependencies, is_grounded}
+use Rattle.module_graph_meaning.specs.Walks.{Dependencies, is_grounded}
 use Rattle.run_meaning.specs.ScriptCommands.{Command, EditCommand, ReportCommand, CheckCommand, FlatCommand, CarryCommand, LogCommand, BlankCommand}
 use Rattle.run_meaning.specs.ScriptItems.{Item, Spoken, script_of}
 use Rattle.run_meaning.specs.ScriptOutput.{report_text, command_parts, command_text, command_told, log_after}

@@ -2,9 +2,9 @@
 use Rattle.std.specs.Prelude.{◌≡◌, ℕ, ◌<◌, ◌≤◌, Bool, true, false, List, [], ◌∷◌, ◌++◌, ◌-◌, ◌==◌, length, map, Option, Some, None, option_to_list}
 use Rattle.std.specs.List.{list_all}
 use Rattle.name_meaning.specs.Names.{Name, Text}
-use Rattle.log_meaning.specs.Log.{Edit, Put, Log, library_of, version_of}
+use Rattle.edit_log_meaning.specs.Log.{Edit, Put, Log, library_of, version_of}
 use Rattle.name_meaning.specs.Limits.{text_limit}
-use Rattle.log_meaning.specs.Append.{append_answer, appended, appended_all}
+use Rattle.edit_log_meaning.specs.Append.{append_answer, appended, appended_all}
 use Rattle.printing_meaning.specs.Printed.{bad_line, unended_line}
 use Rattle.run_meaning.specs.Judging.{Judging}
 use Rattle.printing_meaning.specs.EditLines.{edited_line}

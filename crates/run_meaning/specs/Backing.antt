@@ -1,6 +1,6 @@
 -- Which histories of the board back what is told (this profile).
 use Rattle.std.specs.Prelude.{◌≡◌, ℕ, List, slice_get, Some}
-use Rattle.walk_meaning.specs.Walks.{Dependencies}
+use Rattle.module_graph_meaning.specs.Walks.{Dependencies}
 use Rattle.board_meaning.specs.Events.{History}
 use Rattle.board_meaning.specs.Standing.{IsBacked}
 use Rattle.run_meaning.specs.Judging.{Judging}

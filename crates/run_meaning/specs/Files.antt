@@ -4,8 +4,8 @@ use Rattle.text_meaning.specs.Trees.{first_name}
 use Rattle.std.specs.Prelude.{ℕ, Bool, List, [], ◌∷◌, ◌++◌, ◌-◌, length, take, drop, nat_eq, nat_lt, filter, fold, Option, Some, None, if◌then◌else◌, codes}
 use Rattle.std.specs.List.{ends_with}
 use Rattle.name_meaning.specs.Names.{Name, Text, same_name, comes_before}
-use Rattle.log_meaning.specs.Log.{Put, Log, library_of, is_present}
-use Rattle.log_meaning.specs.Append.{Edited, Made, Same, Absent, Full, TooLong, TooMany, append_answer, appended}
+use Rattle.edit_log_meaning.specs.Log.{Put, Log, library_of, is_present}
+use Rattle.edit_log_meaning.specs.Append.{Edited, Made, Same, Absent, Full, TooLong, TooMany, append_answer, appended}
 use Rattle.text_meaning.specs.Cutting.{lex}
 use Rattle.text_meaning.specs.Splitting.{Piece, Division, Pieces, SyntaxFault, UnsupportedFault}
 use Rattle.text_meaning.specs.Dividing.{divide}

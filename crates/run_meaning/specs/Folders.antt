@@ -1,7 +1,7 @@
 -- What checking a folder prints (this profile).
 use Rattle.std.specs.Prelude.{ℕ, Bool, true, false, find, List, [], ◌∷◌, ◌++◌, ◌+◌, ◌||◌, not, length, map, filter, nat_eq, Option, Some, None}
 use Rattle.name_meaning.specs.Names.{Name, same_name}
-use Rattle.log_meaning.specs.Log.{Log, Library, names_of, library_of, version_of}
+use Rattle.edit_log_meaning.specs.Log.{Log, Library, names_of, library_of, version_of}
 use Rattle.printing_meaning.specs.Printed.{absent_line}
 use Rattle.printing_meaning.specs.VerdictLines.{Judged, Refused, AcceptedTheory, AcceptedView, judged_line}
 use Rattle.printing_meaning.specs.FolderLines.{file_line, place_in_file, files_line}

@@ -2,10 +2,10 @@
 use Rattle.std.specs.Prelude.{ℕ, zero, suc, List, [], ◌∷◌, ◌++◌, ◌+◌, ◌*◌, ◌-◌, ◌/◌, ◌%◌, ◌^◌, length, filter, sum_by, nat_eq, if◌then◌else◌, codes}
 use Rattle.std.specs.Fmt.{decimal}
 use Rattle.name_meaning.specs.Names.{Name, Text, is_among}
-use Rattle.log_meaning.specs.Log.{Edit, Put, edited_name, Log, Library, names_of, library_of, version_of}
-use Rattle.log_meaning.specs.Append.{Edited, Made, Same, Absent, Full, TooLong, TooMany, append_answer, appended, appended_all}
-use Rattle.walk_meaning.specs.Walks.{Dependencies, is_grounded}
-use Rattle.walk_meaning.specs.Reach.{reach}
+use Rattle.edit_log_meaning.specs.Log.{Edit, Put, edited_name, Log, Library, names_of, library_of, version_of}
+use Rattle.edit_log_meaning.specs.Append.{Edited, Made, Same, Absent, Full, TooLong, TooMany, append_answer, appended, appended_all}
+use Rattle.module_graph_meaning.specs.Walks.{Dependencies, is_grounded}
+use Rattle.module_graph_meaning.specs.Reach.{reach}
 use Rattle.library_meaning.specs.Faces.{Environment, flat_signature, flat_of}
 use Rattle.printing_meaning.specs.VerdictLines.{Judged, Refused, AcceptedTheory, AcceptedView}
 use Rattle.printing_meaning.specs.GeneratorLines.{Counts, generator_line, installs_line}

@@ -2,8 +2,8 @@
 -- judging; the one of the rules is given where verdicts are defined.
 use Rattle.std.specs.Prelude.{if◌then◌else◌}
 use Rattle.name_meaning.specs.Names.{Name, Text}
-use Rattle.log_meaning.specs.Log.{Library, is_present}
-use Rattle.walk_meaning.specs.Walks.{Dependencies}
+use Rattle.edit_log_meaning.specs.Log.{Library, is_present}
+use Rattle.module_graph_meaning.specs.Walks.{Dependencies}
 use Rattle.library_meaning.specs.Faces.{Known, IsAbsent, IsRefused, IsTheory, IsView, Environment}
 use Rattle.printing_meaning.specs.VerdictLines.{Judged, known_by}
 use Rattle.printing_meaning.specs.CarriedLines.{Carried}

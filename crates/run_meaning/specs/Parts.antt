@@ -1,8 +1,8 @@
 -- What is printed, in parts, and what each part tells of (this profile).
 use Rattle.std.specs.Prelude.{ℕ, List, flat_map, filter_map, Option, Some, None, if◌then◌else◌}
 use Rattle.name_meaning.specs.Names.{Name}
-use Rattle.log_meaning.specs.Log.{Log, names_of, library_of, version_of}
-use Rattle.walk_meaning.specs.Walks.{Dependencies, is_grounded}
+use Rattle.edit_log_meaning.specs.Log.{Log, names_of, library_of, version_of}
+use Rattle.module_graph_meaning.specs.Walks.{Dependencies, is_grounded}
 
 -- The verdict, the flat text or the carrying of this name is told at this version.
 pub record Telling : Type 0 where

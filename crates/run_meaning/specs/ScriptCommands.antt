@@ -6,7 +6,7 @@ use Rattle.std.specs.Str.{bytes_eq}
 use Rattle.printing_meaning.specs.Lines.{content_of}
 use Rattle.printing_meaning.specs.ScriptLines.{is_name, is_silent, text_before, behind_end}
 use Rattle.name_meaning.specs.Names.{Name, Text}
-use Rattle.log_meaning.specs.Log.{Edit, Put, Drop}
+use Rattle.edit_log_meaning.specs.Log.{Edit, Put, Drop}
 
 -- What is kept of a text that is put: all of it, or as many bytes as show that it is longer than the limit of a text.
 abbrev pub kept : Text → Text

@@ -1,7 +1,7 @@
 -- The log that a script leaves, and of which modules its lines tell (this profile).
 use Rattle.std.specs.Prelude.{ℕ, Bool, List, [], ◌∷◌, ◌++◌, ◌-◌, ◌&&◌, length, take, fold, filter_map, nat_eq, nat_le, Option, Some, None, if◌then◌else◌}
-use Rattle.log_meaning.specs.Log.{Edit, Log, library_of, version_of}
-use Rattle.walk_meaning.specs.Walks.{Dependencies, is_grounded}
+use Rattle.edit_log_meaning.specs.Log.{Edit, Log, library_of, version_of}
+use Rattle.module_graph_meaning.specs.Walks.{Dependencies, is_grounded}
 use Rattle.run_meaning.specs.ScriptCommands.{Command, EditCommand, ReportCommand, CheckCommand, FlatCommand, CarryCommand, LogCommand, BlankCommand}
 use Rattle.run_meaning.specs.ScriptItems.{Item, Spoken, BadAt, UnendedAt, script_of}
 use Rattle.run_meaning.specs.ScriptOutput.{log_after, command_text, command_told}

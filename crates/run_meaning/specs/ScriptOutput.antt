@@ -2,8 +2,8 @@
 use Rattle.std.specs.Prelude.{ℕ, Bool, true, false, List, [], ◌∷◌, ◌++◌, map, Option, Some, None}
 use Rattle.printing_meaning.specs.Printed.{absent_line, bad_line, unended_line}
 use Rattle.name_meaning.specs.Names.{Name, Text}
-use Rattle.log_meaning.specs.Log.{Log, Library, names_of, library_of, text_of, version_of}
-use Rattle.log_meaning.specs.Append.{appended}
+use Rattle.edit_log_meaning.specs.Log.{Log, Library, names_of, library_of, text_of, version_of}
+use Rattle.edit_log_meaning.specs.Append.{appended}
 use Rattle.library_meaning.specs.Faces.{Environment}
 use Rattle.printing_meaning.specs.PrintedTables.{theory_text, view_text}
 use Rattle.printing_meaning.specs.EditLines.{edited_line, log_text}

@@ -2,7 +2,7 @@
 use Rattle.std.proofs.Common.{◌≡◌, ℕ, zero, suc, ◌+◌, ◌-◌, ◌<◌, ◌≤◌, Bool, true, false, List, [], ◌∷◌, ◌++◌, length, nat_lt, refl, sym, ap, ◌∙◌, arith, ltb-true, ltb-false}
 use Rattle.std.specs.Prelude.{slice_get, Some}
 use Rattle.std.proofs.lemmas.List.{length-append}
-use Rattle.log_meaning.specs.Log.{Edit}
+use Rattle.edit_log_meaning.specs.Log.{Edit}
 use Rattle.list_laws.proofs.Places.{get_front, get_last, get_behind}
 use Rattle.run_meaning.specs.Generator.{draw_below, edited_module, generated_put, first_puts, later_puts, generated}
 use Rattle.script_reader.specs.Generating.{Generating, ComesNext}

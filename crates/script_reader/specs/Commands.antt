@@ -1,7 +1,7 @@
 -- Which command of a script a command of the code is.
 use Rattle.std.specs.Prelude.{◌≤◌, suc, length, Some, None}
 use Rattle.std.specs.declared.option.Option.{Option}
-use Rattle.log_meaning.specs.Log.{Put, Drop}
+use Rattle.edit_log_meaning.specs.Log.{Put, Drop}
 use Rattle.run_meaning.specs.ScriptCommands as meant
 use Rattle.name_meaning.specs.Limits.{text_limit, line_limit}
 use Rattle.script_reader.specs.declared.command.Command.{Command}

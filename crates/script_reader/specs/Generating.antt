@@ -1,6 +1,6 @@
 -- A generator that is asked for its edits one after another.
 use Rattle.std.specs.Prelude.{◌≡◌, ◌<◌, ◌+◌, ℕ, slice_get, Some}
-use Rattle.log_meaning.specs.Log.{Edit}
+use Rattle.edit_log_meaning.specs.Log.{Edit}
 use Rattle.run_meaning.specs.Generator.{generated}
 
 -- What is seen of a generator: the number that it starts from, of how many modules its library is, and how many edits

@@ -4,7 +4,7 @@ ghost use Rattle.std.specs.List.{list_all, position};
 ghost use Rattle.std.specs.Str.Lines.{strip_carriage_return};
 ghost use Rattle.printing_meaning.specs.Lines as lines;
 ghost use Rattle.run_meaning.specs.ScriptCommands as commands;
-ghost use Rattle.log_meaning.specs.Log as edits;
+ghost use Rattle.edit_log_meaning.specs.Log as edits;
 ghost use Rattle.name_meaning.specs.Limits.{line_limit};
 ghost use Rattle.printing_meaning.specs.ScriptLines.{is_name, is_silent, is_end_line};
 ghost use Rattle.name_meaning.specs.Characters as characters;

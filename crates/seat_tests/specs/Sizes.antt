@@ -3,12 +3,12 @@ use Rattle.std.specs.Prelude.{◌≡◌, ℕ, true, List, [], ◌∷◌, length,
 use Rattle.std.specs.Option.{option_map}
 use Rattle.std.proofs.Common.{refl, ap}
 use Rattle.name_meaning.specs.Names.{Name, Text}
-use Rattle.log_meaning.specs.Log.{Library, text_of, is_present}
-use Rattle.walk_meaning.specs.Walks.{Dependencies}
-use Rattle.walk_meaning.specs.Reach.{reach, AgreesOn}
-use Rattle.walk_meaning.specs.Subject.{Subject}
+use Rattle.edit_log_meaning.specs.Log.{Library, text_of, is_present}
+use Rattle.module_graph_meaning.specs.Walks.{Dependencies}
+use Rattle.module_graph_meaning.specs.Reach.{reach, AgreesOn}
+use Rattle.module_graph_meaning.specs.Subject.{Subject}
 use Rattle.name_laws.proofs.Order.{member_among}
-use Rattle.walk_laws.proofs.Reaching.{reach_first}
+use Rattle.module_graph_laws.proofs.Reaching.{reach_first}
 use Rattle.module_graph.specs.Subjects.{IsLawful}
 
 -- A module with an empty text depends on nothing, and any other on itself.

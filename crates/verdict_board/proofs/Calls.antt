@@ -1,11 +1,11 @@
 -- The entry of a call at the end of a history.
 use Rattle.std.proofs.Common.{◌≡◌, ℕ, suc, Bool, true, false, cond, [], ◌∷◌, ◌++◌, Option, Some, None, option_map, option_to_list, refl, sym, ap, ◌∙◌, subst, append-nil}
-use Rattle.walk_meaning.specs.Walks.{Dependencies}
+use Rattle.module_graph_meaning.specs.Walks.{Dependencies}
 use Rattle.board_meaning.specs.Events.{Event, EditMade, Claim, Install, Stale, Release, Close, History, edit_of, version_after, version_with, entry_of}
 use Rattle.board_meaning.specs.Machine.{IsInstalled, IsStale, Call, EditCall, ClaimCall, InstallCall, ReleaseCall, CloseCall, edit_event, edit_reply, install_event, install_reply, event_of, may_call, after_call}
 use Rattle.board_meaning.specs.Ready.{is_closed, least_ready}
-use Rattle.log_meaning.specs.Log.{Edit}
-use Rattle.log_meaning.specs.Append.{Made}
+use Rattle.edit_log_meaning.specs.Log.{Edit}
+use Rattle.edit_log_meaning.specs.Append.{Made}
 use Rattle.name_meaning.specs.Names.{Name}
 use Rattle.board_meaning.specs.Legal.{IsLegal}
 use Rattle.board_laws.proofs.Legality.{legal_call}

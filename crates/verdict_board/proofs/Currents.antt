@@ -5,8 +5,8 @@ use Rattle.std.proofs.Math.Bool.{or-false}
 use Rattle.std.proofs.lemmas.Bool.{and_parts, and_from, not_from_false, not-true, or_parts, or_from}
 use Rattle.std.proofs.lemmas.List.Folds.{list_any-append}
 use Rattle.name_meaning.specs.Names.{Name}
-use Rattle.walk_meaning.specs.Walks.{Dependencies, is_grounded}
-use Rattle.walk_meaning.specs.Reach.{reach}
+use Rattle.module_graph_meaning.specs.Walks.{Dependencies, is_grounded}
+use Rattle.module_graph_meaning.specs.Reach.{reach}
 use Rattle.list_laws.proofs.Members.{Member, any_found, in_filter}
 use Rattle.list_laws.proofs.Places.{get_last, get_more, take_length}
 use Rattle.board_meaning.specs.Events.{Claim, Entry, History, edit_in, library_after}

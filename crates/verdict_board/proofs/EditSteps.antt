@@ -6,23 +6,23 @@ use Rattle.name_meaning.specs.Rows.{Rows, row_names, row_of, with_row, without_r
 use Rattle.name_laws.proofs.Order.{same_sound, ascending_filtered}
 use Rattle.name_table.proofs.Fronts.{ascending_front}
 use Rattle.list_laws.proofs.Places.{take_more}
-use Rattle.log_meaning.specs.Log as logs
-use Rattle.log_meaning.specs.Log.{Library, edited, is_present, names_of}
-use Rattle.walk_meaning.specs.Walks.{Dependencies, is_ungrounded, is_grounded, ungrounded_names}
-use Rattle.walk_meaning.specs.Graphs.{Graph, HoldsDependencies, graph_grounded}
-use Rattle.walk_laws.proofs.Graphs.{edited_holds, graph_grounds}
+use Rattle.edit_log_meaning.specs.Log as logs
+use Rattle.edit_log_meaning.specs.Log.{Library, edited, is_present, names_of}
+use Rattle.module_graph_meaning.specs.Walks.{Dependencies, is_ungrounded, is_grounded, ungrounded_names}
+use Rattle.module_graph_meaning.specs.Graphs.{Graph, HoldsDependencies, graph_grounded}
+use Rattle.module_graph_laws.proofs.Graphs.{edited_holds, graph_grounds}
 use Rattle.list_laws.proofs.Members.{Member, place_member}
 use Rattle.verdict_board.proofs.Reports.{filter_next}
 use Rattle.verdict_board.proofs.Edits.{ungrounded_listed, walking_ascending}
-use Rattle.walk_laws.proofs.Walking.{in_present, walking_present, ungrounded_in}
+use Rattle.module_graph_laws.proofs.Walking.{in_present, walking_present, ungrounded_in}
 use Rattle.edit_log.specs.declared.edit.Edit as code
 use Rattle.edit_log.specs.declared.edit.Edit.TheVariants.{Put, Drop}
 use Rattle.edit_log.specs.Readings.{read_edit, read_edited}
 use Rattle.edit_log.specs.declared.answers.Edited as code_answers
 use Rattle.edit_log.specs.declared.answers.Edited.TheVariants.{Made, Same, Absent}
-use Rattle.log_meaning.specs.Append as answers
-use Rattle.log_meaning.specs.Append.{append_answer, appended, log_after}
-use Rattle.log_laws.proofs.Limits.{made_not_full}
+use Rattle.edit_log_meaning.specs.Append as answers
+use Rattle.edit_log_meaning.specs.Append.{append_answer, appended, log_after}
+use Rattle.edit_log_laws.proofs.Limits.{made_not_full}
 use Rattle.board_meaning.specs.Events.{History}
 use Rattle.board_meaning.specs.Machine.{EditCall, edit_reply, edit_event, event_of, after_call}
 use Rattle.verdict_board.proofs.Calls.{not_called}

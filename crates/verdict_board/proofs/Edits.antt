@@ -6,17 +6,17 @@ use Rattle.std.proofs.lemmas.Bool.{false_from_ne_true}
 use Rattle.name_meaning.specs.Names.{Name, same_name, is_among, is_ascending}
 use Rattle.name_meaning.specs.Rows.{Rows, row_names}
 use Rattle.name_laws.proofs.Order.{same_sound, same_itself, among_member, member_among, ascending_filtered}
-use Rattle.log_meaning.specs.Log.{Edit, Log, Library, edited, edited_name, library_of, names_of, is_present}
-use Rattle.log_meaning.specs.Append.{Made}
-use Rattle.log_laws.proofs.Libraries.{library_last, library_ascending}
-use Rattle.walk_meaning.specs.Walks.{Dependencies, is_grounded, is_ungrounded, ungrounded_names, walking, direct}
-use Rattle.walk_meaning.specs.Reach.{reach, AgreesOn}
-use Rattle.walk_meaning.specs.Graphs.{Graph, graph_grounded, HoldsDependencies}
-use Rattle.walk_meaning.specs.Subject.{Subject, KeepsToReach}
-use Rattle.walk_laws.proofs.Agreement.{reach_same}
-use Rattle.walk_laws.proofs.Graphs.{graph_grounds}
-use Rattle.walk_laws.proofs.Reaching.{one_list, reach_ascending}
-use Rattle.walk_laws.proofs.Walking.{walking_present, in_present, in_ungrounded, ungrounded_in}
+use Rattle.edit_log_meaning.specs.Log.{Edit, Log, Library, edited, edited_name, library_of, names_of, is_present}
+use Rattle.edit_log_meaning.specs.Append.{Made}
+use Rattle.edit_log_laws.proofs.Libraries.{library_last, library_ascending}
+use Rattle.module_graph_meaning.specs.Walks.{Dependencies, is_grounded, is_ungrounded, ungrounded_names, walking, direct}
+use Rattle.module_graph_meaning.specs.Reach.{reach, AgreesOn}
+use Rattle.module_graph_meaning.specs.Graphs.{Graph, graph_grounded, HoldsDependencies}
+use Rattle.module_graph_meaning.specs.Subject.{Subject, KeepsToReach}
+use Rattle.module_graph_laws.proofs.Agreement.{reach_same}
+use Rattle.module_graph_laws.proofs.Graphs.{graph_grounds}
+use Rattle.module_graph_laws.proofs.Reaching.{one_list, reach_ascending}
+use Rattle.module_graph_laws.proofs.Walking.{walking_present, in_present, in_ungrounded, ungrounded_in}
 use Rattle.list_laws.proofs.Members.{Member, in_filter, filter_in}
 use Rattle.list_laws.proofs.Options.{clash}
 use Rattle.board_meaning.specs.Events.{EditMade, Entry, History, log_of, library_after, version_after}

@@ -5,10 +5,10 @@ use Rattle.verdict_board.proofs.Ready.{first_found, none_found}
 use Rattle.std.proofs.lemmas.Bool.{and_parts}
 use Rattle.name_meaning.specs.Names.{Name}
 use Rattle.name_meaning.specs.Rows.{Rows, row_of}
-use Rattle.log_meaning.specs.Log.{Log, Library}
-use Rattle.walk_meaning.specs.Reach.{reach}
-use Rattle.walk_meaning.specs.Graphs.{Graph}
-use Rattle.walk_meaning.specs.Subject.{Subject, KeepsToReach}
+use Rattle.edit_log_meaning.specs.Log.{Log, Library}
+use Rattle.module_graph_meaning.specs.Reach.{reach}
+use Rattle.module_graph_meaning.specs.Graphs.{Graph}
+use Rattle.module_graph_meaning.specs.Subject.{Subject, KeepsToReach}
 use Rattle.board_meaning.specs.Events.{History, library_after, stamp_after}
 use Rattle.board_meaning.specs.Claims.{Input, claim_at, is_open, inputs_of, input_names, is_unchanged, first_changed}
 use Rattle.board_meaning.specs.Machine.{Job, job_of, IsInstalled, IsStale, installed_by, install_reply, is_by, may_call, InstallCall, ReleaseCall}

@@ -6,10 +6,10 @@ use Rattle.name_meaning.specs.Rows.{Rows, row_names, row_of, with_row, IsTable}
 use Rattle.name_laws.proofs.Order.{member_among, same_sound}
 use Rattle.name_laws.proofs.Rows.{row_with, row_without, row_among, replaced_at, with_row_at}
 use Rattle.list_laws.proofs.Members.{place_member}
-use Rattle.log_meaning.specs.Log.{Edit, Put, Drop, Library, edited, edited_name, names_of, is_present}
-use Rattle.log_laws.proofs.Libraries.{library_ascending, present_among}
-use Rattle.walk_meaning.specs.Walks.{Dependencies, is_grounded, is_ungrounded}
-use Rattle.walk_meaning.specs.Subject.{Subject, KeepsToReach}
+use Rattle.edit_log_meaning.specs.Log.{Edit, Put, Drop, Library, edited, edited_name, names_of, is_present}
+use Rattle.edit_log_laws.proofs.Libraries.{library_ascending, present_among}
+use Rattle.module_graph_meaning.specs.Walks.{Dependencies, is_grounded, is_ungrounded}
+use Rattle.module_graph_meaning.specs.Subject.{Subject, KeepsToReach}
 use Rattle.board_meaning.specs.Events.{History, log_of, library_after, version_after}
 use Rattle.board_meaning.specs.Legal.{IsLegal}
 use Rattle.verdict_board.specs.declared.change.Change.{Change}

@@ -2,11 +2,11 @@
 use Rattle.std.proofs.Common.{◌≡◌, ℕ, true, false, List, [], ◌∷◌, length, Option, Some, None, option_and_then, is_some, refl, sym, ap, ◌∙◌, subst, true≢false}
 use Rattle.std.proofs.lemmas.Bool.{or_right}
 use Rattle.name_meaning.specs.Names.{Name, Text, same_name}
-use Rattle.log_meaning.specs.Log.{text_of, is_present}
-use Rattle.log_laws.proofs.Libraries.{library_ascending}
-use Rattle.walk_meaning.specs.Walks.{Dependencies, is_grounded, is_ungrounded}
-use Rattle.walk_meaning.specs.Reach.{reach}
-use Rattle.walk_meaning.specs.Subject.{Subject, answers_of}
+use Rattle.edit_log_meaning.specs.Log.{text_of, is_present}
+use Rattle.edit_log_laws.proofs.Libraries.{library_ascending}
+use Rattle.module_graph_meaning.specs.Walks.{Dependencies, is_grounded, is_ungrounded}
+use Rattle.module_graph_meaning.specs.Reach.{reach}
+use Rattle.module_graph_meaning.specs.Subject.{Subject, answers_of}
 use Rattle.list_laws.proofs.Members.{Member}
 use Rattle.board_meaning.specs.Events.{History, log_of, library_after}
 use Rattle.board_meaning.specs.Claims.{Input, input_names, inputs_after}

@@ -1,10 +1,10 @@
 -- The job of a claim taken apart.
 use Rattle.std.proofs.Common.{◌≡◌, ℕ, true, length, take, Option, Some, None, option_map, option_and_then, refl, sym, ap, ◌∙◌}
 use Rattle.name_meaning.specs.Names.{Name, Text}
-use Rattle.log_meaning.specs.Log.{Library, text_of}
-use Rattle.log_laws.proofs.Libraries.{library_ascending}
-use Rattle.walk_meaning.specs.Reach.{reach}
-use Rattle.walk_meaning.specs.Subject.{Subject, KeepsToReach, answers_of}
+use Rattle.edit_log_meaning.specs.Log.{Library, text_of}
+use Rattle.edit_log_laws.proofs.Libraries.{library_ascending}
+use Rattle.module_graph_meaning.specs.Reach.{reach}
+use Rattle.module_graph_meaning.specs.Subject.{Subject, KeepsToReach, answers_of}
 use Rattle.board_meaning.specs.Events.{History, log_of, library_after}
 use Rattle.board_meaning.specs.Claims.{claim_at, inputs_after, inputs_of, input_names}
 use Rattle.board_meaning.specs.Standing.{is_unedited}

@@ -5,11 +5,11 @@ use Rattle.name_meaning.specs.Names.{Name, same_name, with_name}
 use Rattle.name_meaning.specs.Rows.{Rows, row_names, row_of, with_row}
 use Rattle.name_laws.proofs.Order.{same_sound, with_present, among_member}
 use Rattle.name_laws.proofs.Rows.{row_with, names_with_row}
-use Rattle.log_meaning.specs.Log.{Library, library_of, names_of, is_present}
-use Rattle.log_laws.proofs.Libraries.{library_ascending, present_among}
-use Rattle.walk_meaning.specs.Walks.{Dependencies, is_grounded, is_ungrounded}
-use Rattle.walk_meaning.specs.Reach.{reach}
-use Rattle.walk_meaning.specs.Subject.{Subject}
+use Rattle.edit_log_meaning.specs.Log.{Library, library_of, names_of, is_present}
+use Rattle.edit_log_laws.proofs.Libraries.{library_ascending, present_among}
+use Rattle.module_graph_meaning.specs.Walks.{Dependencies, is_grounded, is_ungrounded}
+use Rattle.module_graph_meaning.specs.Reach.{reach}
+use Rattle.module_graph_meaning.specs.Subject.{Subject}
 use Rattle.list_laws.proofs.Options.{clash}
 use Rattle.board_meaning.specs.Events.{Entry, History, edit_in, log_of, library_after}
 use Rattle.board_meaning.specs.Claims.{claimed_name, ends_claim}

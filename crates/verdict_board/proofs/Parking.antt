@@ -6,7 +6,7 @@ use Rattle.name_meaning.specs.Names.{Name, same_name, is_ascending}
 use Rattle.name_meaning.specs.Rows.{Rows, row_names, row_of, with_row, IsTable, IsGap}
 use Rattle.name_laws.proofs.Order.{same_sound, with_present, among_member}
 use Rattle.name_laws.proofs.Rows.{row_with, names_with_row, row_among, row_absent, gap_absent, table_with, row_at}
-use Rattle.walk_meaning.specs.Graphs.{Graph}
+use Rattle.module_graph_meaning.specs.Graphs.{Graph}
 use Rattle.list_laws.proofs.Members.{Member, in_append, append_left, append_right}
 use Rattle.list_laws.proofs.Places.{place_within, take_more, get_take, length_take}
 use Rattle.std.proofs.Math.ListN.{length-set}

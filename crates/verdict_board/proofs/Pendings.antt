@@ -6,9 +6,9 @@ use Rattle.name_meaning.specs.Names.{Name}
 use Rattle.name_meaning.specs.Rows.{Rows, row_names, IsTable}
 use Rattle.name_laws.proofs.Rows.{row_at}
 use Rattle.list_laws.proofs.Places.{place_within}
-use Rattle.log_meaning.specs.Log.{names_of}
-use Rattle.walk_meaning.specs.Walks.{Dependencies}
-use Rattle.walk_meaning.specs.Subject.{Subject}
+use Rattle.edit_log_meaning.specs.Log.{names_of}
+use Rattle.module_graph_meaning.specs.Walks.{Dependencies}
+use Rattle.module_graph_meaning.specs.Subject.{Subject}
 use Rattle.board_meaning.specs.Events.{History, library_after}
 use Rattle.board_meaning.specs.Machine.{is_known}
 use Rattle.board_meaning.specs.Legal.{IsLegal}

@@ -8,10 +8,10 @@ use Rattle.name_meaning.specs.Names.{Name}
 use Rattle.name_meaning.specs.Rows.{Rows, row_names, row_of}
 use Rattle.name_laws.proofs.Order.{member_among}
 use Rattle.name_laws.proofs.Rows.{row_among}
-use Rattle.log_meaning.specs.Log.{Library, names_of, is_present}
-use Rattle.walk_meaning.specs.Walks.{Dependencies}
-use Rattle.walk_meaning.specs.Graphs.{Graph, HoldsDependencies}
-use Rattle.walk_meaning.specs.Subject.{Subject}
+use Rattle.edit_log_meaning.specs.Log.{Library, names_of, is_present}
+use Rattle.module_graph_meaning.specs.Walks.{Dependencies}
+use Rattle.module_graph_meaning.specs.Graphs.{Graph, HoldsDependencies}
+use Rattle.module_graph_meaning.specs.Subject.{Subject}
 use Rattle.list_laws.proofs.Members.{all_at, all_of, place_member}
 use Rattle.board_meaning.specs.Events.{History, library_after}
 use Rattle.board_meaning.specs.Claims.{has_current_claim}

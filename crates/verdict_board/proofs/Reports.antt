@@ -8,11 +8,11 @@ use Rattle.name_meaning.specs.Rows.{Rows, row_names, row_of, IsTable}
 use Rattle.name_laws.proofs.Order.{ascending_filtered}
 use Rattle.name_laws.proofs.Rows.{row_among}
 use Rattle.name_table.proofs.Fronts.{ascending_front}
-use Rattle.log_meaning.specs.Log.{Library, is_present}
-use Rattle.log_laws.proofs.Libraries.{present_among}
-use Rattle.walk_meaning.specs.Walks.{Dependencies, is_grounded, is_ungrounded}
-use Rattle.walk_meaning.specs.Reach.{reach}
-use Rattle.walk_meaning.specs.Subject.{Subject, present_answer, answers_of}
+use Rattle.edit_log_meaning.specs.Log.{Library, is_present}
+use Rattle.edit_log_laws.proofs.Libraries.{present_among}
+use Rattle.module_graph_meaning.specs.Walks.{Dependencies, is_grounded, is_ungrounded}
+use Rattle.module_graph_meaning.specs.Reach.{reach}
+use Rattle.module_graph_meaning.specs.Subject.{Subject, present_answer, answers_of}
 use Rattle.list_laws.proofs.Members.{Member}
 use Rattle.board_laws.proofs.Resting.{standing_reach}
 use Rattle.board_laws.proofs.Standings.{standing_grounded}

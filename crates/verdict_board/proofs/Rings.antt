@@ -10,17 +10,17 @@ use Rattle.name_laws.proofs.Order.{among_member, member_among, same_sound, same_
 use Rattle.name_laws.proofs.Rows.{place_of_member, row_at, row_with}
 use Rattle.list_laws.proofs.Members.{Member, any_not}
 use Rattle.list_laws.proofs.Places.{place_within}
-use Rattle.log_meaning.specs.Log.{Edit, Put, Drop, Library, edited, edited_name, text_of, is_present}
-use Rattle.log_laws.specs.LogLaws.{left_by}
-use Rattle.log_laws.proofs.Libraries.{text_edited}
-use Rattle.walk_meaning.specs.Walks.{Dependencies, direct, is_grounded, is_ungrounded, ungrounded_names}
-use Rattle.walk_meaning.specs.Reach.{reach}
-use Rattle.walk_meaning.specs.Graphs.{Graph, HoldsDependencies, graph_reach}
-use Rattle.walk_laws.proofs.Agreement.{direct_same}
-use Rattle.walk_laws.proofs.Graphs.{left_ungrounded, graph_reaches, edited_holds}
-use Rattle.walk_laws.proofs.Reaching.{reach_closed, reach_first}
-use Rattle.walk_laws.proofs.Walking.{present_in, ungrounded_dependency}
-use Rattle.walk_meaning.specs.Subject.{Subject}
+use Rattle.edit_log_meaning.specs.Log.{Edit, Put, Drop, Library, edited, edited_name, text_of, is_present}
+use Rattle.edit_log_laws.specs.LogLaws.{left_by}
+use Rattle.edit_log_laws.proofs.Libraries.{text_edited}
+use Rattle.module_graph_meaning.specs.Walks.{Dependencies, direct, is_grounded, is_ungrounded, ungrounded_names}
+use Rattle.module_graph_meaning.specs.Reach.{reach}
+use Rattle.module_graph_meaning.specs.Graphs.{Graph, HoldsDependencies, graph_reach}
+use Rattle.module_graph_laws.proofs.Agreement.{direct_same}
+use Rattle.module_graph_laws.proofs.Graphs.{left_ungrounded, graph_reaches, edited_holds}
+use Rattle.module_graph_laws.proofs.Reaching.{reach_closed, reach_first}
+use Rattle.module_graph_laws.proofs.Walking.{present_in, ungrounded_dependency}
+use Rattle.module_graph_meaning.specs.Subject.{Subject}
 use Rattle.board_meaning.specs.Events.{History, library_after}
 use Rattle.board_meaning.specs.Legal.{IsLegal}
 use Rattle.board_laws.proofs.Standings.{standing_grounded}

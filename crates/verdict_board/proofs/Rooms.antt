@@ -8,7 +8,7 @@ use Rattle.std.proofs.lemmas.List.Elements.{filter-append}
 use Rattle.name_meaning.specs.Names.{Name}
 use Rattle.list_laws.proofs.Members.{Member, in_option}
 use Rattle.list_laws.proofs.Options.{some_of}
-use Rattle.walk_laws.proofs.Walking.{filter_shorter, filter_within}
+use Rattle.module_graph_laws.proofs.Walking.{filter_shorter, filter_within}
 use Rattle.board_meaning.specs.Events.{Entry, History}
 use Rattle.board_meaning.specs.Claims.{claimed_name, claim_at, claims_from, ends_claim, is_ended, is_open, open_claims}
 use Rattle.board_meaning.specs.Standing.{installed_claim, installed_claims, installs}

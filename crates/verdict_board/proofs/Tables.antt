@@ -7,12 +7,12 @@ use Rattle.name_meaning.specs.Rows.{Rows, row_names, row_of, with_row, without_r
 use Rattle.name_laws.proofs.Order.{among_member, member_among, same_itself, same_sound, with_present}
 use Rattle.name_laws.proofs.Rows.{row_with, row_without, names_with_row, row_among, without_absent}
 use Rattle.list_laws.proofs.Members.{Member}
-use Rattle.log_meaning.specs.Log.{Edit, Put, Drop, Library, Module, edited, names_of, without_module}
-use Rattle.log_laws.proofs.Libraries.{names_with}
-use Rattle.walk_meaning.specs.Graphs.{Graph, HoldsDependencies}
-use Rattle.walk_meaning.specs.Subject.{Subject}
-use Rattle.walk_laws.proofs.Graphs.{edited_holds}
-use Rattle.walk_laws.proofs.Walking.{filter_within}
+use Rattle.edit_log_meaning.specs.Log.{Edit, Put, Drop, Library, Module, edited, names_of, without_module}
+use Rattle.edit_log_laws.proofs.Libraries.{names_with}
+use Rattle.module_graph_meaning.specs.Graphs.{Graph, HoldsDependencies}
+use Rattle.module_graph_meaning.specs.Subject.{Subject}
+use Rattle.module_graph_laws.proofs.Graphs.{edited_holds}
+use Rattle.module_graph_laws.proofs.Walking.{filter_within}
 use Rattle.board_meaning.specs.Events.{History, library_after}
 use Rattle.verdict_board.specs.declared.change.Change.{Change}
 use Rattle.verdict_board.specs.declared.change.Change.TheVariants.{InPlace, Anew}

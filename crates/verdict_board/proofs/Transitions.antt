@@ -6,12 +6,12 @@ use Rattle.std.proofs.lemmas.Option.{same_Some}
 use Rattle.name_meaning.specs.Names.{Name, same_name, is_ascending}
 use Rattle.name_meaning.specs.Rows.{Rows, row_of, with_row}
 use Rattle.name_laws.proofs.Order.{same_itself}
-use Rattle.log_meaning.specs.Log.{Log, Library, library_of, is_present}
-use Rattle.walk_meaning.specs.Walks.{Dependencies, is_grounded, is_ungrounded}
-use Rattle.walk_meaning.specs.Reach.{reach}
-use Rattle.walk_meaning.specs.Graphs.{Graph, HoldsDependencies}
-use Rattle.walk_meaning.specs.Subject.{Subject}
-use Rattle.walk_laws.proofs.Graphs.{empty_holds}
+use Rattle.edit_log_meaning.specs.Log.{Log, Library, library_of, is_present}
+use Rattle.module_graph_meaning.specs.Walks.{Dependencies, is_grounded, is_ungrounded}
+use Rattle.module_graph_meaning.specs.Reach.{reach}
+use Rattle.module_graph_meaning.specs.Graphs.{Graph, HoldsDependencies}
+use Rattle.module_graph_meaning.specs.Subject.{Subject}
+use Rattle.module_graph_laws.proofs.Graphs.{empty_holds}
 use Rattle.board_meaning.specs.Events.{Event, Claim, Install, Stale, Release, Close, Entry, History, edit_in, log_of, library_after, version_after}
 use Rattle.board_meaning.specs.Claims.{claimed_name, claim_at, claims_from, ends_claim, is_open, open_claims, is_claim_of}
 use Rattle.board_meaning.specs.Standing.{installed_claim, installed_claims, installs, is_unedited, stands}

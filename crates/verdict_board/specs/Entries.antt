@@ -1,6 +1,6 @@
 -- What the entries of this crate stand for (this profile).
 use Rattle.std.specs.Prelude.{ℕ}
-use Rattle.log_meaning.specs.Log as logs
+use Rattle.edit_log_meaning.specs.Log as logs
 use Rattle.board_meaning.specs.Events as board
 use Rattle.verdict_board.specs.declared.event.Event.{Event}
 use Rattle.verdict_board.specs.declared.event.Event.TheVariants.{Put, Drop, Claim, Install, Stale, Release, Close}

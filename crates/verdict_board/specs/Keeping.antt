@@ -1,9 +1,9 @@
 -- What the tables of a board keep true of its history (this profile).
 use Rattle.std.specs.Prelude.{◌≡◌, ℕ, ◌+◌, ◌<◌, ◌≤◌, ◌^◌, Bool, length, if◌then◌else◌}
 use Rattle.name_meaning.specs.Rows.{Rows}
-use Rattle.log_meaning.specs.Log.{Log}
-use Rattle.walk_meaning.specs.Graphs.{Graph, HoldsDependencies}
-use Rattle.walk_meaning.specs.Subject.{Subject}
+use Rattle.edit_log_meaning.specs.Log.{Log}
+use Rattle.module_graph_meaning.specs.Graphs.{Graph, HoldsDependencies}
+use Rattle.module_graph_meaning.specs.Subject.{Subject}
 use Rattle.board_meaning.specs.Events.{History, log_of, library_after}
 use Rattle.board_meaning.specs.Claims.{open_claims}
 use Rattle.board_meaning.specs.Standing.{installs}

@@ -1,8 +1,8 @@
 -- Dependencies that were read before an edit is made (this profile).
 use Rattle.std.specs.Prelude.{◌≡◌, ⊤, List, Option, IfSome}
 use Rattle.name_meaning.specs.Names.{Name}
-use Rattle.log_meaning.specs.Log.{Edit, Put, Drop}
-use Rattle.walk_meaning.specs.Walks.{Dependencies}
+use Rattle.edit_log_meaning.specs.Log.{Edit, Put, Drop}
+use Rattle.module_graph_meaning.specs.Walks.{Dependencies}
 
 -- Where there are any, they are those of the text that is put.
 abbrev pub AreReadBefore : Dependencies → Edit → Option (List Name) → Type 0

@@ -3,7 +3,7 @@
 use Rattle.std.specs.Prelude.{◌≡◌, ◌⊎◌, ℕ, ◌<◌, Bool, true, false, not, List, length, slice_get, Option, Some, None, is_some}
 use Rattle.name_meaning.specs.Names.{Name}
 use Rattle.name_meaning.specs.Rows.{Rows, row_names, row_of, IsTable}
-use Rattle.walk_meaning.specs.Graphs.{Graph}
+use Rattle.module_graph_meaning.specs.Graphs.{Graph}
 use Rattle.list_laws.proofs.Members.{Member}
 use Rattle.verdict_board.specs.declared.stage.Stage.{Stage}
 use Rattle.verdict_board.specs.Stages.{is_waiting, standing_in}

@@ -1,7 +1,7 @@
 -- The candidates of a board, as its tables keep them (this profile).
 use Rattle.std.specs.Prelude.{ℕ}
 use Rattle.name_meaning.specs.Rows.{Rows}
-use Rattle.walk_meaning.specs.Graphs.{Graph}
+use Rattle.module_graph_meaning.specs.Graphs.{Graph}
 use Rattle.verdict_board.specs.declared.candidates.Candidates.{Candidates}
 use Rattle.verdict_board.specs.declared.stage.Stage.{Stage}
 use Rattle.verdict_board.specs.Readiness.{AreCandidates, AreAll}

@@ -2,10 +2,10 @@
 use Rattle.std.specs.Prelude.{◌≡◌, ℕ, suc, [], ◌∷◌, ◌++◌, Bool, true, false, List, map, Option, Some, None, if◌then◌else◌}
 use Rattle.name_meaning.specs.Names.{Name, is_among, is_ascending}
 use Rattle.name_meaning.specs.Rows.{Rows, row_names, row_of}
-use Rattle.log_meaning.specs.Log.{Edit, names_of}
-use Rattle.walk_meaning.specs.Walks.{Dependencies, is_grounded, is_ungrounded}
-use Rattle.walk_meaning.specs.Reach.{reach}
-use Rattle.walk_meaning.specs.Subject.{Subject}
+use Rattle.edit_log_meaning.specs.Log.{Edit, names_of}
+use Rattle.module_graph_meaning.specs.Walks.{Dependencies, is_grounded, is_ungrounded}
+use Rattle.module_graph_meaning.specs.Reach.{reach}
+use Rattle.module_graph_meaning.specs.Subject.{Subject}
 use Rattle.board_meaning.specs.Events.{EditMade, History, library_after, version_after}
 use Rattle.verdict_board.specs.Entries.{entry}
 use Rattle.board_meaning.specs.Claims.{claim_at, is_open}

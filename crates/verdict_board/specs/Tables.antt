@@ -2,10 +2,10 @@
 use Rattle.std.specs.Prelude.{◌≡◌, ⊤, false, List, is_some, if◌then◌else◌}
 use Rattle.name_meaning.specs.Names.{Name}
 use Rattle.name_meaning.specs.Rows.{Rows, row_of, with_row, without_row}
-use Rattle.log_meaning.specs.Log.{Edit, Put, Drop, edited, edited_name}
-use Rattle.walk_meaning.specs.Walks.{Dependencies, is_ungrounded}
-use Rattle.walk_meaning.specs.Graphs.{Graph, HoldsDependencies}
-use Rattle.walk_meaning.specs.Subject.{Subject}
+use Rattle.edit_log_meaning.specs.Log.{Edit, Put, Drop, edited, edited_name}
+use Rattle.module_graph_meaning.specs.Walks.{Dependencies, is_ungrounded}
+use Rattle.module_graph_meaning.specs.Graphs.{Graph, HoldsDependencies}
+use Rattle.module_graph_meaning.specs.Subject.{Subject}
 use Rattle.board_meaning.specs.Events.{History, library_after}
 use Rattle.verdict_board.specs.declared.change.Change.{Change}
 use Rattle.verdict_board.specs.declared.change.Change.TheVariants.{InPlace, Anew}

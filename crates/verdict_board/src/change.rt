@@ -1,8 +1,8 @@
 //! Tables that an edit changes.
 ghost use Rattle.std.specs.Prelude.{◌≡◌, ℕ, true, false, is_some, OnErr, OnOk};
 ghost use Rattle.name_meaning.specs.Rows.{row_names, row_of, with_row, without_row, IsTable};
-ghost use Rattle.log_meaning.specs.Log.{edited_name};
-ghost use Rattle.log_meaning.specs.Append.{Made, append_answer, appended};
+ghost use Rattle.edit_log_meaning.specs.Log.{edited_name};
+ghost use Rattle.edit_log_meaning.specs.Append.{Made, append_answer, appended};
 ghost use Rattle.edit_log.specs.Readings.{read_edit, IsAnswer};
 ghost use Rattle.verdict_board.specs.declared.stage.Stage.TheVariants.{Waiting};
 ghost use Rattle.verdict_board.specs.Stages.{fallen, HaveSortedInputs};

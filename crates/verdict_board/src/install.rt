@@ -1,6 +1,6 @@
 //! The end of a claim: its verdict is installed, or it is found stale, or it is released.
 ghost use Rattle.std.specs.Prelude.{◌≡◌, true, None, Some, MatchBool, MatchOption};
-ghost use Rattle.log_meaning.specs.Log.{Library};
+ghost use Rattle.edit_log_meaning.specs.Log.{Library};
 ghost use Rattle.board_meaning.specs.Claims.{first_changed};
 ghost use Rattle.board_meaning.specs.Machine.{job_of, install_reply, IsInstalled, may_call, InstallCall, ReleaseCall, after_call};
 ghost use Rattle.module_graph.specs.Subjects.{IsGiven, read_answers};

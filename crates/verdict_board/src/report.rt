@@ -2,9 +2,9 @@
 ghost use Rattle.std.specs.Prelude.{◌≡◌, true, false, Some, IfOk, OnErr};
 ghost use Rattle.std.specs.Option.{option_map};
 ghost use Rattle.name_meaning.specs.Names.{Name, same_name};
-ghost use Rattle.log_meaning.specs.Log.{is_present};
-ghost use Rattle.walk_meaning.specs.Reach.{reach};
-ghost use Rattle.walk_meaning.specs.Subject.{present_answer, answers_of};
+ghost use Rattle.edit_log_meaning.specs.Log.{is_present};
+ghost use Rattle.module_graph_meaning.specs.Reach.{reach};
+ghost use Rattle.module_graph_meaning.specs.Subject.{present_answer, answers_of};
 ghost use Rattle.list_laws.proofs.Members.{Member};
 ghost use Rattle.board_meaning.specs.Events.{library_after};
 ghost use Rattle.board_meaning.specs.Machine.{is_known, report_reply, answers_reply};

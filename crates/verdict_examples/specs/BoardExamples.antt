@@ -3,8 +3,8 @@ use Rattle.std.specs.Prelude.{◌≡◌, true, List, [], ◌∷◌, Some, None, 
 use Rattle.name_meaning.specs.Names.{Name}
 use Rattle.lf_meaning.specs.Terms.{Pi, Ty}
 use Rattle.lf_meaning.specs.Signatures.{FamilyClass, KindClass}
-use Rattle.log_meaning.specs.Log.{Edit, Put}
-use Rattle.log_meaning.specs.Append.{Made}
+use Rattle.edit_log_meaning.specs.Log.{Edit, Put}
+use Rattle.edit_log_meaning.specs.Append.{Made}
 use Rattle.board_meaning.specs.Events.{EditMade, Claim, Install, Stale, History}
 use Rattle.board_meaning.specs.Machine.{edit_reply, claim_reply, IsInstalled, IsStale, install_reply, IsVerdict, IsPending, report_reply, EditCall, ClaimCall, InstallCall}
 use Rattle.board_meaning.specs.Legal.{PassCall, after_calls, may_make_all}

@@ -3,8 +3,8 @@ use Rattle.std.specs.Prelude.{◌≡◌, List, [], ◌∷◌, ◌++◌, drop, So
 use Rattle.name_meaning.specs.Names.{Name, Path}
 use Rattle.lf_meaning.specs.Terms.{Constant, Family, Pi, AtFamily, FamilyCon, Ty}
 use Rattle.lf_meaning.specs.Signatures.{Class, FamilyClass, KindClass, SameAs}
-use Rattle.log_meaning.specs.Log.{Module}
-use Rattle.expansion_meaning.specs.Rules.{Rule}
+use Rattle.edit_log_meaning.specs.Log.{Module}
+use Rattle.elaborate_meaning.specs.Rules.{Rule}
 use Rattle.verdict_examples.specs.Telling.{TheoryOf, ViewOf, RefusedAt, Absent, under, told_of, told_by_check, told_after_drop, library_with, own_of_verdict}
 use Rattle.verdict_meaning.specs.Rounds.{verdict_of}
 use Rattle.verdict_examples.specs.ExampleTexts.{text_Nat, text_Nat_misspelled, text_E, text_E_long, text_FOL, text_Magma, text_Monoid, text_Car, text_Two_mixed, text_Two, text_Nat_plus, text_Set, text_Mag, text_Ring, text_Bare, text_A, text_B, text_C, text_D, text_B_two, text_C_two, text_D_two, text_D_one, text_Def, text_T, text_V, text_W, text_X, text_X_ill, text_R, text_P, text_Q, text_S, text_T_four, text_VR1, text_VR2, text_VP, text_VQ, text_V_both, text_Empty, text_Mode, text_Open, text_A_ring, text_B_ring, text_C_ring}

@@ -1,6 +1,6 @@
 -- Worked cases: which test of a structure or a view comes first, and where it is refused.
 use Rattle.std.specs.Prelude.{◌≡◌, [], ◌∷◌, codes}
-use Rattle.expansion_meaning.specs.Rules.{Rule}
+use Rattle.elaborate_meaning.specs.Rules.{Rule}
 use Rattle.verdict_examples.specs.Telling.{RefusedAt, ViewOf, under, told_of}
 use Rattle.verdict_examples.specs.OrderTexts.{text_A, text_B, text_Big, text_C, text_Car, text_Df, text_E, text_H, text_HD, text_HE, text_I1, text_I1_2, text_I2, text_I2_2, text_J1, text_J1_2, text_J2, text_J2_2, text_K1, text_O, text_P, text_P2, text_P9, text_PP, text_PR, text_Q, text_Q2, text_Q3, text_R, text_RR, text_S, text_S2, text_T, text_T2, text_TD, text_TQ, text_TT, text_V, text_VB, text_VC, text_VD, text_VO, text_VP, text_VPQ, text_VR, text_VR1, text_VR2, text_VR3, text_VRQ, text_VX, text_W1, text_W2, text_X}
 

@@ -1,6 +1,6 @@
 -- Worked cases of single rules: what is told of a text that is put behind others.
 use Rattle.std.specs.Prelude.{◌≡◌, [], ◌∷◌, codes}
-use Rattle.expansion_meaning.specs.Rules.{Rule}
+use Rattle.elaborate_meaning.specs.Rules.{Rule}
 use Rattle.verdict_examples.specs.Telling.{TheoryOf, ViewOf, RefusedAt, under, told_of}
 use Rattle.verdict_examples.specs.ExampleTexts.{text_A, text_Applied_atom, text_Family_applied, text_Family_of_another_kind, text_Family_under_lambda, text_H, text_I_view, text_Mm, text_No_target, text_O, text_Object_as_family, text_Other_codomain, text_Other_domain, text_P, text_Product_value, text_R, text_T_four, text_T_map, text_Twice, text_Two_targets, text_VM, text_VO, text_VR1, text_VR2, text_V_identity, text_W_agreeing, text_W_shared}
 

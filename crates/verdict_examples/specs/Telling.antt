@@ -2,8 +2,8 @@
 use Rattle.std.specs.Prelude.{ℕ, ◌+◌, List, [], ◌∷◌, ◌++◌, Option, Some, None, map, length, fold}
 use Rattle.lf_meaning.specs.Signatures.{Signature}
 use Rattle.name_meaning.specs.Names.{Name, Text}
-use Rattle.log_meaning.specs.Log.{Module, Library, with_module, without_module}
-use Rattle.expansion_meaning.specs.Rules.{Rule}
+use Rattle.edit_log_meaning.specs.Log.{Module, Library, with_module, without_module}
+use Rattle.elaborate_meaning.specs.Rules.{Rule}
 use Rattle.verdict_meaning.specs.Verdicts.{Verdict, Accepted, Refused, Theory, View}
 use Rattle.verdict_meaning.specs.Rounds.{verdict_of}
 use Rattle.text_meaning.specs.Places.{line_at, column_at}

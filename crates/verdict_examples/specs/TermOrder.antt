@@ -1,6 +1,6 @@
 -- Worked cases: which test of a declaration, a name or an expression comes first, and where it is refused.
 use Rattle.std.specs.Prelude.{◌≡◌, [], ◌∷◌, codes}
-use Rattle.expansion_meaning.specs.Rules.{Rule}
+use Rattle.elaborate_meaning.specs.Rules.{Rule}
 use Rattle.verdict_examples.specs.Telling.{RefusedAt, TheoryOf, under, told_of}
 use Rattle.verdict_examples.specs.OrderTexts.{text_A}
 

@@ -3,8 +3,8 @@ use Rattle.std.proofs.Common.{◌≡◌, Bool, true, false, cond, Option, Some, 
 use Rattle.std.specs.Prelude.{option_map}
 use Rattle.name_meaning.specs.Names.{Name, is_among}
 use Rattle.name_laws.proofs.RowLookups.{row_made}
-use Rattle.log_meaning.specs.Log.{Library, is_present}
-use Rattle.walk_meaning.specs.Subject.{answers_of, present_answer}
+use Rattle.edit_log_meaning.specs.Log.{Library, is_present}
+use Rattle.module_graph_meaning.specs.Subject.{answers_of, present_answer}
 use Rattle.library_meaning.specs.Faces.{IsAbsent}
 use Rattle.library_meaning.specs.Environments.{known_or_absent, environment_from}
 use Rattle.verdict_meaning.specs.Verdicts.{Verdict}

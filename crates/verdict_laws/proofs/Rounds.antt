@@ -1,14 +1,14 @@
 -- Rounds: what a grounded name is judged as stays, and depends on its reach alone.
 use Rattle.std.proofs.Common.{◌≡◌, ℕ, zero, suc, ◌≤◌, Bool, true, false, not, cond, List, [], ◌∷◌, map, filter, Option, Some, None, is_some, option_map, refl, sym, ap, ◌∙◌, true≢false, arith}
 use Rattle.name_meaning.specs.Names.{Name, Text, is_among, same_name}
-use Rattle.log_meaning.specs.Log.{Library, text_of}
+use Rattle.edit_log_meaning.specs.Log.{Library, text_of}
 use Rattle.list_laws.proofs.Members.{Member, in_filter}
 use Rattle.name_laws.proofs.Order.{among_member, member_among, same_sound}
-use Rattle.walk_meaning.specs.Walks.{walking, is_ungrounded, ungrounded_names}
-use Rattle.walk_meaning.specs.Reach.{reach, AgreesOn}
-use Rattle.walk_laws.proofs.Walking.{present_in}
-use Rattle.walk_laws.proofs.Reaching.{reach_first}
-use Rattle.walk_laws.proofs.Agreement.{reach_same, ungrounded_agrees}
+use Rattle.module_graph_meaning.specs.Walks.{walking, is_ungrounded, ungrounded_names}
+use Rattle.module_graph_meaning.specs.Reach.{reach, AgreesOn}
+use Rattle.module_graph_laws.proofs.Walking.{present_in}
+use Rattle.module_graph_laws.proofs.Reaching.{reach_first}
+use Rattle.module_graph_laws.proofs.Agreement.{reach_same, ungrounded_agrees}
 use Rattle.text_meaning.specs.Reading.{ModuleText, ModuleTree, JudgementTree, Answer, Read, Syntax, TooDeep, Unsupported}
 use Rattle.text_meaning.specs.TextAnswers.{read}
 use Rattle.library_meaning.specs.Faces.{IsAbsent, Environment}

@@ -2,13 +2,13 @@
 use Rattle.std.proofs.Common.{◌≡◌, ℕ, zero, suc, Bool, true, false, not, ◌||◌, filter, length, ◌⊎◌, inl, inr, ⊎_elim, sym, ap, ◌∙◌, subst, true≢false}
 use Rattle.std.proofs.lemmas.Bool.{cases_Bool, or_cases, or_left, or_right}
 use Rattle.name_meaning.specs.Names.{Name, is_among, same_name}
-use Rattle.log_meaning.specs.Log.{Library}
+use Rattle.edit_log_meaning.specs.Log.{Library}
 use Rattle.list_laws.proofs.Members.{Member, in_filter, filter_in}
 use Rattle.name_laws.proofs.Order.{among_member, member_among, same_sound, same_itself}
-use Rattle.walk_meaning.specs.Walks.{Dependencies, direct, walking}
-use Rattle.walk_meaning.specs.Reach.{reach}
-use Rattle.walk_laws.proofs.Walking.{present_in, depends_present, walking_step, walking_less, walks_on}
-use Rattle.walk_laws.proofs.Reaching.{IsClosed, reach_closed, reach_first, reach_least}
+use Rattle.module_graph_meaning.specs.Walks.{Dependencies, direct, walking}
+use Rattle.module_graph_meaning.specs.Reach.{reach}
+use Rattle.module_graph_laws.proofs.Walking.{present_in, depends_present, walking_step, walking_less, walks_on}
+use Rattle.module_graph_laws.proofs.Reaching.{IsClosed, reach_closed, reach_first, reach_least}
 
 module _ (dependencies : Dependencies) (library : Library) where
   abbrev pub Short : ℕ → Name → Type 0

@@ -2,13 +2,13 @@
 use Rattle.std.proofs.Common.{◌≡◌, ℕ, zero, suc, Bool, true, false, not, cond, List, [], ◌∷◌, map, filter, find, length, slice_get, ◌<◌, ◌+◌, Option, Some, None, is_some, option_map, ⊎_elim, refl, sym, ap, ◌∙◌, subst, true≢false, arith}
 use Rattle.std.proofs.lemmas.Bool.{cases_Bool, and_parts}
 use Rattle.name_meaning.specs.Names.{Name, Text, same_name, is_among}
-use Rattle.log_meaning.specs.Log.{Library, text_of, is_present}
+use Rattle.edit_log_meaning.specs.Log.{Library, text_of, is_present}
 use Rattle.list_laws.proofs.Members.{Member, find_none, in_map}
 use Rattle.list_laws.proofs.Options.{some_mapped}
 use Rattle.name_laws.proofs.Order.{among_member, member_among}
-use Rattle.walk_meaning.specs.Walks.{of_text, direct, walking, is_ungrounded, is_grounded, ungrounded_names}
-use Rattle.walk_laws.proofs.Walking.{ungrounded_dependency}
-use Rattle.walk_laws.proofs.Agreement.{grounded_same}
+use Rattle.module_graph_meaning.specs.Walks.{of_text, direct, walking, is_ungrounded, is_grounded, ungrounded_names}
+use Rattle.module_graph_laws.proofs.Walking.{ungrounded_dependency}
+use Rattle.module_graph_laws.proofs.Agreement.{grounded_same}
 use Rattle.text_meaning.specs.Trees.{Module}
 use Rattle.text_meaning.specs.Reading.{ModuleText, ModuleTree, JudgementTree, Answer, Read, Syntax, TooDeep, Unsupported}
 use Rattle.text_meaning.specs.TextAnswers.{read}

@@ -1,8 +1,8 @@
 -- The law of what a job's answers tell (this profile).
 use Rattle.std.specs.Prelude.{◌≡◌}
 use Rattle.name_meaning.specs.Names.{Name}
-use Rattle.log_meaning.specs.Log.{Library}
-use Rattle.walk_meaning.specs.Subject.{answers_of}
+use Rattle.edit_log_meaning.specs.Log.{Library}
+use Rattle.module_graph_meaning.specs.Subject.{answers_of}
 use Rattle.library_meaning.specs.Environments.{environment_from}
 use Rattle.verdict_meaning.specs.Rounds.{known_if, known_to, modules}
 

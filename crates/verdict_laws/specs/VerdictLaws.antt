@@ -2,14 +2,14 @@
 use Rattle.verdict_meaning.specs.Rounds.{known_to, others_reached, verdict_of, modules}
 use Rattle.std.specs.Prelude.{◌≡◌, ℕ, ◌<◌, true, false, slice_get, Some}
 use Rattle.name_meaning.specs.Names.{Name, Text, is_among}
-use Rattle.log_meaning.specs.Log.{Library, text_of}
-use Rattle.walk_meaning.specs.Walks.{is_ungrounded, is_grounded, ungrounded_names}
-use Rattle.walk_meaning.specs.Reach.{reach}
-use Rattle.walk_meaning.specs.Subject.{AnswersPresent, KeepsToReach}
+use Rattle.edit_log_meaning.specs.Log.{Library, text_of}
+use Rattle.module_graph_meaning.specs.Walks.{is_ungrounded, is_grounded, ungrounded_names}
+use Rattle.module_graph_meaning.specs.Reach.{reach}
+use Rattle.module_graph_meaning.specs.Subject.{AnswersPresent, KeepsToReach}
 use Rattle.text_meaning.specs.Trees.{Module}
 use Rattle.text_meaning.specs.Reading.{ModuleText, ModuleTree, Read}
 use Rattle.text_meaning.specs.TextAnswers.{read}
-use Rattle.expansion_meaning.specs.Rules.{Rule}
+use Rattle.elaborate_meaning.specs.Rules.{Rule}
 use Rattle.text_meaning.specs.Dependencies.{Dependency, module_dependencies, dependencies}
 use Rattle.verdict_meaning.specs.Verdicts.{Refused, judge}
 

@@ -2,8 +2,8 @@
 -- transitive).
 use Rattle.std.specs.Prelude.{◌≡◌, true, List, [], ◌∷◌, flat_map}
 use Rattle.name_meaning.specs.Names.{Name, Text, is_among}
-use Rattle.log_meaning.specs.Log.{Library, text_of}
-use Rattle.walk_meaning.specs.Walks.{of_text}
+use Rattle.edit_log_meaning.specs.Log.{Library, text_of}
+use Rattle.module_graph_meaning.specs.Walks.{of_text}
 use Rattle.text_meaning.specs.Trees.{Decl, IncludeDecl, StructDecl, ConstDecl, Module, SigModule, ViewModule, first_name}
 use Rattle.text_meaning.specs.Reading.{ModuleText, ModuleTree, JudgementTree, Answer, Read, Syntax, TooDeep, Unsupported}
 use Rattle.text_meaning.specs.TextAnswers.{read}

@@ -2,12 +2,12 @@
 -- restricted to what the module reaches. A grounded module has its verdict as soon as there are as many rounds as its longest
 -- walk has names.
 use Rattle.name_meaning.specs.Names.{Name, same_name, is_among}
-use Rattle.log_meaning.specs.Log.{Library, Module}
+use Rattle.edit_log_meaning.specs.Log.{Library, Module}
 use Rattle.library_meaning.specs.Faces.{Environment, Known, IsAbsent}
 use Rattle.std.specs.Prelude.{ℕ, zero, suc, List, [], ◌∷◌, map, filter, not, length, Option, Some, None, if◌then◌else◌}
-use Rattle.walk_meaning.specs.Walks.{ungrounded_names}
-use Rattle.walk_meaning.specs.Reach.{reach}
-use Rattle.walk_meaning.specs.Subject.{Subject}
+use Rattle.module_graph_meaning.specs.Walks.{ungrounded_names}
+use Rattle.module_graph_meaning.specs.Reach.{reach}
+use Rattle.module_graph_meaning.specs.Subject.{Subject}
 use Rattle.text_meaning.specs.Dependencies.{dependencies}
 use Rattle.verdict_meaning.specs.Verdicts.{Verdict, known_by, judge}
 

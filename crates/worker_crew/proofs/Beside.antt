@@ -1,6 +1,6 @@
 -- A board that was led by a front, with a crew beside it.
 use Rattle.std.proofs.Common.{◌≡◌, ℕ, List, ap, ◌∙◌, subst}
-use Rattle.walk_meaning.specs.Walks.{Dependencies}
+use Rattle.module_graph_meaning.specs.Walks.{Dependencies}
 use Rattle.turn_meaning.specs.Passes.{Pass}
 use Rattle.board_meaning.specs.Events.{Entry, History, log_of}
 use Rattle.board_meaning.specs.Points.{IsPoint}

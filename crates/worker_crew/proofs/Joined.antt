@@ -5,7 +5,7 @@ use Rattle.std.proofs.lemmas.Bool.{and_from}
 use Rattle.std.proofs.lemmas.List.{map-append, length-map}
 use Rattle.std.proofs.lemmas.List.Elements.{All-nil, All-push, All-weaker}
 use Rattle.std.proofs.lemmas.List.Folds.{list_all-append}
-use Rattle.walk_meaning.specs.Walks.{Dependencies}
+use Rattle.module_graph_meaning.specs.Walks.{Dependencies}
 use Rattle.turn_meaning.specs.Passes.{Pass, IsIdleOf, Joins, HasJoinedAll}
 use Rattle.board_meaning.specs.Events.{Entry, History, log_of}
 use Rattle.board_meaning.specs.Legal.{IsLegal}

@@ -2,7 +2,7 @@
 use Rattle.std.proofs.Common.{ℕ, List, Result, Ok, Err, sym, ap, ◌∙◌, subst}
 use Rattle.std.specs.Prelude.{OnOk, OnErr}
 use Rattle.std.specs.List.{AllZip}
-use Rattle.walk_meaning.specs.Subject.{Subject}
+use Rattle.module_graph_meaning.specs.Subject.{Subject}
 use Rattle.turn_meaning.specs.Passes.{Pass, IsIdleOf}
 use Rattle.board_meaning.specs.Events.{Entry, History}
 use Rattle.board_meaning.specs.Legal.{IsLegal}

@@ -1,6 +1,6 @@
 -- What becomes of a board whose front has ended (this profile).
 use Rattle.std.specs.Prelude.{◌≡◌}
-use Rattle.walk_meaning.specs.Walks.{Dependencies}
+use Rattle.module_graph_meaning.specs.Walks.{Dependencies}
 use Rattle.turn_meaning.specs.Passes.{Pass}
 use Rattle.board_meaning.specs.Events.{Entry, History, log_of}
 use Rattle.board_meaning.specs.Legal.{IsLegal}

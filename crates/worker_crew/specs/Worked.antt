@@ -1,6 +1,6 @@
 -- What a worker has done with its pass (this profile).
 use Rattle.std.specs.Prelude.{List, OnOk, OnErr}
-use Rattle.walk_meaning.specs.Subject.{Subject}
+use Rattle.module_graph_meaning.specs.Subject.{Subject}
 use Rattle.board_meaning.specs.Turns.{TurnEnd, DoesWork, WorkFindsNoMemory}
 use Rattle.board_seats.specs.Seats.{Keeps}
 use Rattle.worker_crew.specs.Workers.{Worker}

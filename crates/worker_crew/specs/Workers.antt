@@ -1,7 +1,7 @@
 -- What is seen of a crew: its workers (this profile).
 use Rattle.std.specs.Prelude.{◌≡◌, ◌≢◌, List, [], Result}
 use Rattle.std.specs.List.{All}
-use Rattle.walk_meaning.specs.Walks.{Dependencies}
+use Rattle.module_graph_meaning.specs.Walks.{Dependencies}
 use Rattle.turn_meaning.specs.Passes.{Pass, IsIdleOf}
 use Rattle.board_meaning.specs.Events.{Entry}
 use Rattle.board_meaning.specs.Legal.{IsLegal}

@@ -1,8 +1,8 @@
 -- A turn of a worker from the calls that it makes.
 use Rattle.std.proofs.Common.{◌≡◌, ℕ, List, Bool, true, false, Option, Some, None, option_map, sym, ap, ◌∙◌, subst}
 use Rattle.name_meaning.specs.Names.{Name, Text}
-use Rattle.log_meaning.specs.Log.{Library}
-use Rattle.walk_meaning.specs.Subject.{Subject}
+use Rattle.edit_log_meaning.specs.Log.{Library}
+use Rattle.module_graph_meaning.specs.Subject.{Subject}
 use Rattle.turn_meaning.specs.Passes.{Pass}
 use Rattle.board_meaning.specs.Events.{Entry}
 use Rattle.board_meaning.specs.Machine.{Job, Installed, ClaimCall, InstallCall, ReleaseCall}

@@ -2,7 +2,7 @@
 use Rattle.std.proofs.Common.{◌≡◌, ℕ, ◌+◌, Bool, true, ◌&&◌, List, [], ◌∷◌, ◌++◌, refl, ap, ◌∙◌, subst, arith}
 use Rattle.std.proofs.lemmas.Bool.{and_parts, and_from}
 use Rattle.std.specs.List.{list_all}
-use Rattle.walk_meaning.specs.Subject.{Subject}
+use Rattle.module_graph_meaning.specs.Subject.{Subject}
 use Rattle.turn_meaning.specs.Passes.{Pass}
 use Rattle.board_meaning.specs.Events.{Entry, History}
 use Rattle.board_meaning.specs.Turns.{TurnEnd, Closed, Turns, TurnFindsNoMemory, TurnsAll, judged_in, judged_in_all, is_open_still}

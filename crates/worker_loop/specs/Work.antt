@@ -1,6 +1,6 @@
 -- What the work of a pass comes to, and how many modules are judged in it (this profile).
 use Rattle.std.specs.Prelude.{◌≡◌, ℕ, ◌+◌, List}
-use Rattle.walk_meaning.specs.Subject.{Subject}
+use Rattle.module_graph_meaning.specs.Subject.{Subject}
 use Rattle.board_meaning.specs.Events.{History}
 use Rattle.board_meaning.specs.Turns.{TurnEnd, judged_in_all, DoesWork, WorkFindsNoMemory}
 

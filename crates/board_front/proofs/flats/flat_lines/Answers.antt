@@ -1,5 +1,5 @@
 use Rattle.std.proofs.Common.{◌≡◌, ℕ, List, IfOk, sym, ◌∙◌, subst}
-use Rattle.log_meaning.specs.Log.{Log}
+use Rattle.edit_log_meaning.specs.Log.{Log}
 use Rattle.board_meaning.specs.Events.{library_after, log_of}
 use Rattle.board_front.specs.Told.{IsToldOf}
 use Rattle.board_front.proofs.Accepts.{accepted_told, flat_is, grounded_told, none_accepted}

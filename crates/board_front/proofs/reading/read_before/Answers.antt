@@ -1,6 +1,6 @@
 use Rattle.std.proofs.Common.{Result, Ok, ap, ◌∙◌, subst}
-use Rattle.log_meaning.specs.Append.{append_answer}
-use Rattle.log_laws.proofs.Limits.{made_short}
+use Rattle.edit_log_meaning.specs.Append.{append_answer}
+use Rattle.edit_log_laws.proofs.Limits.{made_short}
 use Rattle.edit_log.specs.Readings.{read_edit, IsAnswer}
 use Rattle.edit_log.specs.declared.answers.Edited.{Edited}
 use Rattle.edit_log.specs.declared.answers.EditFault.{EditFault}

@@ -1,5 +1,5 @@
 use Rattle.std.proofs.Common.{◌≡◌, ◌≤◌, ◌+◌, ◌++◌, ℕ, suc, List, length, option_copied, sym, ap, ◌∙◌, subst, arith}
-use Rattle.log_meaning.specs.Log.{library_of, names_of}
+use Rattle.edit_log_meaning.specs.Log.{library_of, names_of}
 use Rattle.board_front.proofs.Checked.{ChecksSoFar, all_stand, all_written, next_checked, past_end}
 use Rattle.board_front.proofs.Histories.{keeps_on}
 use Rattle.board_front.proofs.reports.check_lines.Goals.{else-loop-place-test, then-loop-place-test+in_default}

@@ -1,5 +1,5 @@
 use Rattle.std.proofs.Common.{◌≡◌, List, ℕ, IfOk, option_copied, subst}
-use Rattle.log_meaning.specs.Log.{library_of}
+use Rattle.edit_log_meaning.specs.Log.{library_of}
 use Rattle.run_meaning.specs.Judging.{environment_of}
 use Rattle.judged_meaning.specs.JudgingByRules.{rules}
 use Rattle.board_front.proofs.Printed.{can_be_told, counts, short_copied, told_printed}

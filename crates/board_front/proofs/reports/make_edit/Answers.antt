@@ -1,6 +1,6 @@
 use Rattle.std.proofs.Common.{◌≡◌, IfOk, inr, sym, ◌∙◌, subst}
-use Rattle.log_meaning.specs.Append.{append_answer}
-use Rattle.log_meaning.specs.Append as answers
+use Rattle.edit_log_meaning.specs.Append.{append_answer}
+use Rattle.edit_log_meaning.specs.Append as answers
 use Rattle.printing_meaning.specs.EditLines.{edit_word}
 use Rattle.board_meaning.specs.Events.{log_of}
 use Rattle.edit_log.specs.Readings.{read_edit}

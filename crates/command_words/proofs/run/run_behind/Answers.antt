@@ -1,7 +1,7 @@
 use Rattle.std.proofs.Common.{ℕ, List, map, ◌∙◌, rules}
 use Rattle.std.specs.Prelude.{Option}
 use Rattle.std.specs.String.{string_bytes}
-use Rattle.word_list_meaning.specs.WordLists.{Run, without_part, part_in_front, part_at_end, run_of}
+use Rattle.command_words_meaning.specs.WordLists.{Run, without_part, part_in_front, part_at_end, run_of}
 use Rattle.command_words.proofs.Found.{first_found, first_of_five}
 use Rattle.command_words.proofs.run.run_behind.Goals as goal
 

@@ -10,7 +10,7 @@ use Rattle.library_meaning.specs.Words.{identity_map}
 use Rattle.link_meaning.specs.Coverings.{is_identity_covering}
 use Rattle.link_meaning.specs.CoveringMaps.{cover_all}
 use Rattle.mapping_laws.specs.NextImages.{StandsBefore}
-use Rattle.row_typing.proofs.SharedParts.{Keeps, keeps_none, keeps_more, shared_part}
+use Rattle.morphism_words_typing.proofs.SharedParts.{Keeps, keeps_none, keeps_more, shared_part}
 use Rattle.term_trees.specs.Readings.{read_map, read_signature}
 use Rattle.covering_pass.specs.CoverTables.{assigned_of, read_own, setting_of}
 use Rattle.link_setting.proofs.Refusing.{refuses_first}

@@ -2,7 +2,7 @@ use Rattle.std.proofs.Common.{◌≡◌, [], take, drop}
 use Rattle.library_meaning.specs.Faces.{own_parts}
 use Rattle.link_meaning.specs.CoveringMaps.{cover_all}
 use Rattle.term_trees.specs.Readings.{read_map}
-use Rattle.row_typing.proofs.SharedParts.{Keeps}
+use Rattle.morphism_words_typing.proofs.SharedParts.{Keeps}
 use Rattle.covering_pass.specs.CoverTables.{assigned_of, setting_of}
 use Rattle.covering_pass.proofs.shared_images.add_all_parts.Given as goal
 

@@ -1,11 +1,11 @@
 use Rattle.std.proofs.Common.{ap, ap₂, subst, ◌∙◌}
 use Rattle.lf_meaning.specs.Judgements.{IsClass}
-use Rattle.expansion_meaning.specs.Values.{expand_class}
-use Rattle.expansion_meaning.specs.Stands.{StandsClass}
-use Rattle.expansion_laws.proofs.ValuesStand.{class_sound, class_complete}
-use Rattle.holding_laws.specs.ExpansionHolds.{scope_signature}
-use Rattle.expansion_typing.specs.TypingOfExpansion.{IsTypedScope}
-use Rattle.expansion_typing.proofs.Expanding.{standing_class_is_class}
+use Rattle.elaborate_meaning.specs.Values.{expand_class}
+use Rattle.elaborate_meaning.specs.Stands.{StandsClass}
+use Rattle.elaborate_laws.proofs.ValuesStand.{class_sound, class_complete}
+use Rattle.constant_laws.specs.ExpansionHolds.{scope_signature}
+use Rattle.elaborate_typing.specs.TypingOfExpansion.{IsTypedScope}
+use Rattle.elaborate_typing.proofs.Expanding.{standing_class_is_class}
 use Rattle.term_trees.specs.Readings.{read_class}
 use Rattle.mmt_syntax.specs.Readings.{read_expr}
 use Rattle.names.specs.Readings.{read_locals, read_scope}

@@ -1,13 +1,13 @@
 use Rattle.std.proofs.Common.{ap₂, subst}
 use Rattle.lf_meaning.specs.Judgements.{IsContext, IsKind}
-use Rattle.expansion_meaning.specs.Expansion.{expand_kind}
-use Rattle.expansion_meaning.specs.Locals.{context_of}
-use Rattle.expansion_meaning.specs.Stands.{StandsKind}
-use Rattle.expansion_laws.proofs.Sound.{kind_sound}
-use Rattle.expansion_laws.proofs.Complete.{kind_complete}
-use Rattle.holding_laws.specs.ExpansionHolds.{scope_signature}
-use Rattle.expansion_typing.specs.TypingOfExpansion.{IsTypedScope}
-use Rattle.expansion_typing.proofs.Expanding.{standing_kind_is_kind}
+use Rattle.elaborate_meaning.specs.Expansion.{expand_kind}
+use Rattle.elaborate_meaning.specs.Locals.{context_of}
+use Rattle.elaborate_meaning.specs.Stands.{StandsKind}
+use Rattle.elaborate_laws.proofs.Sound.{kind_sound}
+use Rattle.elaborate_laws.proofs.Complete.{kind_complete}
+use Rattle.constant_laws.specs.ExpansionHolds.{scope_signature}
+use Rattle.elaborate_typing.specs.TypingOfExpansion.{IsTypedScope}
+use Rattle.elaborate_typing.proofs.Expanding.{standing_kind_is_kind}
 use Rattle.term_trees.specs.Readings.{read_kind}
 use Rattle.mmt_syntax.specs.Readings.{read_expr}
 use Rattle.names.specs.Readings.{read_locals, read_scope}

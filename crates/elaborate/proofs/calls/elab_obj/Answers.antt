@@ -1,13 +1,13 @@
 use Rattle.std.proofs.Common.{ap₂, subst}
 use Rattle.lf_meaning.specs.Judgements.{Checks, IsContext, IsFamily}
-use Rattle.expansion_meaning.specs.Expansion.{expand_object}
-use Rattle.expansion_meaning.specs.Locals.{context_of}
-use Rattle.expansion_meaning.specs.Stands.{StandsObject}
-use Rattle.expansion_laws.proofs.Sound.{object_sound}
-use Rattle.expansion_laws.proofs.Complete.{object_complete}
-use Rattle.holding_laws.specs.ExpansionHolds.{scope_signature}
-use Rattle.expansion_typing.specs.TypingOfExpansion.{IsTypedScope}
-use Rattle.expansion_typing.proofs.Expanding.{standing_object_checks}
+use Rattle.elaborate_meaning.specs.Expansion.{expand_object}
+use Rattle.elaborate_meaning.specs.Locals.{context_of}
+use Rattle.elaborate_meaning.specs.Stands.{StandsObject}
+use Rattle.elaborate_laws.proofs.Sound.{object_sound}
+use Rattle.elaborate_laws.proofs.Complete.{object_complete}
+use Rattle.constant_laws.specs.ExpansionHolds.{scope_signature}
+use Rattle.elaborate_typing.specs.TypingOfExpansion.{IsTypedScope}
+use Rattle.elaborate_typing.proofs.Expanding.{standing_object_checks}
 use Rattle.term_trees.specs.Readings.{read_family, read_object}
 use Rattle.mmt_syntax.specs.Readings.{read_expr}
 use Rattle.names.specs.Readings.{read_locals, read_scope}

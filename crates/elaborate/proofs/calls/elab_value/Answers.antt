@@ -1,11 +1,11 @@
 use Rattle.std.proofs.Common.{ap, ap₂, subst, ◌∙◌}
 use Rattle.lf_meaning.specs.Judgements.{Fits, IsClass}
-use Rattle.expansion_meaning.specs.Values.{expand_value}
-use Rattle.expansion_meaning.specs.Stands.{StandsValue}
-use Rattle.expansion_laws.proofs.ValuesStand.{value_sound, value_complete}
-use Rattle.holding_laws.specs.ExpansionHolds.{scope_signature}
-use Rattle.expansion_typing.specs.TypingOfExpansion.{IsTypedScope}
-use Rattle.expansion_typing.proofs.Expanding.{standing_value_fits}
+use Rattle.elaborate_meaning.specs.Values.{expand_value}
+use Rattle.elaborate_meaning.specs.Stands.{StandsValue}
+use Rattle.elaborate_laws.proofs.ValuesStand.{value_sound, value_complete}
+use Rattle.constant_laws.specs.ExpansionHolds.{scope_signature}
+use Rattle.elaborate_typing.specs.TypingOfExpansion.{IsTypedScope}
+use Rattle.elaborate_typing.proofs.Expanding.{standing_value_fits}
 use Rattle.term_trees.specs.Readings.{read_class, read_value}
 use Rattle.mmt_syntax.specs.Readings.{read_expr}
 use Rattle.names.specs.Readings.{read_locals, read_scope}

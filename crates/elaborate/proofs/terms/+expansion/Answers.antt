@@ -1,7 +1,7 @@
 use Rattle.std.proofs.Common.{refl, ap, ap₂, sym, ◌∙◌, arith}
 use Rattle.std.proofs.lemmas.Result.{err_from_is_err_and}
-use Rattle.expansion_meaning.specs.Locals.{with_local}
-use Rattle.expansion_meaning.specs.Expansion.{expand_object}
+use Rattle.elaborate_meaning.specs.Locals.{with_local}
+use Rattle.elaborate_meaning.specs.Expansion.{expand_object}
 use Rattle.term_trees.specs.Readings.{read_family, read_object}
 use Rattle.mmt_syntax.specs.Readings.{read_arguments, read_binder, read_expr, expressions_of}
 use Rattle.elaborate.specs.Contexts.{locals_of, scope_of}

@@ -1,6 +1,6 @@
 use Rattle.std.proofs.Common.{◌≡◌, ◌+◌, ◌*◌, take, Ok}
 use Rattle.translation_meaning.specs.Heads.{Head}
-use Rattle.expansion_meaning.specs.Expansion.{expand_arguments}
+use Rattle.elaborate_meaning.specs.Expansion.{expand_arguments}
 use Rattle.mmt_syntax.specs.Readings.{read_expr, read_arguments}
 use Rattle.elaborate.specs.Contexts.{locals_of, scope_of}
 use Rattle.elaborate.specs.HeadStates.{Stands}

@@ -1,6 +1,6 @@
 use Rattle.std.proofs.Common.{refl, sym, ap₂, ◌∙◌}
 use Rattle.std.proofs.lemmas.Result.{err_from_is_err_and}
-use Rattle.expansion_meaning.specs.Locals.{with_local}
+use Rattle.elaborate_meaning.specs.Locals.{with_local}
 use Rattle.term_trees.specs.Readings.{read_family, read_kind}
 use Rattle.mmt_syntax.specs.Readings.{read_binder, read_expr}
 use Rattle.elaborate.specs.Contexts.{locals_of, scope_of}

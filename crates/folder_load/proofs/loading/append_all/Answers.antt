@@ -1,8 +1,8 @@
 use Rattle.std.proofs.Common.{◌≡◌, false, Result, Ok, Err, OnOk, [], ◌∷◌, map, refl, sym, ap, ◌∙◌}
 use Rattle.std.specs.Result.{is_err}
 use Rattle.std.proofs.lemmas.List.{map-append}
-use Rattle.log_meaning.specs.Append.{appended, appended_all}
-use Rattle.log_laws.proofs.Libraries.{fold_last}
+use Rattle.edit_log_meaning.specs.Append.{appended, appended_all}
+use Rattle.edit_log_laws.proofs.Libraries.{fold_last}
 use Rattle.edit_log.specs.Readings.{read_edit}
 use Rattle.folder_load.proofs.loading.append_all.Goals as goal
 

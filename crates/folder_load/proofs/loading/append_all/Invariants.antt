@@ -1,5 +1,5 @@
 use Rattle.std.proofs.Common.{◌≡◌, map}
-use Rattle.log_meaning.specs.Append.{appended_all}
+use Rattle.edit_log_meaning.specs.Append.{appended_all}
 use Rattle.edit_log.specs.Readings.{read_edit}
 use Rattle.folder_load.proofs.loading.append_all.Given as goal
 

@@ -1,7 +1,7 @@
 use Rattle.std.proofs.Common.{◌≤◌, ℕ, option_copied, length, refl, sym, ap, ◌∙◌, subst, arith}
 use denote.Exit.{yes}
 use denote.Param.Send.{arg_send, arg_sync, param_send, param_sync}
-use Rattle.log_meaning.specs.Log.{library_of, names_of}
+use Rattle.edit_log_meaning.specs.Log.{library_of, names_of}
 use Rattle.board_meaning.specs.Events.{log_of}
 use Rattle.text_meaning.specs.Dependencies.{dependencies}
 use Rattle.verdict_board.specs.FirstPending.{IsFirstPending}

@@ -1,5 +1,5 @@
 use Rattle.std.proofs.Common.{◌≤◌, ℕ, option_copied, length, sym, ap, ◌∙◌, arith}
-use Rattle.log_meaning.specs.Log.{library_of, names_of}
+use Rattle.edit_log_meaning.specs.Log.{library_of, names_of}
 use Rattle.board_front.proofs.Checked.{past_end, within_limit}
 use Rattle.board_front.proofs.Histories.{keeps_on}
 use Rattle.generator_front.proofs.SettledEdits.{grounded_stand}

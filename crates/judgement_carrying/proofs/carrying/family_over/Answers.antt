@@ -1,5 +1,5 @@
 use Rattle.std.proofs.Common.{◌≡◌, [], Ok, ap, sym, subst}
-use Rattle.expansion_meaning.specs.Expansion.{expand_family}
+use Rattle.elaborate_meaning.specs.Expansion.{expand_family}
 use Rattle.term_trees.specs.Readings.{read_family}
 use Rattle.mmt_syntax.specs.Readings.{read_expr}
 use Rattle.names.specs.Readings.{read_locals, read_scope}

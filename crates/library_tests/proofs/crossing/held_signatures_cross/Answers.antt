@@ -1,7 +1,7 @@
 use denote.Exit.{yes}
 use denote.Param.Send.{arg_send, arg_sync, param_send, param_sync, recorded_send, recorded_sync, struct_send, struct_sync}
 use denote.Struct.Declared.{shape}
-use Rattle.crossing_laws.proofs.Crossing.{signature_send, signature_sync}
+use Rattle.send_laws.proofs.Crossing.{signature_send, signature_sync}
 use Rattle.library_tests.specs.contracts.crossing.Held as held
 use Rattle.library_tests.proofs.crossing.held_signatures_cross.Goals as goal
 

@@ -1,6 +1,6 @@
 use denote.Exit.{yes}
 use denote.Param.Send.{arg_send, arg_sync, param_send, param_sync}
-use Rattle.crossing_laws.proofs.Crossing.{head_map_send, head_map_sync}
+use Rattle.send_laws.proofs.Crossing.{head_map_send, head_map_sync}
 use Rattle.library_tests.proofs.crossing.maps_cross.Goals as goal
 
 pub crosses-requires-send-T : goal.crosses-requires-send-T

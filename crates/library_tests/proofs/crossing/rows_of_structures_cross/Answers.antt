@@ -2,7 +2,7 @@ use denote.Exit.{yes}
 use denote.Param.Send.{arg_send, arg_sync, param_send, param_sync}
 use Rattle.base_types.proofs.sequence.Sequence.TheSendSync as sequences
 use Rattle.mmt_interface.specs.contracts.face.StructFace as structure
-use Rattle.crossing_laws.proofs.Crossing.{structure_row_send, structure_row_sync}
+use Rattle.send_laws.proofs.Crossing.{structure_row_send, structure_row_sync}
 use Rattle.library_tests.proofs.crossing.rows_of_structures_cross.Goals as goal
 
 pub crosses-requires-send-T : goal.crosses-requires-send-T

@@ -2,7 +2,7 @@ use denote.Exit.{yes}
 use denote.Param.Send.{arg_send, arg_sync, param_send, param_sync}
 use Rattle.base_types.proofs.shared.Arc.TheSendSync as shared
 use Rattle.lf_terms.specs.contracts.flat_sig.FlatSig as signature
-use Rattle.crossing_laws.proofs.Crossing.{signature_send, signature_sync}
+use Rattle.send_laws.proofs.Crossing.{signature_send, signature_sync}
 use Rattle.library_tests.proofs.crossing.shared_signatures_cross.Goals as goal
 
 pub crosses-requires-send-T : goal.crosses-requires-send-T

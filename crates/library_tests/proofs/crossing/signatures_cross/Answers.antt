@@ -1,6 +1,6 @@
 use denote.Exit.{yes}
 use denote.Param.Send.{arg_send, arg_sync, param_send, param_sync}
-use Rattle.crossing_laws.proofs.Crossing.{signature_send, signature_sync}
+use Rattle.send_laws.proofs.Crossing.{signature_send, signature_sync}
 use Rattle.library_tests.proofs.crossing.signatures_cross.Goals as goal
 
 pub crosses-requires-send-T : goal.crosses-requires-send-T

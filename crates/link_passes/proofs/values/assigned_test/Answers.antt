@@ -1,5 +1,5 @@
 use Rattle.std.proofs.Common.{sym, ap₂}
-use Rattle.expansion_meaning.specs.Rules.{DefinitionClash}
+use Rattle.elaborate_meaning.specs.Rules.{DefinitionClash}
 use Rattle.link_meaning.specs.Assignments.{label_along}
 use Rattle.link_meaning.specs.Refusals.{demand}
 use Rattle.link_setting.specs.Readings.{read_setting}

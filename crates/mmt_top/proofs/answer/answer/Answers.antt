@@ -1,6 +1,6 @@
 use Rattle.std.proofs.Common.{List, ℕ, sym, subst}
 use Rattle.std.specs.Prelude.{IfSome}
-use Rattle.log_meaning.specs.Log as edits
+use Rattle.edit_log_meaning.specs.Log as edits
 use Rattle.run_meaning.specs.ScriptCommands.{EditCommand, CarryCommand}
 use Rattle.script_reader.specs.Commands.{read_command}
 use Rattle.script_reader.specs.declared.command.Command.{Command}

@@ -2,7 +2,7 @@ use denote.Exit.{yes}
 use denote.Param.Send.{arg_send, arg_sync, param_send, param_sync}
 use Rattle.board_front.proofs.Subject.{verdict_row_send, verdict_row_sync}
 use Rattle.std.specs.Prelude.{None}
-use Rattle.word_list_meaning.specs.WordLists.{CheckFolder}
+use Rattle.command_words_meaning.specs.WordLists.{CheckFolder}
 use Rattle.run_status.proofs.Taking.{TookOn-none}
 use Rattle.mmt_top.proofs.CheckedFolders.{nothing_left, nothing_listed, says_left, says_printed, says_took}
 use Rattle.mmt_top.proofs.ToldTyping.{tells_typed}

@@ -2,7 +2,7 @@ use denote.Exit.{yes}
 use denote.Param.Send.{arg_send, arg_sync, param_send, param_sync}
 use Rattle.board_front.proofs.Subject.{verdict_row_send, verdict_row_sync}
 use Rattle.std.specs.Prelude.{None}
-use Rattle.word_list_meaning.specs.WordLists.{Generate}
+use Rattle.command_words_meaning.specs.WordLists.{Generate}
 use Rattle.mmt_top.proofs.ToldTyping.{tells_typed}
 use Rattle.mmt_top.proofs.generator_session.generate.Goals as goal
 

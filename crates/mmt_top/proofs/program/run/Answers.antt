@@ -2,7 +2,7 @@ use Rattle.std.proofs.Common.{◌≡◌, true, false, true≢false, refl, sym, a
 use Rattle.std.specs.Prelude.{Option, Some, None, IfSome, IsSome, map}
 use Rattle.std.specs.Option.{option_map}
 use Rattle.std.specs.String.{string_bytes}
-use Rattle.word_list_meaning.specs.WordLists.{Run, run_of}
+use Rattle.command_words_meaning.specs.WordLists.{Run, run_of}
 use Rattle.mmt_outside.proofs.Bytes.{ReadPrefix-none}
 use Rattle.command_words.specs.ReadRuns.{read_run}
 use Rattle.mmt_top.specs.Runs.{IsStatusOf, IsUsage, Prints, ReadHasCause, is_check, is_play}

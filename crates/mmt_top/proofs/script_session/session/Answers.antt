@@ -5,7 +5,7 @@ use Rattle.mmt_outside.proofs.Bytes.{ReadPrefix-none}
 use Rattle.run_status.proofs.Taking.{TookOn-none}
 use Rattle.mmt_top.proofs.Led.{nothing_said, nothing_written, says_backs, says_edits, says_left, says_output, says_took}
 use Rattle.std.specs.Prelude.{None}
-use Rattle.word_list_meaning.specs.WordLists.{Play}
+use Rattle.command_words_meaning.specs.WordLists.{Play}
 use Rattle.mmt_top.proofs.ToldTyping.{tells_typed}
 use Rattle.mmt_top.proofs.script_session.session.Goals as goal
 

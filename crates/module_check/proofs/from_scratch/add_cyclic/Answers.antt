@@ -1,7 +1,7 @@
 use Rattle.std.proofs.Common.{[], ◌∷◌, ◌++◌, sym, ap, ◌∙◌, subst}
 use Rattle.indexmap.proofs.MapLemmas.{OnOk-map}
 use Rattle.std.specs.Option.{option_copied}
-use Rattle.log_meaning.specs.Log.{library_of}
+use Rattle.edit_log_meaning.specs.Log.{library_of}
 use Rattle.text_meaning.specs.Dependencies.{dependencies}
 use Rattle.verdict_board.proofs.EditSteps.{ungrounded_present}
 use Rattle.list_laws.proofs.Lists.{map_last}

@@ -3,10 +3,10 @@ use Rattle.std.proofs.lemmas.List.{take_all}
 use Rattle.std.proofs.lemmas.Option.{slice_get-get_or}
 use Rattle.list_laws.proofs.Places.{take_more}
 use Rattle.name_meaning.specs.Names.{is_among}
-use Rattle.log_meaning.specs.Log.{library_of}
-use Rattle.log_laws.proofs.Libraries.{library_ascending}
-use Rattle.walk_laws.proofs.Graphs.{graph_grounds}
-use Rattle.walk_meaning.specs.Walks.{ungrounded_names}
+use Rattle.edit_log_meaning.specs.Log.{library_of}
+use Rattle.edit_log_laws.proofs.Libraries.{library_ascending}
+use Rattle.module_graph_laws.proofs.Graphs.{graph_grounds}
+use Rattle.module_graph_meaning.specs.Walks.{ungrounded_names}
 use Rattle.text_meaning.specs.Dependencies.{dependencies}
 use Rattle.module_check.specs.JudgingOrders.{HasReachOf, HaveAll}
 use Rattle.module_check.proofs.JudgingOrder.{order_grounded, order_fresh, order_reached, order_whole}

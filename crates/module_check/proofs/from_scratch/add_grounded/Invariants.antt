@@ -1,8 +1,8 @@
 use Rattle.std.proofs.Common.{◌≡◌, ◌++◌, take}
 use Rattle.name_meaning.specs.Rows.{row_names}
-use Rattle.log_meaning.specs.Log.{library_of}
+use Rattle.edit_log_meaning.specs.Log.{library_of}
 use Rattle.text_meaning.specs.Dependencies.{dependencies}
-use Rattle.walk_meaning.specs.Walks.{ungrounded_names}
+use Rattle.module_graph_meaning.specs.Walks.{ungrounded_names}
 use Rattle.module_check.specs.Known.{AreVerdicts}
 use Rattle.module_check.proofs.from_scratch.add_grounded.Given as goal
 

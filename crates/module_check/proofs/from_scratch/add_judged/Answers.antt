@@ -2,8 +2,8 @@ use Rattle.std.proofs.Common.{not, [], ◌∷◌, ◌++◌, sym, ap, ◌∙◌, 
 use Rattle.std.proofs.lemmas.Bool.{and_parts}
 use Rattle.std.specs.Option.{option_copied}
 use Rattle.indexmap.proofs.MapLemmas.{OnOk-map}
-use Rattle.log_meaning.specs.Log.{library_of, is_present}
-use Rattle.walk_meaning.specs.Walks.{is_ungrounded}
+use Rattle.edit_log_meaning.specs.Log.{library_of, is_present}
+use Rattle.module_graph_meaning.specs.Walks.{is_ungrounded}
 use Rattle.text_meaning.specs.Dependencies.{dependencies}
 use Rattle.list_laws.proofs.Lists.{map_last}
 use Rattle.name_meaning.specs.Names.{Name, is_among}

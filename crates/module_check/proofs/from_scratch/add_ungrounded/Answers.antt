@@ -4,8 +4,8 @@ use Rattle.list_laws.proofs.Places.{take_more}
 use Rattle.name_meaning.specs.Names.{is_among, is_ascending}
 use Rattle.name_meaning.specs.Rows.{row_names}
 use Rattle.std.proofs.lemmas.Option.{slice_get-get_or}
-use Rattle.log_meaning.specs.Log.{library_of}
-use Rattle.log_laws.proofs.Libraries.{library_ascending}
+use Rattle.edit_log_meaning.specs.Log.{library_of}
+use Rattle.edit_log_laws.proofs.Libraries.{library_ascending}
 use Rattle.text_meaning.specs.Dependencies.{dependencies}
 use Rattle.verdict_board.proofs.EditSteps.{known_sorted, bad_listed}
 use Rattle.module_check.specs.Known.{AreVerdicts}

@@ -1,6 +1,6 @@
 use Rattle.std.proofs.Common.{◌≡◌, take}
 use Rattle.name_meaning.specs.Rows.{row_names}
-use Rattle.log_meaning.specs.Log.{library_of}
+use Rattle.edit_log_meaning.specs.Log.{library_of}
 use Rattle.module_check.specs.Known.{AreVerdicts}
 use Rattle.module_check.proofs.from_scratch.add_ungrounded.Given as goal
 

@@ -1,5 +1,5 @@
 use Rattle.std.proofs.Common.{sym, ◌∙◌}
-use Rattle.log_meaning.specs.Log.{library_of}
+use Rattle.edit_log_meaning.specs.Log.{library_of}
 use Rattle.module_check.proofs.FromTexts.{all_verdicts}
 use Rattle.module_check.proofs.OneLibrary.{coherent_together}
 use Rattle.module_check.proofs.from_scratch.scratch.Goals as goal

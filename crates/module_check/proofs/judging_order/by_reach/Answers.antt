@@ -5,7 +5,7 @@ use Rattle.std.proofs.lemmas.Option.{same_Some, slice_get-get_or}
 use Rattle.std.proofs.lemmas.Result.{IfOk-weaker}
 use Rattle.list_laws.proofs.Places.{place_within}
 use Rattle.name_meaning.specs.Names.{Name}
-use Rattle.walk_meaning.specs.Graphs.{graph_reach}
+use Rattle.module_graph_meaning.specs.Graphs.{graph_reach}
 use Rattle.module_check.specs.JudgingOrders.{RisesInReach}
 use Rattle.module_check.proofs.JudgingOrder.{counted_by, not_smaller, rises_by, uncounted_names}
 use Rattle.module_check.proofs.judging_order.by_reach.Goals as goal

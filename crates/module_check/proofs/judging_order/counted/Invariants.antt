@@ -1,6 +1,6 @@
 use Rattle.std.proofs.Common.{◌≡◌, map, length, take}
 use Rattle.name_meaning.specs.Names.{Name}
-use Rattle.walk_meaning.specs.Graphs.{graph_reach}
+use Rattle.module_graph_meaning.specs.Graphs.{graph_reach}
 use Rattle.module_check.proofs.judging_order.counted.Given as goal
 
 abbrev pub invariant-loop-name : goal.invariant-loop-name

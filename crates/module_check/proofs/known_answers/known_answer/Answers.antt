@@ -1,6 +1,6 @@
 use Rattle.std.proofs.Common.{sym, ap, ◌∙◌}
 use Rattle.std.specs.Option.{option_copied}
-use Rattle.log_meaning.specs.Log.{library_of}
+use Rattle.edit_log_meaning.specs.Log.{library_of}
 use Rattle.module_check.proofs.FromTexts.{answer_due, answer_there}
 use Rattle.module_check.proofs.known_answers.known_answer.Goals as goal
 

@@ -4,10 +4,10 @@ use Rattle.std.proofs.lemmas.Option.{slice_get-get_or}
 use Rattle.list_laws.proofs.Members.{Member, place_member}
 use Rattle.name_meaning.specs.Names.{Name, same_name, is_ascending}
 use Rattle.coherence_laws.proofs.LibrariesHold.{in_reach}
-use Rattle.log_meaning.specs.Log.{library_of}
-use Rattle.walk_laws.proofs.Graphs.{graph_reaches}
-use Rattle.walk_laws.proofs.Reaching.{reach_ascending}
-use Rattle.walk_meaning.specs.Subject.{present_answer, answers_of}
+use Rattle.edit_log_meaning.specs.Log.{library_of}
+use Rattle.module_graph_laws.proofs.Graphs.{graph_reaches}
+use Rattle.module_graph_laws.proofs.Reaching.{reach_ascending}
+use Rattle.module_graph_meaning.specs.Subject.{present_answer, answers_of}
 use Rattle.text_meaning.specs.Dependencies.{dependencies}
 use Rattle.verdict_meaning.specs.Rounds.{modules}
 use Rattle.mmt_interface.specs.Readings.{read_verdict}

@@ -1,7 +1,7 @@
 use Rattle.std.proofs.Common.{not}
 use Rattle.name_meaning.specs.Names.{Name, same_name}
-use Rattle.log_meaning.specs.Log.{library_of}
-use Rattle.walk_meaning.specs.Subject.{present_answer}
+use Rattle.edit_log_meaning.specs.Log.{library_of}
+use Rattle.module_graph_meaning.specs.Subject.{present_answer}
 use Rattle.verdict_meaning.specs.Rounds.{modules}
 use Rattle.mmt_interface.specs.Readings.{read_verdict}
 use Rattle.verdict_board.proofs.Reports.{AreAnswers}

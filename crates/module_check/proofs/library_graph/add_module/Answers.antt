@@ -2,7 +2,7 @@ use Rattle.std.proofs.Common.{ap, ◌∙◌}
 use Rattle.indexmap.proofs.MapLemmas.{OnOk-map}
 use Rattle.name_meaning.specs.Rows.{with_row}
 use Rattle.text_meaning.specs.Dependencies as meaning
-use Rattle.walk_meaning.specs.Walks.{direct, of_text}
+use Rattle.module_graph_meaning.specs.Walks.{direct, of_text}
 use Rattle.module_check.proofs.library_graph.add_module.Goals as goal
 
 pub returns : goal.returns

@@ -1,7 +1,7 @@
 use Rattle.std.proofs.Common.{◌≡◌, Some, length, slice_get, sym, ap, ◌∙◌, subst}
 use Rattle.std.specs.Option.{option_copied}
-use Rattle.log_meaning.specs.Log.{library_of, names_of}
-use Rattle.log_laws.proofs.Libraries.{library_ascending, present_among}
+use Rattle.edit_log_meaning.specs.Log.{library_of, names_of}
+use Rattle.edit_log_laws.proofs.Libraries.{library_ascending, present_among}
 use Rattle.name_laws.proofs.Order.{member_among}
 use Rattle.list_laws.proofs.Members.{place_member}
 use Rattle.text_meaning.specs.Dependencies as meaning

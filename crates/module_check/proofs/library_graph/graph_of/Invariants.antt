@@ -1,5 +1,5 @@
 use Rattle.std.proofs.Common.{◌-◌, length}
-use Rattle.log_meaning.specs.Log.{library_of, names_of}
+use Rattle.edit_log_meaning.specs.Log.{library_of, names_of}
 use Rattle.text_meaning.specs.Dependencies as meaning
 use Rattle.module_check.proofs.LibraryGraph.{HoldsFirst}
 use Rattle.module_check.proofs.library_graph.graph_of.Given as goal

@@ -2,8 +2,8 @@ use Rattle.std.proofs.Common.{◌≡◌, ℕ, Bool, true, false, List, [], ◌�
 use Rattle.std.proofs.lemmas.List.{take_all}
 use Rattle.name_meaning.specs.Names.{Name}
 use Rattle.name_meaning.specs.Rows.{row_names}
-use Rattle.walk_meaning.specs.Walks.{is_grounded}
-use Rattle.walk_meaning.specs.Graphs.{Graph, row_dependencies, row_library, graph_grounded}
+use Rattle.module_graph_meaning.specs.Walks.{is_grounded}
+use Rattle.module_graph_meaning.specs.Graphs.{Graph, row_dependencies, row_library, graph_grounded}
 use Rattle.module_graph.specs.Peeling.{TellsGrounded}
 use Rattle.list_laws.proofs.Writes.{item_read, item_at, filter_more}
 use Rattle.module_graph.proofs.Peeled.{names_long}

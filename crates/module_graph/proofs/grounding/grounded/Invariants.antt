@@ -1,7 +1,7 @@
 use Rattle.std.proofs.Common.{◌≡◌, take, filter}
 use Rattle.name_meaning.specs.Rows.{row_names}
-use Rattle.walk_meaning.specs.Walks.{is_grounded}
-use Rattle.walk_meaning.specs.Graphs.{row_dependencies, row_library}
+use Rattle.module_graph_meaning.specs.Walks.{is_grounded}
+use Rattle.module_graph_meaning.specs.Graphs.{row_dependencies, row_library}
 use Rattle.module_graph.proofs.grounding.grounded.Given as goal
 
 abbrev pub invariant-loop-place : goal.invariant-loop-place

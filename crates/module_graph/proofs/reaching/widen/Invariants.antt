@@ -1,5 +1,5 @@
 use Rattle.std.proofs.Common.{◌-◌, length, flat_map}
-use Rattle.walk_meaning.specs.Graphs.{graph_reach}
+use Rattle.module_graph_meaning.specs.Graphs.{graph_reach}
 use Rattle.module_graph.proofs.Reached.{IsReaching}
 use Rattle.module_graph.proofs.reaching.widen.Given as goal
 

@@ -1,5 +1,5 @@
 use Rattle.std.proofs.Common.{◌<◌, length, [], ap, sym, arith}
-use Rattle.walk_meaning.specs.Graphs.{is_graph_ungrounded}
+use Rattle.module_graph_meaning.specs.Graphs.{is_graph_ungrounded}
 use Rattle.module_graph.proofs.Firsts.{first_at, none_at}
 use Rattle.module_graph.proofs.ungrounded.first_ungrounded.Goals as goal
 

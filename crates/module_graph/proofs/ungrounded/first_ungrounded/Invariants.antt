@@ -1,6 +1,6 @@
 use Rattle.std.proofs.Common.{◌≡◌, false}
 use Rattle.std.specs.List.{AllWithin}
-use Rattle.walk_meaning.specs.Graphs.{is_graph_ungrounded}
+use Rattle.module_graph_meaning.specs.Graphs.{is_graph_ungrounded}
 use Rattle.module_graph.proofs.ungrounded.first_ungrounded.Given as goal
 
 abbrev pub invariant-loop-place : goal.invariant-loop-place

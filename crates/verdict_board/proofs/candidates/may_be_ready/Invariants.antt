@@ -1,5 +1,5 @@
 use Rattle.std.proofs.Common.{ℕ, ◌<◌}
-use Rattle.walk_meaning.specs.Graphs.{Graph}
+use Rattle.module_graph_meaning.specs.Graphs.{Graph}
 use Rattle.verdict_board.specs.Readiness.{IsUnreadyAt}
 use Rattle.verdict_board.specs.Searching.{AreKept}
 use Rattle.verdict_board.proofs.candidates.may_be_ready.Given as goal

@@ -1,5 +1,5 @@
 use Rattle.std.proofs.Common.{sym, ap, ◌∙◌, subst}
-use Rattle.log_meaning.specs.Log.{Drop}
+use Rattle.edit_log_meaning.specs.Log.{Drop}
 use Rattle.name_meaning.specs.Rows.{row_names}
 use Rattle.verdict_board.specs.Stages.{HaveSortedInputs}
 use Rattle.verdict_board.proofs.Tables.{same_without, sorted_with}

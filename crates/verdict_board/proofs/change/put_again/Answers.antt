@@ -1,5 +1,5 @@
 use Rattle.std.proofs.Common.{is_some, ap, sym, ◌∙◌}
-use Rattle.log_meaning.specs.Log.{edited_name}
+use Rattle.edit_log_meaning.specs.Log.{edited_name}
 use Rattle.name_meaning.specs.Rows.{row_names, row_of, with_row}
 use Rattle.edit_log.specs.Readings.{read_edit}
 use Rattle.verdict_board.proofs.Tables.{same_again, same_there}

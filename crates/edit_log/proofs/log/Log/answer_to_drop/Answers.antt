@@ -1,6 +1,6 @@
 use Rattle.std.proofs.Common.{◌≡◌, Some, None, Option, Bor, true, false, is_some, option_copied, refl, sym, ◌∙◌, true≢false, subst}
 use Rattle.name_meaning.specs.Names.{Text}
-use Rattle.log_meaning.specs.Log as logs
+use Rattle.edit_log_meaning.specs.Log as logs
 use Rattle.edit_log.specs.Readings.{IsAnswer}
 use Rattle.edit_log.proofs.Answering.{drop_absent, drop_present}
 use Rattle.edit_log.proofs.log.Log.answer_to_drop.Goals as goal

@@ -1,6 +1,6 @@
 use Rattle.std.proofs.Common.{Some, refl, sym, ap, ◌∙◌, subst, length, ◌<◌}
-use Rattle.log_meaning.specs.Log as logs
-use Rattle.log_meaning.specs.Log.{library_of}
+use Rattle.edit_log_meaning.specs.Log as logs
+use Rattle.edit_log_meaning.specs.Log.{library_of}
 use Rattle.name_meaning.specs.Limits.{module_limit}
 use Rattle.name_laws.proofs.Order.{same_sound, same_turned}
 use Rattle.edit_log.specs.Readings.{IsAnswer}

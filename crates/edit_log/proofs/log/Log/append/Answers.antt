@@ -1,6 +1,6 @@
 use Rattle.std.proofs.Common.{◌≡◌, ℕ, refl, sym, ap, ◌∙◌}
-use Rattle.log_meaning.specs.Log as logs
-use Rattle.log_meaning.specs.Append.{append_answer, appended}
+use Rattle.edit_log_meaning.specs.Log as logs
+use Rattle.edit_log_meaning.specs.Append.{append_answer, appended}
 use Rattle.edit_log.specs.declared.answers.Edited.{Edited}
 use Rattle.edit_log.specs.declared.answers.Edited.TheVariants.{Made, Same, Absent}
 use Rattle.edit_log.specs.Readings.{read_edit, read_edited}

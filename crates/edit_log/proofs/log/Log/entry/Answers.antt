@@ -1,5 +1,5 @@
 use Rattle.std.proofs.Common.{◌≡◌, ◌≢◌, ℕ, suc, zero, ◌-◌, slice_get, refl, ap, ◌∙◌, arith}
-use Rattle.log_meaning.specs.Log.{Log, edit_at}
+use Rattle.edit_log_meaning.specs.Log.{Log, edit_at}
 use Rattle.edit_log.specs.Readings.{read_edit}
 use Rattle.edit_log.proofs.Items.{item_read}
 use Rattle.edit_log.proofs.log.Log.entry.Goals as goal

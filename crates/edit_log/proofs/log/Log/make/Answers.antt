@@ -3,15 +3,15 @@ use Rattle.std.proofs.lemmas.List.{map-append, length-map}
 use Rattle.std.specs.Map.{lookup}
 use Rattle.name_meaning.specs.Names.{same_name}
 use Rattle.list_laws.proofs.Answers.{at_ok}
-use Rattle.log_meaning.specs.Log.{Log, Edit, edited, version_of}
-use Rattle.log_meaning.specs.Append.{Made, total_size, append_answer}
-use Rattle.log_laws.proofs.Libraries.{library_last}
+use Rattle.edit_log_meaning.specs.Log.{Log, Edit, edited, version_of}
+use Rattle.edit_log_meaning.specs.Append.{Made, total_size, append_answer}
+use Rattle.edit_log_laws.proofs.Libraries.{library_last}
 use Rattle.edit_log.specs.Readings.{read_edit}
 use Rattle.edit_log.proofs.Answering.{made_fits}
 use Rattle.edit_log.proofs.Keeping.{kept_by}
 use Rattle.edit_log.proofs.Tables.{stamps_after}
 use Rattle.edit_log.proofs.log.Log.make.Goals as goal
-use Rattle.log_laws.proofs.Limits.{total_last, made_within}
+use Rattle.edit_log_laws.proofs.Limits.{total_last, made_within}
 
 pub overflow_add-self : goal.overflow_add-self
 overflow_add-self c =

@@ -1,7 +1,7 @@
 use Rattle.std.proofs.Common.{slice_get, Option, option_map, sym, ap, ◌∙◌}
 use Rattle.std.proofs.lemmas.Option.{slice_get-map}
 use Rattle.name_meaning.specs.Names.{Name, Text}
-use Rattle.log_meaning.specs.Log.{names_of}
+use Rattle.edit_log_meaning.specs.Log.{names_of}
 use Rattle.edit_log.proofs.Tables.{names_read}
 use Rattle.edit_log.proofs.log.Log.name_at.Goals as goal
 

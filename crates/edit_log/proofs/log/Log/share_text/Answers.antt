@@ -1,5 +1,5 @@
 use Rattle.std.proofs.Common.{Some, sym, ap, ◌∙◌}
-use Rattle.log_meaning.specs.Log.{text_of}
+use Rattle.edit_log_meaning.specs.Log.{text_of}
 use Rattle.edit_log.proofs.Tables.{text_read}
 use Rattle.edit_log.proofs.Texts.{texts_short}
 use Rattle.edit_log.proofs.log.Log.share_text.Goals as goal

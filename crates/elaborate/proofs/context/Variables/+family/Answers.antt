@@ -1,7 +1,7 @@
 use Rattle.std.proofs.Common.{reverse, ap, ◌∙◌, sym, arith}
 use Rattle.std.specs.Prelude.{slice_get}
 use Rattle.std.specs.Option.{option_copied}
-use Rattle.expansion_meaning.specs.Locals.{context_of}
+use Rattle.elaborate_meaning.specs.Locals.{context_of}
 use Rattle.elaborate.specs.Contexts.{variables_in}
 use Rattle.elaborate.proofs.NamesStand.{given_family_at, bound_family}
 use Rattle.elaborate.proofs.context.Variables.+family.Goals as goal

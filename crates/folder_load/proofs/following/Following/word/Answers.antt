@@ -1,7 +1,7 @@
 use Rattle.std.proofs.Common.{◌≡◌, ℕ, ◌+◌, Bool, sym, ap, ◌∙◌, arith, length-append}
 use Rattle.std.specs.Option.{option_map}
 use Rattle.std.proofs.lemmas.List.{length-map}
-use Rattle.log_meaning.specs.Log.{version_of}
+use Rattle.edit_log_meaning.specs.Log.{version_of}
 use Rattle.edit_log.specs.Readings.{read_edit}
 use Rattle.folder_load.specs.Ahead.{ahead, edits_of, word_by}
 use Rattle.folder_load.specs.Shown.{shown_word}

@@ -1,5 +1,5 @@
 use Rattle.std.proofs.Common.{sym, ap, subst}
-use Rattle.log_meaning.specs.Append.{total_size}
+use Rattle.edit_log_meaning.specs.Append.{total_size}
 use Rattle.folder_load.specs.Ahead.{IsFresh}
 use Rattle.folder_load.proofs.FreshLogs.{empty_fresh}
 use Rattle.folder_load.proofs.loading.Loading.new.Goals as goal

@@ -2,8 +2,8 @@ use Rattle.std.proofs.Common.{◌≡◌, ◌+◌, suc, not, List, Some, filter, 
 use Rattle.std.proofs.lemmas.List.{take_all}
 use Rattle.std.proofs.lemmas.Option.{slice_get-get_or}
 use Rattle.name_meaning.specs.Names.{Name, same_name, is_ascending}
-use Rattle.walk_laws.proofs.Reaching.{reach_ascending}
-use Rattle.walk_meaning.specs.Subject.{present_answer, answers_of}
+use Rattle.module_graph_laws.proofs.Reaching.{reach_ascending}
+use Rattle.module_graph_meaning.specs.Subject.{present_answer, answers_of}
 use Rattle.board_meaning.specs.Events.{library_after}
 use Rattle.list_laws.proofs.Members.{place_member}
 use Rattle.verdict_board.proofs.Reports.{answers_more, answers_table}

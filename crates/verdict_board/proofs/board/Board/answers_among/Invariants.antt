@@ -1,6 +1,6 @@
 use Rattle.std.proofs.Common.{not}
 use Rattle.name_meaning.specs.Names.{Name, same_name}
-use Rattle.walk_meaning.specs.Subject.{present_answer}
+use Rattle.module_graph_meaning.specs.Subject.{present_answer}
 use Rattle.board_meaning.specs.Events.{library_after}
 use Rattle.verdict_board.proofs.Reports.{AreAnswers}
 use Rattle.verdict_board.proofs.board.Board.answers_among.Given as goal

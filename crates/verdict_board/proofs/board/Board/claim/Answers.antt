@@ -1,6 +1,6 @@
 use Rattle.std.proofs.Common.{◌≡◌, Option, Some, IfSome, sym, ap, ◌∙◌, length, subst, arith}
-use Rattle.log_meaning.specs.Log.{library_of, text_of}
-use Rattle.walk_laws.proofs.Graphs.{graph_reaches}
+use Rattle.edit_log_meaning.specs.Log.{library_of, text_of}
+use Rattle.module_graph_laws.proofs.Graphs.{graph_reaches}
 use Rattle.board_meaning.specs.Claims.{input_names}
 use Rattle.board_meaning.specs.Ready.{least_ready}
 use Rattle.name_meaning.specs.Names.{Text}

@@ -1,8 +1,8 @@
 use Rattle.std.proofs.Common.{◌≡◌, ◌≤◌, ℕ, ◌∷◌, ◌++◌, [], suc, length, Err, sym, ap, ◌∙◌, subst, arith}
-use Rattle.log_meaning.specs.Log.{Log, edited}
-use Rattle.log_meaning.specs.Append.{Made, append_answer}
-use Rattle.log_laws.proofs.Limits.{made_short}
-use Rattle.walk_meaning.specs.Graphs.{Graph, HoldsDependencies}
+use Rattle.edit_log_meaning.specs.Log.{Log, edited}
+use Rattle.edit_log_meaning.specs.Append.{Made, append_answer}
+use Rattle.edit_log_laws.proofs.Limits.{made_short}
+use Rattle.module_graph_meaning.specs.Graphs.{Graph, HoldsDependencies}
 use Rattle.board_meaning.specs.Events.{EditMade, History, log_of, library_after, version_after}
 use Rattle.edit_log.specs.Readings.{read_edit, read_edited, IsAnswer}
 use Rattle.verdict_board.specs.Entries.{entry}

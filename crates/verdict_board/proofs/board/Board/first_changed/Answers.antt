@@ -1,6 +1,6 @@
 use Rattle.std.proofs.Common.{◌≡◌, ◌+◌, suc, length, sym, ap, ◌∙◌, arith, eqb-true, eq-eqb, nat_eq}
 use Rattle.std.proofs.lemmas.Bool.{false_from_ne_true}
-use Rattle.log_meaning.specs.Log.{stamp_of}
+use Rattle.edit_log_meaning.specs.Log.{stamp_of}
 use Rattle.verdict_board.specs.Readings.{read_inputs}
 use Rattle.verdict_board.proofs.Ends.{changed_at, none_changed, changed_next, read_here, length_read}
 use Rattle.verdict_board.proofs.board.Board.first_changed.Goals as goal

@@ -1,6 +1,6 @@
 use Rattle.std.proofs.Common.{◌≡◌, suc, true, sym, ap, ◌∙◌, subst}
 use Rattle.board_meaning.specs.Events.{library_after, version_after}
-use Rattle.walk_meaning.specs.Walks.{is_grounded}
+use Rattle.module_graph_meaning.specs.Walks.{is_grounded}
 use Rattle.edit_log.specs.Readings.{read_edit}
 use Rattle.verdict_board.specs.declared.stage.Stage.{Stage}
 use Rattle.verdict_board.specs.Stages.{after_edit_of, stage_after, IsStage}

@@ -1,7 +1,7 @@
 use Rattle.std.proofs.Common.{◌≡◌, ℕ, ◌<◌, false, slice_get, Some}
 use Rattle.name_meaning.specs.Names.{Name}
 use Rattle.name_meaning.specs.Rows.{row_names}
-use Rattle.walk_meaning.specs.Walks.{is_ungrounded}
+use Rattle.module_graph_meaning.specs.Walks.{is_ungrounded}
 use Rattle.board_meaning.specs.Events.{library_after}
 use Rattle.verdict_board.proofs.board.Board.has_ring.Given as goal
 

@@ -1,9 +1,9 @@
 use Rattle.std.proofs.Common.{◌≡◌, false, Bool, ap, sym, ◌∙◌, subst}
 use Rattle.std.specs.List.{list_any}
 use Rattle.name_meaning.specs.Names.{Name, is_among}
-use Rattle.log_meaning.specs.Log.{edited}
-use Rattle.walk_meaning.specs.Graphs.{graph_reach, HoldsDependencies}
-use Rattle.walk_meaning.specs.Walks.{is_ungrounded}
+use Rattle.edit_log_meaning.specs.Log.{edited}
+use Rattle.module_graph_meaning.specs.Graphs.{graph_reach, HoldsDependencies}
+use Rattle.module_graph_meaning.specs.Walks.{is_ungrounded}
 use Rattle.board_meaning.specs.Events.{library_after}
 use Rattle.edit_log.specs.declared.edit.Edit as code
 use Rattle.edit_log.specs.Readings.{read_edit}

@@ -1,6 +1,6 @@
 use Rattle.std.proofs.Common.{◌≡◌, ℕ, ◌+◌, suc, length, ap, subst, arith}
 use Rattle.std.proofs.lemmas.List.{length-map}
-use Rattle.log_meaning.specs.Log.{Module}
+use Rattle.edit_log_meaning.specs.Log.{Module}
 use Rattle.board_meaning.specs.Events.{library_after}
 use Rattle.verdict_board.specs.Searching.{AreNew}
 use Rattle.verdict_board.proofs.Parking.{names_long}

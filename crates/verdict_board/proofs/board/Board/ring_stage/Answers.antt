@@ -1,7 +1,7 @@
 use Rattle.std.proofs.Common.{suc, is_some, true≢false, sym, ap, ◌∙◌}
 use Rattle.std.specs.Option.{option_copied}
-use Rattle.log_meaning.specs.Log.{Library, text_of}
-use Rattle.log_laws.proofs.Libraries.{library_ascending}
+use Rattle.edit_log_meaning.specs.Log.{Library, text_of}
+use Rattle.edit_log_laws.proofs.Libraries.{library_ascending}
 use Rattle.board_meaning.specs.Events.{log_of, library_after, version_after}
 use Rattle.edit_log.specs.Readings.{read_edit}
 use Rattle.verdict_board.specs.Stages.{after_edit_of}

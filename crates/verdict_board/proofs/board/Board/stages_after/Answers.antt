@@ -2,9 +2,9 @@ use Rattle.std.proofs.Common.{◌≡◌, ◌+◌, suc, List, ⊎_elim, refl, sym
 use Rattle.std.proofs.lemmas.List.{length-map, take_all}
 use Rattle.name_meaning.specs.Names.{Name}
 use Rattle.name_meaning.specs.Rows.{row_names, row_of}
-use Rattle.log_meaning.specs.Log.{names_of}
-use Rattle.log_laws.proofs.Libraries.{library_ascending}
-use Rattle.walk_meaning.specs.Graphs.{HoldsDependencies}
+use Rattle.edit_log_meaning.specs.Log.{names_of}
+use Rattle.edit_log_laws.proofs.Libraries.{library_ascending}
+use Rattle.module_graph_meaning.specs.Graphs.{HoldsDependencies}
 use Rattle.board_meaning.specs.Events.{log_of, library_after, version_after}
 use Rattle.edit_log.specs.Readings.{read_edit}
 use Rattle.verdict_board.specs.Stages.{IsStage, after_edit_of}

@@ -1,8 +1,8 @@
 use Rattle.std.proofs.Common.{◌≡◌, true, false, cond, sym, ap, ◌∙◌}
 use Rattle.name_meaning.specs.Names.{same_name}
-use Rattle.log_meaning.specs.Log.{library_of, text_of, edited_name}
-use Rattle.log_laws.specs.LogLaws.{left_by}
-use Rattle.log_laws.proofs.Libraries.{text_edited}
+use Rattle.edit_log_meaning.specs.Log.{library_of, text_of, edited_name}
+use Rattle.edit_log_laws.specs.LogLaws.{left_by}
+use Rattle.edit_log_laws.proofs.Libraries.{text_edited}
 use Rattle.board_meaning.specs.Events.{library_after}
 use Rattle.edit_log.specs.Readings.{read_edit}
 use Rattle.verdict_board.proofs.board.Board.text_after.Goals as goal

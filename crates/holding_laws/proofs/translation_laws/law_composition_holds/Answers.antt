@@ -1,5 +1,0 @@
-use Rattle.holding_laws.proofs.Translating.{composition_is_coherent}
-use Rattle.holding_laws.proofs.translation_laws.law_composition_holds.Goals as goal
-
-pub returns : goal.returns
-returns c = composition_is_coherent

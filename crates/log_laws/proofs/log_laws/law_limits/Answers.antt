@@ -1,5 +1,0 @@
-use Rattle.log_laws.proofs.Limits.{limits_kept}
-use Rattle.log_laws.proofs.log_laws.law_limits.Goals as goal
-
-pub returns : goal.returns
-returns c = limits_kept

@@ -1,8 +1,0 @@
-//! Rows of words over typed faces.
-
-ghost use Rattle.row_typing.specs.TypedLinks.{RowsAreTyped};
-
-/// A row of words means a link with a typed map.
-pub fn law_typed_rows()
-    ensures { RowsAreTyped }
-{}

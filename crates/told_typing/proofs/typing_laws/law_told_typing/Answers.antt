@@ -1,5 +1,0 @@
-use Rattle.told_typing.proofs.KeptTyping.{all_are_typed}
-use Rattle.told_typing.proofs.typing_laws.law_told_typing.Goals as goal
-
-pub returns : goal.returns
-returns c = all_are_typed
