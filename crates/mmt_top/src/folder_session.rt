@@ -22,7 +22,7 @@ use std::alloc::Global;
 use std::sync::Wait;
 use std::thread::Threads;
 use verdict_board::Board;
-use worker_crew::{Front, Setting, lead};
+use worker_crew::{Front, Means, lead};
 
 /// Checks the folder of this path, and writes what is printed to a sink.
 #[derive(Drop)]
@@ -49,7 +49,7 @@ impl<F: Folder, K: Sink> Front<Mmt, F, K> for FolderFront<'_> {
 
 /// Checks the folder on a board that has no entries.
 fn check_on<R: Threads + Wait + Sync, K: Sink + Send, F: Folder + Send, G: Gate + Sync>(
-    setting: &Setting<'_, R, Mmt, G>,
+    means: &Means<'_, R, Mmt, G>,
     board: Board<Mmt>,
     workers: u32,
     path: &str,
@@ -63,7 +63,7 @@ fn check_on<R: Threads + Wait + Sync, K: Sink + Send, F: Folder + Send, G: Gate 
     ensures some { IsSome result.board }
 {
     let front = FolderFront { path };
-    let led = lead(setting, board, workers, &front, folder, sink);
+    let led = lead(means, board, workers, &front, folder, sink);
     match led.end {
         Some(status) => Ended {
             status,
@@ -126,11 +126,11 @@ pub fn check_folder<R: Threads + Wait + Sync, K: Sink + Send, F: Folder + Send, 
             board: None,
         };
     };
-    let setting = Setting {
+    let means = Means {
         rt,
         alloc,
         subject: &Mmt,
         gate,
     };
-    check_on(&setting, board, workers, path, sink, folder)
+    check_on(&means, board, workers, path, sink, folder)
 }

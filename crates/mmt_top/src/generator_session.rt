@@ -25,7 +25,7 @@ use std::alloc::Global;
 use std::sync::Wait;
 use std::thread::Threads;
 use verdict_board::Board;
-use worker_crew::{Front, Setting, lead};
+use worker_crew::{Front, Means, lead};
 
 /// Plays the generator from a number, with so many modules and later edits.
 #[derive(Drop)]
@@ -145,7 +145,7 @@ fn finish<K: Sink>(
 
 /// Plays the generator on a board that has no entries, and writes what is printed.
 fn generate_on<R: Threads + Wait + Sync, K: Sink + Send, G: Gate + Sync>(
-    setting: &Setting<'_, R, Mmt, G>,
+    means: &Means<'_, R, Mmt, G>,
     board: Board<Mmt>,
     workers: u32,
     front: &GeneratorFront,
@@ -160,9 +160,9 @@ fn generate_on<R: Threads + Wait + Sync, K: Sink + Send, G: Gate + Sync>(
     ensures write { result.status ≡ Status.WriteFault → Rose (K.faults sink.old) (K.faults sink.new) }
     ensures sink_later { K.faults sink.old ≤ K.faults sink.new }
 {
-    let led = lead(setting, board, workers, front, &mut (), &mut ());
+    let led = lead(means, board, workers, front, &mut (), &mut ());
     match led.end {
-        Some(counted) => finish(setting.alloc, workers, front, counted, led.board, sink),
+        Some(counted) => finish(means.alloc, workers, front, counted, led.board, sink),
         None => unbegun(led.board),
     }
 }
@@ -221,11 +221,11 @@ pub fn generate<R: Threads + Wait + Sync, K: Sink + Send, G: Gate + Sync>(
             board: None,
         };
     };
-    let setting = Setting {
+    let means = Means {
         rt,
         alloc,
         subject: &Mmt,
         gate,
     };
-    generate_on(&setting, board, workers, &front, sink)
+    generate_on(&means, board, workers, &front, sink)
 }

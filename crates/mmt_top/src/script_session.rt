@@ -26,11 +26,11 @@ use std::alloc::Global;
 use std::sync::Wait;
 use std::thread::Threads;
 use verdict_board::Board;
-use worker_crew::{Setting, lead};
+use worker_crew::{Means, lead};
 
 /// Plays the script on a board that has no entries.
 fn play_on<R: Threads + Wait + Sync, S: Source + Send, K: Sink + Send, G: Gate + Sync>(
-    setting: &Setting<'_, R, Mmt, G>,
+    means: &Means<'_, R, Mmt, G>,
     board: Board<Mmt>,
     workers: u32,
     source: &mut S,
@@ -42,7 +42,7 @@ fn play_on<R: Threads + Wait + Sync, S: Source + Send, K: Sink + Send, G: Gate +
         (K.taken sink.old) (K.taken sink.new) (K.faults sink.old) (K.faults sink.new)) }
     ensures some { IsSome result.board }
 {
-    let led = lead(setting, board, workers, &ScriptFront, source, sink);
+    let led = lead(means, board, workers, &ScriptFront, source, sink);
     match led.end {
         Some(status) => Ended {
             status,
@@ -107,11 +107,11 @@ pub fn session<R: Threads + Wait + Sync, S: Source + Send, K: Sink + Send, G: Ga
             board: None,
         };
     };
-    let setting = Setting {
+    let means = Means {
         rt,
         alloc,
         subject: &Mmt,
         gate,
     };
-    play_on(&setting, board, workers, source, sink)
+    play_on(&means, board, workers, source, sink)
 }

@@ -130,7 +130,7 @@ fn are_two(numbers: &Inputs64) -> bool {
     ends && last && numbers.as_slice() == [5, 1 << 40].as_slice()
 }
 
-/// No folder has no files, and a fault for each of them.
+/// `NoFolder` lists no files, and reading one is a fault.
 fn no_folder_answers(alloc: Global) -> bool {
     let mut none = NoFolder::new();
     let empty = none.list(alloc, "lib").is_ok_and(|names| names.len() == 0);

@@ -35,7 +35,7 @@ pub fn shared_board(alloc: Global) -> Result<(Shared, Seat), Memory>
     }
 }
 
-/// A pass with the next number. That there is none never comes.
+/// A pass with the next number. There always is one, since so few passes are made.
 pub fn split_off(board: &Shared, first: &mut Seat) -> Seat
     requires first { IsIdleOf board.now first.old × (first.old.number ≡ 0) }
     requires room { first.old.made < 2 ^ 32 - 1 }

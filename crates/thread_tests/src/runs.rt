@@ -18,7 +18,7 @@ pub struct Left {
     pub made: u32,
 }
 
-/// A pass with the next number. That there is none never comes.
+/// A pass with the next number. There always is one, since so few passes are made.
 pub fn split_off(turns: &Turns<Marks>, first: &mut Marked) -> Marked
     requires first { IsIdleOf turns.now first.old × (first.old.number ≡ 0) }
     requires room { first.old.made < 2 ^ 32 - 1 }

@@ -23,9 +23,9 @@ pub struct Led<S: Subject, E: Drop> {
     pub end: Option<E>,
 }
 
-/// What a front and its workers will share, beside the board.
+/// The means of a front and its workers, beside the board that they will share.
 #[derive(Drop)]
-pub struct Setting<'a, R, S: Subject, G> {
+pub struct Means<'a, R, S: Subject, G> {
     /// The handle by which threads are made and waited for.
     pub rt: &'a R,
     /// The allocator of whatever is made on the way.
@@ -34,6 +34,14 @@ pub struct Setting<'a, R, S: Subject, G> {
     pub subject: &'a S,
     /// The gate, which is told of each module before its verdict is brought.
     pub gate: &'a G,
+}
+
+/// A board of which the front did not begin.
+fn unled<S: Subject, E: Drop>(board: Board<S>) -> Led<S, E>
+    ensures board { result.board ≡ board }
+    ensures end { IsNone result.end }
+{
+    Led { board, end: None }
 }
 
 /// The front leads and the crew works, each in a thread of its own where one can be made, until both are done. Where none can be made
@@ -81,9 +89,9 @@ fn lead_shared<
     F: Front<S, I, O> + Sync,
     G: Gate + Sync,
 >(
-    setting: &Setting<'_, R, S, G>,
+    means: &Means<'_, R, S, G>,
     board: SharedBoard<S>,
-    first: BoardPass<S>,
+    mut first: BoardPass<S>,
     workers: u32,
     front: &F,
     input: &mut I,
@@ -94,19 +102,15 @@ fn lead_shared<
     ensures led { IfSome result.end (λ end. WasLed S.subject.dependencies (F.leads front.now end input.old input.new output.old output.new) result.board) }
     ensures none { IsNone result.end → (result.board ≡ []) × (input.new ≡ input.old) × (output.new ≡ output.old) }
 {
-    let mut first = first;
-    let Ok(mut crew) = hire(setting.alloc, &board, &mut first, workers) else {
-        return Led {
-            board: board.end(first),
-            end: None,
-        };
+    let Ok(mut crew) = hire(means.alloc, &board, &mut first, workers) else {
+        return unled(board.end(first));
     };
     let hall = Hall {
-        rt: setting.rt,
-        alloc: setting.alloc,
+        rt: means.rt,
+        alloc: means.alloc,
         board: &board,
-        subject: setting.subject,
-        gate: setting.gate,
+        subject: means.subject,
+        gate: means.gate,
     };
     let end = lead_beside(&hall, &mut first, &mut crew, front, input, output);
     dismiss(&board, &mut first, crew);
@@ -126,7 +130,7 @@ pub fn lead<
     F: Front<S, I, O> + Sync,
     G: Gate + Sync,
 >(
-    setting: &Setting<'_, R, S, G>,
+    means: &Means<'_, R, S, G>,
     board: Board<S>,
     workers: u32,
     front: &F,
@@ -138,10 +142,10 @@ pub fn lead<
     ensures led { IfSome result.end (λ end. WasLed S.subject.dependencies (F.leads front.now end input.old input.new output.old output.new) result.board) }
     ensures none { IsNone result.end → (result.board ≡ []) × (input.new ≡ input.old) × (output.new ≡ output.old) }
 {
-    match SharedBoard::new(setting.alloc, board) {
+    match SharedBoard::new(means.alloc, board) {
         Ok((shared, first)) => {
-            lead_shared(setting, shared, first, workers, front, input, output)
+            lead_shared(means, shared, first, workers, front, input, output)
         }
-        Err(NewFault::Memory(board)) => Led { board, end: None },
+        Err(NewFault::Memory(board)) => unled(board),
     }
 }

@@ -14,6 +14,6 @@ pub use crew::Crew;
 pub use dismissal::dismiss;
 pub use front::Front;
 pub use hiring::hire;
-pub use leading::{Led, Setting, lead};
+pub use leading::{Led, Means, lead};
 pub use worker::Worker;
 pub use working::work_all;
