@@ -143,9 +143,7 @@ pub fn lead<
     ensures none { IsNone result.end → (result.board ≡ []) × (input.new ≡ input.old) × (output.new ≡ output.old) }
 {
     match SharedBoard::new(means.alloc, board) {
-        Ok((shared, first)) => {
-            lead_shared(means, shared, first, workers, front, input, output)
-        }
+        Ok((shared, first)) => { lead_shared(means, shared, first, workers, front, input, output) }
         Err(NewFault::Memory(board)) => unled(board),
     }
 }
