@@ -1,6 +1,8 @@
 -- What the heads of the code stand for, step by step.
 use Rattle.std.proofs.Common.{◌≡◌, ℕ, Option, true, List, [], ◌∷◌, ◌++◌, Some, None, Ok, Err, sym, ap, ap₂, ◌∙◌, subst}
 use Rattle.std.specs.Option.{option_map}
+use Rattle.std.specs.declared.alloc.Global.{Global}
+use Rattle.std.specs.declared.vec.Vec.{Vec}
 use Rattle.std.proofs.lemmas.List.{map-append}
 use Rattle.lf_meaning.specs.Terms.{Object, At, Var, Con, Family, Pi, AtFamily, AtomicFamily, FamilyCon, Kind, apply_all, family_apply_all}
 use Rattle.lf_meaning.specs.Equality.{same_family}
@@ -39,28 +41,25 @@ use Rattle.elaborate.specs.declared.heads.Head.{Head}
 use Rattle.elaborate.specs.declared.lent.Lent.{Lent}
 use Rattle.elaborate.proofs.TakenArguments.{takes_one_more, atomic_is, constant_kept, family_kept, value_taken, family_value_taken}
 
--- The spine with one argument more.
-argument_added : (before after : Spine) (m : Obj) → arguments_of after ≡ arguments_of before ++ m ∷ [] → read_arguments after ≡ read_arguments before ++ read_object m ∷ []
-argument_added before after m h = ap read_objects h ∙ map-append read_object (arguments_of before) (m ∷ [])
-
-pub one_more : (own : Head) (spine : Spine) (classifier : Classifier) (m : Obj) (head : heads.Head) → Stands own head
-    → arguments_of spine ≡ arguments_of own.spine ++ m ∷ []
+pub one_more : (own : Head) (items : Vec Obj Global) (classifier : Classifier) (m : Obj) (head : heads.Head) → Stands own head
+    → items.items ≡ own.arguments.items ++ m ∷ []
     → Classifies classifier (head_takes head (read_object m))
-    → Stands (record { start = own.start; spine = spine; classifier = classifier }) (head_takes head (read_object m))
-one_more own spine classifier m head stands added classifies = record {
+    → Stands (record { start = own.start; arguments = items; classifier = classifier }) (head_takes head (read_object m))
+one_more own items classifier m head stands added classifies = record {
   first = stands.first;
   begins = stands.begins;
-  takes = ap (head_takes_all stands.first) (argument_added own.spine spine m added)
-      ∙ takes_one_more stands.first (read_arguments own.spine) (read_object m)
+  takes = ap (λ os. head_takes_all stands.first (read_objects os)) added
+      ∙ ap (head_takes_all stands.first) (map-append read_object own.arguments.items (m ∷ []))
+      ∙ takes_one_more stands.first (read_objects own.arguments.items) (read_object m)
       ∙ ap (λ h. head_takes h (read_object m)) stands.takes;
   classifies = classifies;
 }
 
 -- A head that begins at a variable.
-pub variable_first : (own : Head) (i : ℕ) (o : Object) (a : Family) → own.start ≡ starts.Variable i → Stands own (heads.ObjectHead o a) → At (apply_all (Var i) (read_arguments own.spine)) ≡ o
+pub variable_first : (own : Head) (i : ℕ) (o : Object) (a : Family) → own.start ≡ starts.Variable i → Stands own (heads.ObjectHead o a) → At (apply_all (Var i) (read_objects own.arguments.items)) ≡ o
 variable_first own i o a is stands =
     let begins : BeginsWith (starts.Variable i) stands.first = subst (λ s. BeginsWith s stands.first) is stands.begins in
-    atomic_is (Var i) begins.0 (read_arguments own.spine) o a (ap (λ h. head_takes_all h (read_arguments own.spine)) (sym begins.1) ∙ stands.takes)
+    atomic_is (Var i) begins.0 (read_objects own.arguments.items) o a (ap (λ h. head_takes_all h (read_objects own.arguments.items)) (sym begins.1) ∙ stands.takes)
 
 -- What begins as an object is none of families, whatever arguments it takes.
 object_stays : (o : Object) (a : Family) (ms : List Object) (n : ℕ) (b : Family) (k : Kind) → head_takes_all (heads.ObjectHead o a) ms ≡ heads.FamilyHead n b k → ⊥
@@ -74,7 +73,11 @@ pub no_variable : (own : Head) (i : ℕ) → own.start ≡ starts.Variable i →
 no_variable own i is for_family =
     let stands = for_family.3 in
     let begins : BeginsWith (starts.Variable i) stands.first = subst (λ s. BeginsWith s stands.first) is stands.begins in
-    object_stays (At (Var i)) begins.0 (read_arguments own.spine) for_family.0 for_family.1 for_family.2 (ap (λ h. head_takes_all h (read_arguments own.spine)) (sym begins.1) ∙ stands.takes)
+    object_stays (At (Var i)) begins.0 (read_objects own.arguments.items) for_family.0 for_family.1 for_family.2 (ap (λ h. head_takes_all h (read_objects own.arguments.items)) (sym begins.1) ∙ stands.takes)
+
+-- Arguments that are put on a spine are taken as they were.
+pub put_on_spine : (spine : Spine) (items : List Obj) (first head : heads.Head) → arguments_of spine ≡ items → head_takes_all first (read_objects items) ≡ head → head_takes_all first (read_arguments spine) ≡ head
+put_on_spine spine items first head put takes = ap (λ os. head_takes_all first (read_objects os)) put ∙ takes
 
 -- A declared constant with its arguments: its value takes them, or it keeps them.
 module _ (d : FlatDecl) (spine : Spine) (value : Option code.Value) (is : d.value ≡ value) where

@@ -18,12 +18,14 @@ use Rattle.elaborate_meaning.specs.Answers.{Fault, must}
 use Rattle.elaborate_meaning.specs.Locals.{Local, Locals, context_of, family_at, variables_of, with_local}
 use Rattle.elaborate_meaning.specs.NameHeads.{Level, Objects, Families, level_of, same_level, object_head, family_head, declared_head, variable_head, resolved_head, name_head}
 use Rattle.mmt_syntax.specs.declared.expr.Binder.{Binder}
-use Rattle.term_trees.specs.Readings.{arguments_of, read_arguments, read_class, read_constant, read_declaration, read_family, read_kind, read_value}
+use Rattle.term_trees.specs.Readings.{read_class, read_constant, read_declaration, read_family, read_kind, read_value}
 use Rattle.term_trees.specs.declared.fam.Fam.{Fam}
 use Rattle.term_trees.specs.declared.kind.Kind as code_kind
 use Rattle.term_trees.specs.declared.class.Class.TheVariants as classes
 use Rattle.term_trees.specs.declared.flat_decl.FlatDecl.{FlatDecl}
-use Rattle.term_trees.specs.declared.obj.Spine.{Spine}
+use Rattle.term_trees.specs.declared.obj.Obj.{Obj}
+use Rattle.std.specs.declared.alloc.Global.{Global}
+use Rattle.std.specs.declared.vec.Vec.{Vec}
 use Rattle.term_trees.specs.Readings as readings
 use Rattle.names.specs.Readings.{read_local, read_locals}
 use Rattle.elaborate.specs.LentValues.{value_of}
@@ -203,13 +205,13 @@ family_begins c k (Some (SameAs d)) = (_, _, refl)
 family_begins c k (Some (TermValue o)) = (_, _, refl)
 family_begins c k (Some (FamilyValue n b)) = (_, _, refl)
 
-none_taken : (head : heads.Head) (spine : Spine) → arguments_of spine ≡ [] → head_takes_all head (read_arguments spine) ≡ head
+none_taken : (head : heads.Head) (items : Vec Obj Global) → items.items ≡ [] → head_takes_all head (readings.read_objects items.items) ≡ head
 unfolding head_takes_all
-none_taken head spine h = ap (λ ms. head_takes_all head (readings.read_objects ms)) h
+none_taken head items h = ap (λ ms. head_takes_all head (readings.read_objects ms)) h
 
-module _ (decl : Bor FlatDecl) (spine : Spine) (empty : arguments_of spine ≡ []) where
+module _ (decl : Bor FlatDecl) (items : Vec Obj Global) (empty : items.items ≡ []) where
   pub declared_object : (family : Fam) (lent : Lent Fam) → decl.now.class ≡ classes.Fam family → value_of lent ≡ family
-      → (level_of (declared_head (read_declaration decl.now)) ≡ Objects) × Stands (record { start = starts.Constant decl; spine = spine; classifier = classifiers.Family lent }) (declared_head (read_declaration decl.now))
+      → (level_of (declared_head (read_declaration decl.now)) ≡ Objects) × Stands (record { start = starts.Constant decl; arguments = items; classifier = classifiers.Family lent }) (declared_head (read_declaration decl.now))
   declared_object family lent class value =
       let d = read_declaration decl.now in
       let begun = object_begins d.name (read_family family) d.value in
@@ -218,13 +220,13 @@ module _ (decl : Bor FlatDecl) (spine : Spine) (empty : arguments_of spine ≡ [
         record {
           first = declared_head d;
           begins = refl;
-          takes = none_taken (declared_head d) spine empty;
+          takes = none_taken (declared_head d) items empty;
           classifies = subst (Classifies (classifiers.Family lent)) (sym is) (ap read_family value);
         },
       )
 
   pub declared_family : (kind : code_kind.Kind) (lent : Lent code_kind.Kind) → decl.now.class ≡ classes.Kind kind → value_of lent ≡ kind
-      → (level_of (declared_head (read_declaration decl.now)) ≡ Families) × Stands (record { start = starts.Constant decl; spine = spine; classifier = classifiers.Kind lent }) (declared_head (read_declaration decl.now))
+      → (level_of (declared_head (read_declaration decl.now)) ≡ Families) × Stands (record { start = starts.Constant decl; arguments = items; classifier = classifiers.Kind lent }) (declared_head (read_declaration decl.now))
   declared_family kind lent class value =
       let d = read_declaration decl.now in
       let begun = family_begins d.name (read_kind kind) d.value in
@@ -233,7 +235,7 @@ module _ (decl : Bor FlatDecl) (spine : Spine) (empty : arguments_of spine ≡ [
         record {
           first = declared_head d;
           begins = refl;
-          takes = none_taken (declared_head d) spine empty;
+          takes = none_taken (declared_head d) items empty;
           classifies = subst (Classifies (classifiers.Kind lent)) (sym is) (ap read_kind value);
         },
       )
@@ -246,17 +248,17 @@ raised_family locals i = sym (ap (option_map (raise_family (suc i) 0)) (slice_ge
     joined None = refl
     joined (Some own) = refl
 
-pub variable_begins : (locals : Locals) (i by : ℕ) (span : Span) (spine : Spine) (family : Family) (lent : Lent Fam) (level : Level) → arguments_of spine ≡ [] → Some family ≡ slice_get (context_of locals) i → by ≡ i + 1
+pub variable_begins : (locals : Locals) (i by : ℕ) (span : Span) (items : Vec Obj Global) (family : Family) (lent : Lent Fam) (level : Level) → items.items ≡ [] → Some family ≡ slice_get (context_of locals) i → by ≡ i + 1
     → read_family (value_of lent) ≡ raise_family by 0 family → level ≡ Objects
-    → Begins (Ok (record { start = starts.Variable i; spine = spine; classifier = classifiers.Family lent })) (levelled level span (variable_head i (family_at locals i) span))
-variable_begins locals i by span spine family lent level empty found more raised is =
+    → Begins (Ok (record { start = starts.Variable i; arguments = items; classifier = classifiers.Family lent })) (levelled level span (variable_head i (family_at locals i) span))
+variable_begins locals i by span items family lent level empty found more raised is =
     let at : family_at locals i ≡ Some (raise_family (suc i) 0 family) = raised_family locals i ∙ ap (option_map (raise_family (suc i) 0)) (sym found) in
-    let own : Head = record { start = starts.Variable i; spine = spine; classifier = classifiers.Family lent } in
+    let own : Head = record { start = starts.Variable i; arguments = items; classifier = classifiers.Family lent } in
     let begun = heads.ObjectHead (At (Var i)) (raise_family (suc i) 0 family) in
     let stands : Stands own begun = record {
       first = begun;
       begins = (raise_family (suc i) 0 family, refl);
-      takes = none_taken begun spine empty;
+      takes = none_taken begun items empty;
       classifies = raised ∙ ap (λ k. raise_family k 0 family) (more ∙ add-one i);
     } in
     subst (λ o. Begins (Ok own) (levelled level span (variable_head i o span))) (sym at)

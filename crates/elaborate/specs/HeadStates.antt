@@ -6,7 +6,7 @@ use Rattle.lf_meaning.specs.Substitution.{substitute_family, substitute_kind}
 use Rattle.translation_meaning.specs.Heads as heads
 use Rattle.translation_meaning.specs.Heads.{head_takes_all}
 use Rattle.elaborate_meaning.specs.NameHeads.{declared_head}
-use Rattle.term_trees.specs.Readings.{read_arguments, read_declaration, read_family, read_kind}
+use Rattle.term_trees.specs.Readings.{read_objects, read_declaration, read_family, read_kind}
 use Rattle.term_trees.specs.declared.fam.Fam.{Fam}
 use Rattle.term_trees.specs.declared.kind.Kind as code
 use Rattle.elaborate.specs.LentValues.{value_of}
@@ -36,7 +36,7 @@ BeginsWith (Constant decl) head = head ≡ declared_head (read_declaration decl.
 pub record Stands (own : Head) (head : heads.Head) : Type 0 where
   pub first : heads.Head
   pub begins : BeginsWith own.start first
-  pub takes : head_takes_all first (read_arguments own.spine) ≡ head
+  pub takes : head_takes_all first (read_objects own.arguments.items) ≡ head
   pub classifies : Classifies own.classifier head
 
 -- There is such a head of the definitions.

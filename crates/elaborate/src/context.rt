@@ -17,7 +17,7 @@ use crate::fault::{ElabFault, broken};
 use crate::given::GivenVariables;
 use crate::heads::{Classifier, Head, Level, Start};
 use crate::lent::Lent;
-use lf_terms::{Class, Fam, FlatDecl, Memory, Name, Path, Span, Spine, shift_fam};
+use lf_terms::{Class, Fam, FlatDecl, Memory, Name, Path, Span, shift_fam};
 use mmt_interface::Rule;
 use mmt_syntax::Binder;
 use names::{Found, ResolveFault, Scope, Vars, resolve};
@@ -187,7 +187,7 @@ impl<'a> Context<'a> {
         let family = Box::new(alloc, shift_fam(alloc, family, one_more(index)?, 0)?)?;
         Ok(Head {
             start: Start::Variable(index),
-            spine: Spine::new(alloc),
+            arguments: Vec::new(alloc),
             classifier: Classifier::Family(Lent::Made(family)),
         })
     }
@@ -215,12 +215,12 @@ fn declared_head<'a>(
     match (&decl.class, level) {
         (Class::Fam(family), Level::Objects) => Ok(Head {
             start: Start::Constant(decl),
-            spine: Spine::new(alloc),
+            arguments: Vec::new(alloc),
             classifier: Classifier::Family(Lent::Borrowed(family)),
         }),
         (Class::Kind(kind), Level::Families) => Ok(Head {
             start: Start::Constant(decl),
-            spine: Spine::new(alloc),
+            arguments: Vec::new(alloc),
             classifier: Classifier::Kind(Lent::Borrowed(kind)),
         }),
         (Class::Fam(_), Level::Families) => Err(broken(span, Rule::Level)),

@@ -9,7 +9,7 @@ ghost use Rattle.translation_meaning.specs.Heads.{head_takes_all};
 ghost use Rattle.elaborate_meaning.specs.NameHeads.{declared_head};
 ghost use Rattle.elaborate_meaning.specs.Expansion.{domain_of};
 ghost use Rattle.elaborate_meaning.specs.Expansion as expansion;
-ghost use Rattle.term_trees.specs.Readings.{read_arguments, read_declaration, read_family, read_kind, read_object};
+ghost use Rattle.term_trees.specs.Readings.{read_declaration, read_family, read_kind, read_object, read_objects};
 ghost use Rattle.mmt_syntax.specs.Readings.{read_span};
 ghost use Rattle.elaborate.specs.LentValues.{value_of};
 ghost use Rattle.elaborate.specs.HeadStates.{BodyAt, KindAt, Classifies, Stands, StandsForFamily, StandsForHead};
@@ -46,11 +46,11 @@ pub(crate) enum Classifier<'a> {
 }
 
 /// A head, its arguments so far from left to right, and its classifier so far. A constant that has a value stands for it
-/// only when all arguments are there, so that the value takes them at once.
+/// only when all arguments are there, so that the value takes them at once; and only then are they put on a spine.
 #[derive(Drop)]
 pub(crate) struct Head<'a> {
     pub(crate) start: Start<'a>,
-    pub(crate) spine: Spine,
+    pub(crate) arguments: Vec<Obj>,
     pub(crate) classifier: Classifier<'a>,
 }
 
@@ -165,23 +165,22 @@ fn substituted_rest<'a>(
 
 impl<'a> Head<'a> {
     /// The same head, with room for so many arguments more. Terms are kept with the room that they were made with.
-    pub(crate) fn with_room(self, arguments: usize) -> Result<Head<'a>, Memory>
+    pub(crate) fn with_room(self, room: usize) -> Result<Head<'a>, Memory>
         ensures { IfOk result (λ after. (head : meant.Head) → Stands self.entry head → Stands after head) }
     {
         let Head {
             start,
-            spine,
+            mut arguments,
             classifier,
         } = self;
-        let mut items = spine.into_vec();
-        let Ok(()) = items.reserve_exact(arguments) else {
-            drop(items);
+        let Ok(()) = arguments.reserve_exact(room) else {
+            drop(arguments);
             drop(classifier);
             return Err(Memory);
         };
         Ok(Head {
             start,
-            spine: Spine::from_vec(items),
+            arguments,
             classifier,
         })
     }
@@ -192,14 +191,14 @@ impl<'a> Head<'a> {
     {
         let Head {
             start,
-            mut spine,
+            mut arguments,
             classifier,
         } = self;
         let classifier = classifier.after(alloc, &argument)?;
-        spine.add(argument)?;
+        arguments.push(argument)?;
         Ok(Head {
             start,
-            spine,
+            arguments,
             classifier,
         })
     }
@@ -208,13 +207,17 @@ impl<'a> Head<'a> {
     fn into_object(self, alloc: Global) -> Result<Obj, Memory>
         ensures { IfOk result (λ m. (object : terms.Object) (family : terms.Family) → Stands self.entry (meant.ObjectHead object family) → read_object m ≡ object) }
     {
-        let Head { start, spine, .. } = self;
+        let Head {
+            start,
+            arguments,
+            ..
+        } = self;
         match start {
             Start::Variable(index) => Ok(Obj::At {
                 head: TermHead::Var(index),
-                spine,
+                spine: Spine::of(alloc, arguments)?,
             }),
-            Start::Constant(decl) => object_of(alloc, decl, spine),
+            Start::Constant(decl) => object_of(alloc, decl, arguments),
         }
     }
 
@@ -223,9 +226,13 @@ impl<'a> Head<'a> {
         requires { StandsForFamily self }
         ensures { IfOk result (λ a. (binders : ℕ) (family : terms.Family) (kind : terms.Kind) → Stands self.entry (meant.FamilyHead binders family kind) → read_family a ≡ family) }
     {
-        let Head { start, spine, .. } = self;
+        let Head {
+            start,
+            arguments,
+            ..
+        } = self;
         match start {
-            Start::Constant(decl) => family_of(alloc, decl, spine),
+            Start::Constant(decl) => family_of(alloc, decl, arguments),
             // No head of families begins at a variable.
             Start::Variable(_) => unreachable!(),
         }
@@ -264,9 +271,10 @@ impl<'a> Head<'a> {
 }
 
 /// A defined constant stands for its value, which takes the arguments; another one keeps them.
-fn object_of(alloc: Global, decl: &FlatDecl, spine: Spine) -> Result<Obj, Memory>
-    ensures { IfOk result (λ m. (object : terms.Object) (family : terms.Family) → head_takes_all (declared_head (read_declaration decl.now)) (read_arguments spine) ≡ meant.ObjectHead object family → read_object m ≡ object) }
+fn object_of(alloc: Global, decl: &FlatDecl, arguments: Vec<Obj>) -> Result<Obj, Memory>
+    ensures { IfOk result (λ m. (object : terms.Object) (family : terms.Family) → head_takes_all (declared_head (read_declaration decl.now)) (read_objects arguments.items) ≡ meant.ObjectHead object family → read_object m ≡ object) }
 {
+    let spine = Spine::of(alloc, arguments)?;
     match &decl.value {
         Some(value) => Ok(object_in_place(alloc, &decl.name, &decl.class, value, spine)?),
         None => Ok(Obj::At {
@@ -276,9 +284,10 @@ fn object_of(alloc: Global, decl: &FlatDecl, spine: Spine) -> Result<Obj, Memory
     }
 }
 
-fn family_of(alloc: Global, decl: &FlatDecl, spine: Spine) -> Result<Fam, Memory>
-    ensures { IfOk result (λ a. (binders : ℕ) (family : terms.Family) (kind : terms.Kind) → head_takes_all (declared_head (read_declaration decl.now)) (read_arguments spine) ≡ meant.FamilyHead binders family kind → read_family a ≡ family) }
+fn family_of(alloc: Global, decl: &FlatDecl, arguments: Vec<Obj>) -> Result<Fam, Memory>
+    ensures { IfOk result (λ a. (binders : ℕ) (family : terms.Family) (kind : terms.Kind) → head_takes_all (declared_head (read_declaration decl.now)) (read_objects arguments.items) ≡ meant.FamilyHead binders family kind → read_family a ≡ family) }
 {
+    let spine = Spine::of(alloc, arguments)?;
     match &decl.value {
         Some(value) => Ok(family_in_place(alloc, &decl.name, &decl.class, value, spine)?),
         None => Ok(Fam::At {

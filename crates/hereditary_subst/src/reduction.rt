@@ -4,19 +4,30 @@ ghost use Rattle.hereditary_subst.specs.Codomain.{codomain_of};
 ghost use Rattle.lf_meaning.specs.Substitution as meant;
 ghost use Rattle.term_trees.specs.Readings.{read_simple, read_object, read_objects};
 
-use crate::substitution::subst_obj;
+use crate::substitution::{subst_obj, subst_within};
 use lf_terms::{Memory, Obj, Simple};
 use std::alloc::Global;
 
 /// The value applied to one argument: a λ at an arrow takes it in its body; an atomic value takes it at the end of its
-/// spine; a λ at a base drops it.
+/// spine; a λ at a base drops it. At most so many calls may stand in one another.
 #[cycle(substitution)]
-fn apply(alloc: Global, value: Obj, simple: &Simple, argument: Obj) -> Result<Obj, Memory>
+fn apply(
+    alloc: Global,
+    value: Obj,
+    simple: &Simple,
+    argument: Obj,
+    left: u32,
+) -> Result<Obj, Memory>
     ensures { IfOk result (λ m. read_object m ≡ (meant.app (read_simple simple.now) (read_object value) (read_object argument)).value) }
 {
     match value {
         Obj::Lam(body) => match simple {
-            Simple::Arrow(domain, _) => subst_obj(alloc, &argument, domain, 0, &body),
+            Simple::Arrow(domain, _) => {
+                match subst_within(alloc, &argument, domain, 0, &body, left)? {
+                    Some(new) => Ok(new),
+                    None => Ok(Box::into_inner(body)),
+                }
+            }
             Simple::Base(_) => Ok(Obj::Lam(body)),
         },
         Obj::At { head, mut spine } => {
@@ -36,13 +47,15 @@ fn codomain(simple: &Simple) -> &Simple
     }
 }
 
-/// The value applied to arguments, which stand in a vector from the last to the first.
+/// The value applied to arguments, which stand in a vector from the last to the first. At most so many calls may stand in
+/// one another.
 #[cycle(substitution)]
 pub(crate) fn take_all(
     alloc: Global,
     value: Obj,
     simple: &Simple,
     reversed: Vec<Obj>,
+    left: u32,
 ) -> Result<Obj, Memory>
     ensures { IfOk result (λ m. read_object m ≡ meant.reduce (read_object value) (read_simple simple.now) (reverse (read_objects reversed.items))) }
 {
@@ -50,7 +63,7 @@ pub(crate) fn take_all(
     let mut current = simple;
     let mut rest = reversed;
     while let Some(argument) = rest.pop() {
-        applied = apply(alloc, applied, current, argument)?;
+        applied = apply(alloc, applied, current, argument, left)?;
         current = codomain(current);
     }
     Ok(applied)

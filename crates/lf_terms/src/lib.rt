@@ -14,6 +14,7 @@ pub use flat_sig::{FlatSig, PushFault};
 pub use head_map::{HeadMap, MapFault};
 pub use map_part::MapPart;
 pub use term_trees::{
-    Class, Ctx, Fam, FlatDecl, Head, Image, Kind, Obj, Simple, Spine, Value, erase, same_class,
-    same_fam, same_kind, same_obj, same_value, shift_fam, shift_kind, shift_obj,
+    Class, Ctx, DEEPEST, Fam, FlatDecl, Head, Image, Kind, Obj, Simple, Spine, Value, erase,
+    same_class, same_fam, same_kind, same_obj, same_value, shift_fam, shift_kind, shift_obj,
+    spine_of_all, vec_of_all, with_all, with_next,
 };

@@ -16,7 +16,7 @@ use Rattle.translation_meaning.specs.Heads.{FamilyHead, family_takes, head_takes
 use Rattle.translation_meaning.specs.Translation.{translate_object, translate_family, translate_head, translate_kind, family_of, family_image, family_head_image, image_kind}
 use Rattle.translation_meaning.specs.Unmapped.{first_of, without_image, unmapped_object, unmapped_family, unmapped_atomic_family, unmapped_kind}
 use Rattle.translation_laws.proofs.Spines.{family_spine_taken, spine_kept}
-use Rattle.term_trees.specs.Readings.{read_constant, read_family, read_kind, read_object, read_objects, read_arguments, read_class, read_value, arguments_of}
+use Rattle.term_trees.specs.Readings.{read_constant, read_family, read_kind, read_object, read_objects, read_arguments, read_class, read_value}
 use Rattle.base_types.specs.declared.qname.QName.{QName}
 use Rattle.term_trees.specs.declared.class.Class as code
 use Rattle.term_trees.specs.declared.class.Class.TheVariants as classes
@@ -28,7 +28,7 @@ use Rattle.term_trees.specs.declared.kind.Kind as kind
 use Rattle.term_trees.specs.declared.kind.Kind.TheVariants as kinds
 use Rattle.term_trees.specs.declared.obj.Obj.{Obj}
 use Rattle.term_trees.specs.declared.obj.Spine.{Spine}
-use Rattle.term_trees.proofs.ReadingEquations.{read_family_pi, read_family_at, read_kind_ty, read_kind_pi, read_objects_joined}
+use Rattle.term_trees.proofs.ReadingEquations.{read_family_pi, read_family_at, read_kind_ty, read_kind_pi}
 use Rattle.lf_translate.specs.Spines.{unmapped_arguments}
 use Rattle.lf_translate.proofs.Faults.{first_none, first_grouped}
 
@@ -226,10 +226,9 @@ module _ (items : List Obj) (i : ℕ) (whole : AtomicFamily → Family) (n : ℕ
   filled_whole past p = sym (ap (λ xs. Taken n (read_family f) (read_kind k) (read_objects xs) p) (drop_all i items past)) ∙ so_far p
 
 -- An argument at the end of a spine.
-pub taken_at : (a : Fam) (q : QName) (s r : Spine) (m : Obj) → a ≡ fams.At q s → arguments_of r ≡ arguments_of s ++ m ∷ [] → read_family (fams.At q r) ≡ family_takes (read_family a) (read_object m)
+pub taken_at : (a : Fam) (q : QName) (s r : Spine) (m : Obj) → a ≡ fams.At q s → read_arguments r ≡ read_arguments s ++ read_object m ∷ [] → read_family (fams.At q r) ≡ family_takes (read_family a) (read_object m)
 taken_at a q s r m is pushed =
     read_family_at q r
-    ∙ ap (λ (items : List Obj). AtFamily (family_apply_all (FamilyCon (read_constant q)) (read_objects items))) pushed
-    ∙ ap (λ (ms : List Object). AtFamily (family_apply_all (FamilyCon (read_constant q)) ms)) (read_objects_joined (arguments_of s) (m ∷ []))
+    ∙ ap (λ (ms : List Object). AtFamily (family_apply_all (FamilyCon (read_constant q)) ms)) pushed
     ∙ ap AtFamily (family_apply_all_appended (FamilyCon (read_constant q)) (read_arguments s) (read_object m ∷ []))
     ∙ sym (ap (λ b. family_takes b (read_object m)) (ap read_family is ∙ read_family_at q s))

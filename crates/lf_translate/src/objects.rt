@@ -47,9 +47,11 @@ pub(crate) fn translate_spine(
 ) -> Result<Spine, TranslateFault>
     ensures { Answers read_arguments result (unmapped_arguments (read_map map.now) (read_arguments spine.now)) (each (translate_object (read_map map.now)) (read_arguments spine.now)) }
 {
-    let mut translated = Spine::with_capacity(alloc, spine.len())?;
+    let Ok(mut translated) = Vec::with_capacity(alloc, spine.len()) else {
+        return Err(TranslateFault::Memory);
+    };
     for item in spine.as_slice() {
-        translated.add(translate_obj(alloc, map, item)?)?;
+        translated.push(translate_obj(alloc, map, item)?)?;
     }
-    Ok(translated)
+    Ok(Spine::of(alloc, translated)?)
 }

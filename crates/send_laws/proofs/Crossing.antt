@@ -2,15 +2,17 @@
 -- put together here by hand, from the parts up. A struct's part has the type of its fields (`the_field`), and a parameter that of
 -- its values (`the_row`).
 use denote.Param.Send.{IsSend, IsSync, sendable, recorded_send, recorded_sync, struct_send, struct_sync, enum_send, enum_sync, view_send, view_sync}
+use denote.RattleType.{RattleType}
 use denote.Builtin.{usize}
 use denote.Struct.Declared.{shape}
 use denote.Enum.Declared as enum
-use Rattle.std.proofs.Crossing.{Box-send, Box-sync, Vec-send, Vec-sync, send, sync, frees}
+use Rattle.std.proofs.Crossing.{Arc-send, Arc-sync, Box-send, Box-sync, Vec-send, Vec-sync, send, sync, frees}
 use Rattle.std.specs.contracts.alloc.Global as heap
 use Rattle.std.specs.contracts.impls.GlobalAllocator.TheImpl.{ghosts}
 use Rattle.std.specs.contracts.hash.BuildHasherDefault as hashers
 use Rattle.std.specs.contracts.hash.FoldHasher as hasher
 use Rattle.std.specs.contracts.option.Option as option
+use Rattle.std.specs.contracts.sync.Arc as counted
 use Rattle.indexmap.proofs.map.IndexMap.TheSendSync as tables
 use Rattle.base_types.specs.contracts.name.Name as name
 use Rattle.base_types.specs.contracts.path.Path as path
@@ -30,6 +32,7 @@ use Rattle.term_trees.specs.contracts.class.Value as value
 use Rattle.term_trees.specs.contracts.flat_decl.FlatDecl as declaration
 use Rattle.term_trees.specs.contracts.flat_decl.Image as image
 use Rattle.term_trees.proofs.obj.Head.TheSendSync as heads
+use Rattle.term_trees.proofs.measure.Measure.TheSendSync as measures
 use Rattle.term_trees.proofs.obj.Obj.TheLaws.TheKnot as objects
 use Rattle.term_trees.proofs.fam.Fam.TheLaws.TheKnot as families
 use Rattle.term_trees.proofs.kind.Kind.TheLaws.TheKnot as kinds
@@ -48,11 +51,18 @@ use Rattle.mmt_interface.specs.contracts.verdict.Verdict as verdict
 use Rattle.mmt_interface.specs.contracts.refusal.Refusal as refusal
 use Rattle.mmt_interface.proofs.refusal.Refusal.TheSendSync as refusals
 
+-- A row that is shared may cross where what is in it may both cross and be seen from several threads.
+row_send : (T : RattleType) → IsSend T → IsSync T → IsSend (option.the_row (counted.the_row T heap.the_row ghosts))
+row_send T s y = recorded_send (option.the_field (counted.the_row T heap.the_row ghosts)).row _ _ (option.the_type (counted.the_row T heap.the_row ghosts)).to_one (enum_send (enum.shape (option.the_type (counted.the_row T heap.the_row ghosts))) (tt, ((Arc-send T s y, tt), tt)))
+
+row_sync : (T : RattleType) → IsSend T → IsSync T → IsSync (option.the_row (counted.the_row T heap.the_row ghosts))
+row_sync T s y = recorded_sync (option.the_field (counted.the_row T heap.the_row ghosts)).row _ _ (option.the_type (counted.the_row T heap.the_row ghosts)).to_one (enum_sync (enum.shape (option.the_type (counted.the_row T heap.the_row ghosts))) (tt, ((Arc-sync T s y, tt), tt)))
+
 spine_send : IsSend (spine.the_field).row
-spine_send = objects.send-Spine Box-send heads.the_field_send Vec-send
+spine_send = objects.both_send-Spine (λ T s y. Box-send T s) (λ T s y. Box-sync T y) heads.the_field_send heads.the_field_sync (λ T s y. Vec-send T s) (λ T s y. Vec-sync T y) measures.the_field_send measures.the_field_sync row_send row_sync (search sendable) (search sendable)
 
 object_send : IsSend (object.the_field).row
-object_send = objects.send-Obj Box-send heads.the_field_send Vec-send
+object_send = objects.both_send-Obj (λ T s y. Box-send T s) (λ T s y. Box-sync T y) heads.the_field_send heads.the_field_sync (λ T s y. Vec-send T s) (λ T s y. Vec-sync T y) measures.the_field_send measures.the_field_sync row_send row_sync (search sendable) (search sendable)
 
 family_send : IsSend (family.the_field).row
 family_send = families.send-Fam Box-send constants.the_field_send spine_send
@@ -88,10 +98,10 @@ image_row_send : IsSend image.the_row
 image_row_send = recorded_send (image.the_field).row _ _ (image.the_type).to_one image_send
 
 spine_sync : IsSync (spine.the_field).row
-spine_sync = objects.sync-Spine Box-sync heads.the_field_sync Vec-sync
+spine_sync = objects.both_sync-Spine (λ T s y. Box-send T s) (λ T s y. Box-sync T y) heads.the_field_send heads.the_field_sync (λ T s y. Vec-send T s) (λ T s y. Vec-sync T y) measures.the_field_send measures.the_field_sync row_send row_sync (search sendable) (search sendable)
 
 object_sync : IsSync (object.the_field).row
-object_sync = objects.sync-Obj Box-sync heads.the_field_sync Vec-sync
+object_sync = objects.both_sync-Obj (λ T s y. Box-send T s) (λ T s y. Box-sync T y) heads.the_field_send heads.the_field_sync (λ T s y. Vec-send T s) (λ T s y. Vec-sync T y) measures.the_field_send measures.the_field_sync row_send row_sync (search sendable) (search sendable)
 
 family_sync : IsSync (family.the_field).row
 family_sync = families.sync-Fam Box-sync constants.the_field_sync spine_sync

@@ -8,6 +8,7 @@ mod laws;
 mod names;
 mod rows;
 mod signatures;
+mod spines;
 mod substitutions;
 mod tables;
 mod terms;

@@ -4,6 +4,7 @@ use crate::judgements::{judges, synthesises};
 use crate::laws::{both_give, carries, keeps_typing};
 use crate::names::{is_name, is_no_name, name_call};
 use crate::signatures::{answers, answers_behind};
+use crate::spines::spine_call;
 use crate::substitutions::{gives, raises, reduces};
 use crate::tables::table_call;
 use crate::terms::{are_same, is_copied};
@@ -53,6 +54,7 @@ pub(crate) fn holds(alloc: Global, case: &Case<'_>, line: &str) -> bool {
         "other texts" => is_no_name(alloc, line),
         "calls on names" => name_call(alloc, line),
         "calls on tables" => table_call(alloc, line),
+        "calls on arguments" => spine_call(alloc, line),
         "raised" => raises(alloc, row),
         "same" => are_same(alloc, row.first, row.second),
         "copied" => is_copied(alloc, row.first),

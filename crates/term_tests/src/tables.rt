@@ -327,14 +327,16 @@ fn is_n(shared: Result<Arc<Name>, Memory>) -> bool {
     }
 }
 
-/// Whether arguments that were added one by one, and put into a vector and back, are there.
+/// Whether arguments that were added one by one are there, and a copy that grows leaves them as they are.
 fn do_arguments_grow(alloc: Global) -> bool {
-    match Spine::with_capacity(alloc, 2) {
-        Ok(mut spine) => {
-            let all = is_added(alloc, &mut spine) && is_pushed(alloc, &mut spine);
-            let again = Spine::from_vec(spine.into_vec());
-            all && again.len() == 2 && is_second(alloc, &again)
-        }
+    let mut spine = Spine::new(alloc);
+    let all = is_added(alloc, &mut spine) && is_pushed(alloc, &mut spine);
+    all && spine.len() == 2 && is_second(alloc, &spine) && does_copy_grow_alone(alloc, &spine)
+}
+
+fn does_copy_grow_alone(alloc: Global, spine: &Spine) -> bool {
+    match spine.copy(alloc) {
+        Ok(mut copied) => is_pushed(alloc, &mut copied) && copied.len() == 3 && spine.len() == 2,
         Err(_) => false,
     }
 }

@@ -1,7 +1,9 @@
 -- What the values of this crate stand for: the terms of Canonical LF, read off them. A head with a spine
 -- stands for the head applied to the arguments from left to right (Harper and Licata 2007, section 2).
-use Rattle.std.specs.Prelude.{List, map, reverse}
+use Rattle.std.specs.Prelude.{List, [], Option, Some, None, map, reverse}
 use Rattle.std.specs.Option.{option_map}
+use Rattle.std.specs.declared.alloc.Global.{Global}
+use Rattle.std.specs.declared.sync.Arc.{Arc}
 use Rattle.lf_meaning.specs.Terms as terms
 use Rattle.lf_meaning.specs.Signatures as signatures
 use Rattle.lf_meaning.specs.HeadMaps as maps
@@ -14,7 +16,8 @@ use Rattle.term_trees.specs.declared.obj.Head.TheVariants as head
 use Rattle.term_trees.specs.declared.obj.Obj.{Obj}
 use Rattle.term_trees.specs.declared.obj.Obj.TheOpen as obj
 use Rattle.term_trees.specs.declared.obj.Obj.TheFolds.{fold-Obj}
-use Rattle.term_trees.specs.declared.obj.Spine.{Spine}
+use Rattle.term_trees.specs.declared.obj.Spine.{Spine, out-Spine}
+use Rattle.term_trees.specs.declared.obj.Row.{Row}
 use Rattle.term_trees.specs.declared.fam.Fam.{Fam}
 use Rattle.term_trees.specs.declared.fam.Fam.TheOpen as fam
 use Rattle.term_trees.specs.declared.fam.Fam.TheFolds.{fold-Fam}
@@ -45,24 +48,36 @@ abbrev pub read_head : Head → terms.Atomic
 read_head (head.Var i) = terms.Var i
 read_head (head.Con q) = terms.Con (read_constant q)
 
--- An object, and the arguments of a spine, given what their parts stand for.
-abbrev pub read_object_layer : obj.Obj-F terms.Object (List terms.Object) → terms.Object
+-- What a row stands for that may be there and is shared: nothing where there is none.
+abbrev pub read_shared : Option (Arc (List terms.Object) Global) → List terms.Object
+read_shared None = []
+read_shared (Some row) = row.value
+
+-- An object, and the arguments of a row and of a spine, given what their parts stand for.
+abbrev pub read_object_layer : obj.Obj-F terms.Object (List terms.Object) (List terms.Object) → terms.Object
 read_object_layer (obj.Lam m) = terms.Lam m.value
 read_object_layer (obj.At h ms) = terms.At (terms.apply_all (read_head h) ms)
 
-abbrev pub read_spine_layer : obj.Spine-F terms.Object (List terms.Object) → List terms.Object
-read_spine_layer s = s.items.items
+abbrev pub read_row_layer : obj.Row-F terms.Object (List terms.Object) (List terms.Object) → List terms.Object
+read_row_layer r = r.items.items
+
+abbrev pub read_spine_layer : obj.Spine-F terms.Object (List terms.Object) (List terms.Object) → List terms.Object
+read_spine_layer s = read_shared s.row
 
 abbrev pub read_object : Obj → terms.Object
-read_object = fold-Obj terms.Object (List terms.Object) read_object_layer read_spine_layer
+read_object = fold-Obj terms.Object (List terms.Object) (List terms.Object) read_object_layer read_row_layer read_spine_layer
 
 -- Several objects, as those of a spine.
 abbrev pub read_objects : List Obj → List terms.Object
 read_objects = map read_object
 
--- The arguments of a spine, from left to right.
+-- The arguments of a row that may be there, and those of a spine, from left to right.
+abbrev pub row_arguments : Option (Arc Row Global) → List Obj
+row_arguments None = []
+row_arguments (Some row) = row.value.items.items
+
 abbrev pub arguments_of : Spine → List Obj
-arguments_of s = s.items.items
+arguments_of s = row_arguments (out-Spine s).row
 
 abbrev pub read_arguments : Spine → List terms.Object
 read_arguments s = read_objects (arguments_of s)

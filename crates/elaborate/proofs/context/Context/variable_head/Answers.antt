@@ -13,4 +13,4 @@ returns c =
     let found = sym (ap (option_map (λ a. read_family a.now)) c.in-Some.is) ∙ c.family.ensures in
     let family = c.in_ok-family in
     variable_begins (locals_of c.args.self.now) c.args.index c.in_ok-one_more.field-0 (read_span c.args.span) c.new-2.result (read_family c.in-Some.family.now) (Made family.family) (read_level c.args.level)
-    c.new-2.ensures found c.in_ok-one_more.ensures (ap read_family family.ensures.ok ∙ c.in_ok-shift_fam.ensures) (ap read_level c.in-Objects.is)
+    c.new-2.ensures.items found c.in_ok-one_more.ensures (ap read_family family.ensures.ok ∙ c.in_ok-shift_fam.ensures) (ap read_level c.in-Objects.is)
