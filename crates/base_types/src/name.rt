@@ -129,7 +129,10 @@ impl PartialEq for Name {
     ghost laws = { partial_equiv_from_equiv nat_list_eq_equiv };
 
     fn eq(&self, other: &Self) -> bool {
-        self.as_bytes() == other.as_bytes()
+        match (&self.text, &other.text) {
+            (Text::Short(text), Text::Short(second)) => text.is_same(second),
+            _ => self.as_bytes() == other.as_bytes(),
+        }
     }
 }
 

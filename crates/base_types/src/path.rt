@@ -55,7 +55,7 @@ impl Path {
         })
     }
 
-    /// The path of copies of these names. Its copies share them.
+    /// The path of copies of these names. Copies of the path share them where there are two or more.
     pub fn of(alloc: Global, first: &Name, more: &[Name]) -> Result<Path, Memory>
         ensures { IfOk result (λ path. path ≡ first.now ∷ more.now) }
     {

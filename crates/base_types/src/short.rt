@@ -1,5 +1,7 @@
 //! Texts of a few bytes, which stand in the value itself.
-ghost use Rattle.std.specs.Prelude.{◌≡◌, ◌↔◌, ◌<◌, length, IfSome, IsNone};
+ghost use Rattle.std.specs.Prelude.{◌≡◌, ◌↔◌, ◌<◌, drop, length, nat_eq, take, IfSome, IsNone};
+ghost use Rattle.std.specs.Cmp.Lexicographic.{pointwise};
+ghost use Rattle.std.specs.Int.{from_be_bytes, w64};
 
 use std::marker::Model;
 
@@ -11,14 +13,14 @@ pub(crate) struct Short {
 }
 
 impl Model for Short {
-    ghost use Rattle.std.specs.Prelude.{◌≤◌, List, ℕ, IsTrue, take};
+    ghost use Rattle.std.specs.Prelude.{◌≡◌, ◌≤◌, ◌-◌, List, ℕ, IsTrue, drop, replicate, take};
     ghost use Rattle.std.specs.Str.{is_utf8};
 
     ghost Value = { List ℕ };
 
     ghost view = { λ s. take s.len s.bytes };
 
-    ghost invariant = { λ s. (s.len ≤ 14) × IsTrue (is_utf8 (take s.len s.bytes)) };
+    ghost invariant = { λ s. (s.len ≤ 14) × IsTrue (is_utf8 (take s.len s.bytes)) × (drop s.len s.bytes ≡ replicate (14 - s.len) 0) };
 }
 
 impl Short {
@@ -66,4 +68,40 @@ impl Short {
             Err(_) => unreachable!(),
         }
     }
+
+    /// Whether the texts are equal.
+    #[inline]
+    pub(crate) fn is_same(&self, other: &Short) -> bool
+        ensures { result ≡ pointwise nat_eq self.now other.now }
+    {
+        self.len == other.len && are_same(&self.bytes, &other.bytes)
+    }
+}
+
+/// Whether the bytes are equal. They are compared as two words, which share two bytes: that is cheaper than one by one.
+#[inline]
+fn are_same(bytes: &[u8; 14], other: &[u8; 14]) -> bool
+    ensures { result ≡ pointwise nat_eq bytes.now other.now }
+{
+    first_word(bytes) == first_word(other) && last_word(bytes) == last_word(other)
+}
+
+/// The first eight bytes as a word.
+#[inline]
+fn first_word(bytes: &[u8; 14]) -> u64
+    ensures { result ≡ from_be_bytes w64 (take 8 bytes.now) }
+{
+    u64::from_be_bytes([
+        bytes[0], bytes[1], bytes[2], bytes[3], bytes[4], bytes[5], bytes[6], bytes[7],
+    ])
+}
+
+/// The last eight bytes as a word.
+#[inline]
+fn last_word(bytes: &[u8; 14]) -> u64
+    ensures { result ≡ from_be_bytes w64 (drop 6 bytes.now) }
+{
+    u64::from_be_bytes([
+        bytes[6], bytes[7], bytes[8], bytes[9], bytes[10], bytes[11], bytes[12], bytes[13],
+    ])
 }

@@ -1,8 +1,9 @@
 //! Names by the rules of the formats, paths, and lists.
 
-use lf_terms::{Bytes, Memory, Name, NameFault, Path, Texts};
+use lf_terms::{Bytes, Fam, Memory, Name, NameFault, Obj, Path, QName, Spine, Texts};
 use std::alloc::Global;
 use std::collections::{BTreeSet, HashSet};
+use std::mem::size_of;
 use test_texts::succeeds;
 
 /// A text, in which signs that cannot be seen stand as in a text of Rust, and `\e` is an equals sign.
@@ -81,6 +82,8 @@ pub(crate) fn is_no_name(alloc: Global, written: &str) -> bool {
 pub(crate) fn name_call(alloc: Global, line: &str) -> bool {
     match line {
         "names stand in byte order" => are_in_order(alloc),
+        "names and terms are small" => are_small(),
+        "equal names are told from others" => are_told_apart(alloc),
         "paths are different by their names" => are_different(alloc),
         "a copy of a path grows" => grow(alloc),
         "bytes grow at their end" => bytes_grow(alloc),
@@ -120,6 +123,68 @@ fn is_row(names: &BTreeSet<Name>, row: &mut String) -> bool {
         all = all && row.push_str(name.as_str()).is_ok() && row.push_str(" ").is_ok();
     }
     all
+}
+
+/// Whether a name takes two words, and what is made of names few: they are copied and compared all the time.
+fn are_small() -> bool {
+    are_names_small() && are_terms_small()
+}
+
+fn are_names_small() -> bool {
+    size_of::<Name>() <= 16 && size_of::<Path>() <= 24 && size_of::<QName>() <= 40
+}
+
+fn are_terms_small() -> bool {
+    size_of::<Spine>() <= 16 && size_of::<Obj>() <= 72 && size_of::<Fam>() <= 72
+}
+
+/// Names of which some differ in their length alone, in one of the first eight bytes, in the last byte, or behind the
+/// bytes that stand in the name itself.
+const ALIKE: &[&str] = &[
+    "a",
+    "aa",
+    "abcdefgh",
+    "abcdefgi",
+    "abcdefghabcdef",
+    "abcdefghabcdeg",
+    "abcdefgiabcdef",
+    "abcdefghabcdefg",
+    "abcdefghabcdefh",
+];
+
+/// Whether each of the names is equal to one of them.
+fn are_told_apart(alloc: Global) -> bool {
+    for &text in ALIKE {
+        if count_equal(alloc, text) != 1 {
+            return false;
+        }
+    }
+    true
+}
+
+/// How many of the names are equal to that of a text, which is one of them.
+fn count_equal(alloc: Global, text: &str) -> usize {
+    let mut equal = 0usize;
+    for &other in ALIKE {
+        if are_equal(alloc, text, other) {
+            equal = equal.saturating_add(1);
+        }
+    }
+    equal
+}
+
+fn are_equal(alloc: Global, text: &str, other: &str) -> bool {
+    match Name::new(alloc, text) {
+        Ok(name) => is_equal(&name, Name::new(alloc, other)),
+        Err(_) => false,
+    }
+}
+
+fn is_equal(name: &Name, other: Result<Name, NameFault>) -> bool {
+    match other {
+        Ok(other) => *name == other,
+        Err(_) => false,
+    }
 }
 
 fn short_path(alloc: Global, text: &str) -> Option<Path> {
