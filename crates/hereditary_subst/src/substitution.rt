@@ -1,15 +1,13 @@
 //! Hereditary substitution into objects, families and kinds.
 ghost use Rattle.std.specs.Prelude.{◌≡◌, ◌+◌, length, IfOk, map};
-ghost use Rattle.lf_meaning.specs.Terms.{At, apply_all};
 ghost use Rattle.lf_meaning.specs.Substitution.{substitute, substitute_family, substitute_kind};
-ghost use Rattle.term_trees.specs.Readings.{arguments_of, read_simple, read_head, read_object, read_arguments, read_family, read_kind};
+ghost use Rattle.term_trees.specs.Readings.{arguments_of, read_simple, read_object, read_arguments, read_family, read_kind};
 ghost use Rattle.term_trees.specs.Changes.{changed, gathered};
-ghost use Rattle.term_trees.specs.declared.obj.Obj.TheVariants as objects;
 
 use crate::reduction::take_all;
 use lf_terms::{
     DEEPEST, Fam, Head, Kind, Memory, Obj, Simple, Spine, shift_obj, spine_of_all, vec_of_all,
-    with_all, with_next,
+    with_head, with_next,
 };
 use std::alloc::Global;
 
@@ -90,24 +88,6 @@ fn subst_arguments(
         so_far = with_next(alloc, items, i, item, so_far, new)?;
     }
     Ok(so_far)
-}
-
-/// A head that stays, with what was gathered of its arguments. None where they stay too.
-fn with_head(
-    alloc: Global,
-    head: &Head,
-    spine: &Spine,
-    so_far: Option<Vec<Obj>>,
-) -> Result<Option<Obj>, Memory>
-    ensures { IfOk result (λ new. read_object (changed (objects.At head.now spine.now) new) ≡ At (apply_all (read_head head.now) (gathered (arguments_of spine.now) (length (arguments_of spine.now)) so_far))) }
-{
-    match with_all(alloc, spine, so_far)? {
-        Some(new) => Ok(Some(Obj::At {
-            head: head.copy(alloc)?,
-            spine: new,
-        })),
-        None => Ok(None),
-    }
 }
 
 /// The spine with the value substituted in each argument.

@@ -16,5 +16,5 @@ pub use map_part::MapPart;
 pub use term_trees::{
     Class, Ctx, DEEPEST, Fam, FlatDecl, Head, Image, Kind, Obj, Simple, Spine, Value, erase,
     same_class, same_fam, same_kind, same_obj, same_value, shift_fam, shift_kind, shift_obj,
-    spine_of_all, vec_of_all, with_all, with_next,
+    spine_of_all, vec_of_all, with_all, with_head, with_next,
 };

@@ -1,13 +1,15 @@
 -- Objects: what is asked of the images that are met, what has none, and what comes of a head with its arguments.
-use Rattle.std.proofs.Common.{◌≡◌, ℕ, List, [], ◌∷◌, map, Some, None, sym, ap, ◌∙◌, subst}
+use Rattle.std.proofs.Common.{◌≡◌, ℕ, List, [], ◌∷◌, map, Some, None, true, sym, ap, ◌∙◌, subst}
 use Rattle.std.specs.declared.boxed.Box.{Box}
 use Rattle.std.specs.declared.alloc.Global.{Global}
 use Rattle.lf_meaning.specs.Terms.{Constant, Object, Lam, At, Atomic, Var, Con, App, apply_all}
+use Rattle.lf_meaning.specs.Equality.{same_value}
 use Rattle.lf_meaning.specs.Signatures as signatures
 use Rattle.lf_meaning.specs.HeadMaps.{Image, HeadMap, image_of}
 use Rattle.lf_meaning.specs.Erasure.{erase}
 use Rattle.lf_meaning.specs.Replacement.{Kept, object_of, takes_all, of_constants}
 use Rattle.lf_meaning.specs.Substitution.{reduce}
+use Rattle.lf_term_laws.proofs.Equality.{same_value_sound}
 use Rattle.lf_term_laws.proofs.Spines.{replace_applied, takes_all_kept, takes_all_is_reduce}
 use Rattle.lf_substitution_laws.proofs.Constants.{any_depth}
 use Rattle.translation_meaning.specs.Translation.{headed_image, object_image, translate_object}
@@ -54,6 +56,9 @@ module _ (along : HeadMap) where
       read_object_lam b ∙ ap Lam (h ∙ any_depth (λ (constant : Constant). headed_image constant (image_of along constant)) 0 1 (read_object m.value))
       ∙ sym (ap (translate_object along) (ap read_object is ∙ read_object_lam m))
 
+  pub lam_stays : (t : Obj) (m : Box Obj Global) → t ≡ objs.Lam m → read_object m.value ≡ translate_object along (read_object m.value) → read_object t ≡ translate_object along (read_object t)
+  lam_stays t m is h = ap read_object is ∙ translated_lam t m m is h
+
   -- A head with its arguments.
   module _ (t : Obj) (h : Head) (s : Spine) (is : t ≡ objs.At h s) where
     reads : read_object t ≡ At (apply_all (read_head h) (read_arguments s))
@@ -63,22 +68,30 @@ module _ (along : HeadMap) where
     unfolding unmapped_object
     unmapped_at = unmapped_spine (read_head h) (read_arguments s) ∙ sym (ap (unmapped_object along) reads)
 
-    module _ (r : Spine) (arguments : read_arguments r ≡ map (translate_object along) (read_arguments s)) where
-      pub translated_variable : (i : ℕ) → h ≡ head.Var i → read_object (objs.At (head.Var i) r) ≡ translate_object along (read_object t)
+    module _ (ms : List Object) (arguments : ms ≡ map (translate_object along) (read_arguments s)) where
+      pub translated_variable : (i : ℕ) → h ≡ head.Var i → At (apply_all (read_head h) ms) ≡ translate_object along (read_object t)
       translated_variable i var =
-          read_object_at (head.Var i) r
-          ∙ ap (λ ms. At (apply_all (Var i) ms)) arguments
+          ap (λ g. At (apply_all (read_head g) ms)) var
+          ∙ ap (λ ns. At (apply_all (Var i) ns)) arguments
           ∙ sym (variable_taken i (read_arguments s))
           ∙ sym (ap (translate_object along) (reads ∙ ap (λ g. At (apply_all (read_head g) (read_arguments s))) var))
 
-      pub translated_constant : (q : QName) (image : Image) (m : Obj) → h ≡ head.Con q → image_of along (read_constant q) ≡ Some image
-          → read_object m ≡ object_of (takes_all (object_image (read_constant q) image.class image.value) (read_arguments r)) → read_object m ≡ translate_object along (read_object t)
-      translated_constant q image m con found put =
-          put
-          ∙ ap (λ ms. object_of (takes_all (object_image (read_constant q) image.class image.value) ms)) arguments
-          ∙ sym (ap (λ o. object_of (takes_all (headed_image (read_constant q) o) (map (translate_object along) (read_arguments s)))) found)
-          ∙ sym (spine_taken along (read_constant q) (read_arguments s))
-          ∙ sym (ap (translate_object along) (reads ∙ ap (λ g. At (apply_all (read_head g) (read_arguments s))) con))
+      module _ (q : QName) (image : Image) (con : h ≡ head.Con q) (found : image_of along (read_constant q) ≡ Some image) where
+        pub translated_constant : (m : Object) → m ≡ object_of (takes_all (object_image (read_constant q) image.class image.value) ms) → m ≡ translate_object along (read_object t)
+        translated_constant m put =
+            put
+            ∙ ap (λ ns. object_of (takes_all (object_image (read_constant q) image.class image.value) ns)) arguments
+            ∙ sym (ap (λ o. object_of (takes_all (headed_image (read_constant q) o) (map (translate_object along) (read_arguments s)))) found)
+            ∙ sym (spine_taken along (read_constant q) (read_arguments s))
+            ∙ sym (ap (translate_object along) (reads ∙ ap (λ g. At (apply_all (read_head g) (read_arguments s))) con))
+
+        -- an image that is the same constant
+        pub constant_stays : same_value image.value (signatures.SameAs (read_constant q)) ≡ true → At (apply_all (read_head h) ms) ≡ translate_object along (read_object t)
+        constant_stays same =
+            ap (λ g. At (apply_all (read_head g) ms)) con
+            ∙ translated_constant (At (apply_all (Con (read_constant q)) ms))
+            (sym (ap object_of (takes_all_kept (Con (read_constant q)) ms))
+            ∙ sym (ap (λ v. object_of (takes_all (object_image (read_constant q) image.class v) ms)) (same_value_sound image.value (signatures.SameAs (read_constant q)) same)))
 
   pub head_none : (h : Head) (i : ℕ) → h ≡ head.Var i → unmapped_atomic along (read_head h) ≡ None
   unfolding unmapped_object

@@ -1,11 +1,13 @@
 //! Arguments that come in place of those of a spine. Those before the first one that is changed take no memory until then, and a spine
 //! of which nothing is changed can be handed on.
 ghost use Rattle.std.specs.Prelude.{◌≡◌, ◌<◌, ◌+◌, ◌∷◌, ◌++◌, [], length, slice_index_or, IfOk};
-ghost use Rattle.term_trees.specs.Readings.{arguments_of, read_arguments, read_object, read_objects};
+ghost use Rattle.lf_meaning.specs.Terms.{At, apply_all};
+ghost use Rattle.term_trees.specs.Readings.{arguments_of, read_arguments, read_head, read_object, read_objects};
 ghost use Rattle.term_trees.specs.Changes.{changed, gathered};
+ghost use Rattle.term_trees.specs.declared.obj.Obj.TheVariants as objects;
 
 use crate::obj::copies;
-use crate::{Obj, Spine};
+use crate::{Head, Obj, Spine};
 use base_types::Memory;
 use std::alloc::Global;
 
@@ -50,6 +52,24 @@ pub fn with_all(
 {
     match so_far {
         Some(items) => Ok(Some(Spine::of(alloc, items)?)),
+        None => Ok(None),
+    }
+}
+
+/// A head that stays, with what was gathered of its arguments. None where they stay too.
+pub fn with_head(
+    alloc: Global,
+    head: &Head,
+    spine: &Spine,
+    so_far: Option<Vec<Obj>>,
+) -> Result<Option<Obj>, Memory>
+    ensures { IfOk result (λ new. read_object (changed (objects.At head.now spine.now) new) ≡ At (apply_all (read_head head.now) (gathered (arguments_of spine.now) (length (arguments_of spine.now)) so_far))) }
+{
+    match with_all(alloc, spine, so_far)? {
+        Some(new) => Ok(Some(Obj::At {
+            head: head.copy(alloc)?,
+            spine: new,
+        })),
         None => Ok(None),
     }
 }

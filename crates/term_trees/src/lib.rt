@@ -14,7 +14,7 @@ mod sameness;
 mod shift;
 mod simple;
 
-pub use changes::{spine_of_all, vec_of_all, with_all, with_next};
+pub use changes::{spine_of_all, vec_of_all, with_all, with_head, with_next};
 pub use class::{Class, Value};
 pub use erasure::erase;
 pub use fam::{Ctx, Fam};
