@@ -3,3 +3,4 @@ pub mod Worked
 pub mod Hired
 pub mod Joined
 pub mod Beside
+pub mod Halves

@@ -3,3 +3,4 @@ pub mod Hired
 pub mod Worked
 pub mod TakenIn
 pub mod Leading
+pub mod Places

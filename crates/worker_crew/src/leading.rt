@@ -4,13 +4,14 @@ ghost use Rattle.turn_meaning.specs.Passes.{IsIdleOf, first_pass};
 ghost use Rattle.worker_crew.specs.Leading.{HasLed, WasLed};
 ghost use Rattle.worker_crew.specs.Workers.{AreWorkers};
 
+use crate::joining::beside;
 use crate::{Crew, Front, dismiss, hire, work_all};
 use board_seats::{BoardPass, SharedBoard};
 use mmt_outside::Gate;
 use module_graph::Subject;
 use std::alloc::Global;
 use std::sync::Wait;
-use std::thread::{Threads, join_mut};
+use std::thread::Threads;
 use turn_lock::NewFault;
 use verdict_board::Board;
 use worker_loop::Hall;
@@ -76,7 +77,7 @@ fn lead_beside<
         requires { AreWorkers S.subject.dependencies hall.now.board.now crew.now }
         ensures { AreWorkers S.subject.dependencies hall.entry.now.board.now crew.exit.now × (length crew.exit.now ≡ length crew.entry.now) }
     { work_all(hall, crew) };
-    let ((), end) = join_mut(hall.rt, &mut working, &mut leading);
+    let ((), end) = beside(hall.rt, &mut working, &mut leading);
     end
 }
 

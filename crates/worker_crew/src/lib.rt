@@ -4,8 +4,10 @@
 
 mod crew;
 mod dismissal;
+mod each_place;
 mod front;
 mod hiring;
+mod joining;
 mod leading;
 mod worker;
 mod working;
@@ -14,6 +16,7 @@ pub use crew::Crew;
 pub use dismissal::dismiss;
 pub use front::Front;
 pub use hiring::hire;
+pub use joining::STACK;
 pub use leading::{Led, Means, lead};
 pub use worker::Worker;
 pub use working::work_all;

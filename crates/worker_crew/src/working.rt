@@ -5,11 +5,12 @@ ghost use Rattle.turn_meaning.specs.Passes.{IsIdleOf};
 ghost use Rattle.worker_crew.specs.Worked.{HasWorked};
 ghost use Rattle.worker_crew.specs.Workers.{AreWorkers};
 
+use crate::each_place::for_each_beside;
 use crate::{Crew, Worker};
 use mmt_outside::Gate;
 use module_graph::Subject;
 use std::sync::Wait;
-use std::thread::{Threads, for_each_mut};
+use std::thread::Threads;
 use worker_loop::Hall;
 
 /// Each worker works, in a thread of its own where one can be made, until the board is closed. One that finds no memory ends, and
@@ -23,11 +24,9 @@ pub fn work_all<R: Threads + Wait + Sync, S: Subject, G: Gate + Sync>(
     ensures as_many { length crew.new ≡ length crew.old }
     ensures workers { AreWorkers S.subject.dependencies hall.now.board.now crew.new }
 {
-    let threads = crew.workers.len().max(1);
-    for_each_mut(
+    for_each_beside(
         hall.rt,
         crew.workers.as_mut_slice(),
-        threads,
         &|_: usize, worker: &mut Worker<S>|
             requires { IsIdleOf hall.now.board.now worker.old.pass }
             ensures { HasWorked S.subject worker.old worker.new }
