@@ -1,4 +1,3 @@
-pub mod KeyedEntries
 pub mod SameName
 pub mod SharedPairs
 pub mod FirstPlaces

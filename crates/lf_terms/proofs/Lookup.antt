@@ -1,5 +1,5 @@
 -- Look-up by name in the tables.
-use Rattle.std.proofs.Common.{◌≡◌, ℕ, zero, suc, Bool, true, false, cond, List, [], ◌∷◌, map, Bor, arith, Option, Some, None, is_some, refl, sym, ap, ◌∙◌}
+use Rattle.std.proofs.Common.{◌≡◌, ℕ, zero, suc, Bool, true, false, cond, ◌||◌, List, [], ◌∷◌, map, Bor, arith, Option, Some, None, is_some, refl, sym, ap, ◌∙◌}
 use Rattle.std.specs.Prelude.{slice_get, position, nat_lt, length, MatchOption, IsNone, ◌≤◌}
 use Rattle.std.proofs.lemmas.List.Folds.{find_at}
 use Rattle.std.proofs.lemmas.Bool.{ltb-false}
@@ -7,15 +7,13 @@ use Rattle.std.proofs.lemmas.Option.{slice_get-map, slice_get_past}
 use Rattle.lf_meaning.specs.HeadMaps as meant
 use Rattle.std.specs.Option.{option_copied, option_map}
 use Rattle.std.specs.Ordering.{on}
-use Rattle.std.specs.List.{AllByRecursion, IsDistinct, find, position_or_len}
-use Rattle.std.specs.Map.{keys_of, lookup, values_of}
+use Rattle.std.specs.List.{list_any, AllByRecursion, IsDistinct, find, position_or_len}
 use Rattle.name_meaning.specs.Names.{Path}
 use Rattle.lf_meaning.specs.Signatures.{declaration_of, same_constant, Declaration}
 use Rattle.list_laws.proofs.Options.{mapped_by}
-use Rattle.lf_terms.proofs.KeyedEntries.{found_by_key}
 use Rattle.term_trees.specs.Readings.{read_constant, read_declaration, read_signature, read_image, read_map, read_mapping}
 use Rattle.lf_terms.proofs.SameName.{same_qname, same_qname_equiv}
-use Rattle.lf_terms.specs.Tables.{declared, declared_names, first_with_path, image_of, place_of, same_path, HasDistinctNames}
+use Rattle.lf_terms.specs.Tables.{declared, first_with_path, image_of, place_of, same_path, HasDistinctNames}
 use Rattle.base_types.specs.declared.qname.QName.{QName}
 use Rattle.term_trees.specs.declared.flat_decl.FlatDecl.{FlatDecl}
 use Rattle.term_trees.specs.declared.flat_decl.Image.{Image}
@@ -70,17 +68,19 @@ declared_read (d ∷ decls) q =
     by false true e rest = absurd (cc)
     by false false e rest = rest
 
--- A name is among the keys of declarations, kept under their names, exactly where it is declared.
-pub contained_declared : (q : QName) (es : List (QName × FlatDecl)) → keys_of es ≡ map (λ d. d.name) (values_of es) → is_some (lookup (same_qname q) es) ≡ is_some (declared (values_of es) q)
-contained_declared q es keyed = ap is_some (found_by_key (λ (d : FlatDecl). d.name) (same_qname q) es keyed)
+-- A declaration has a name exactly where it is declared.
+pub contained_declared : (q : QName) (decls : List FlatDecl) → list_any (λ (d : FlatDecl). same_qname q d.name) decls ≡ is_some (declared decls q)
+contained_declared q [] = refl
+contained_declared q (d ∷ decls) = by (same_qname q d.name) (contained_declared q decls)
+  where
+    by : (b : Bool) → list_any (λ (e : FlatDecl). same_qname q e.name) decls ≡ is_some (declared decls q)
+        → (b || list_any (λ (e : FlatDecl). same_qname q e.name) decls) ≡ is_some (cond b (Some d) (declared decls q))
+    by true h = refl
+    by false h = h
 
-names_read : (decls : List FlatDecl) → map read_constant (map (λ d. d.name) decls) ≡ declared_names decls
-names_read [] = refl
-names_read (d ∷ decls) = ap (λ names. read_constant d.name ∷ names) (names_read decls)
-
--- Declarations whose names differ as keys have distinct names.
-pub distinct_declared : (decls : List FlatDecl) → IsDistinct same_qname (map (λ d. d.name) decls) → HasDistinctNames decls
-distinct_declared decls h = rw (← names_read decls) (distinct_images read_constant same_constant (map (λ d. d.name) decls) h)
+-- Declarations that differ by their names have distinct names.
+pub distinct_declared : (decls : List FlatDecl) → IsDistinct (λ (d e : FlatDecl). same_qname d.name e.name) decls → HasDistinctNames decls
+distinct_declared decls h = distinct_images (λ (d : FlatDecl). read_constant d.name) same_constant decls h
 
 -- The image of a constant in the code's map is that of the map which it stands for.
 pub mapped_read : (images : List (QName × Image)) (q : QName) → option_map read_image (image_of images q) ≡ meant.image_of (read_map images) (read_constant q)
@@ -119,6 +119,11 @@ pub nothing_behind : {A : Type 0} (xs : List A) (i : ℕ) → slice_get xs i ≡
 nothing_behind [] i h = omega arith
 nothing_behind (x ∷ xs) zero h = absurd (cc)
 nothing_behind (x ∷ xs) (suc i) h = let e = nothing_behind xs i h in omega (arith, e)
+
+-- Nothing is found exactly behind the end.
+pub none_behind : {A : Type 0} (xs : List A) (i : ℕ) (found : Option (Bor A)) → option_copied found ≡ slice_get xs i → (IsNone found → length xs ≤ i) × (length xs ≤ i → IsNone found)
+none_behind xs i None h = (λ e. nothing_behind xs i (sym h), λ l. refl)
+none_behind xs i (Some x) h = (λ e. absurd (cc), λ l. absurd (let e = h ∙ slice_get_past xs i l in cc))
 
 abbrev Found : Type 0
 Found = Option (Bor QName × Bor Image)

@@ -1,11 +1,9 @@
 -- Declarations of one theory, whose paths are found by their names.
 use Rattle.std.proofs.Common.{◌≡◌, List, [], ◌∷◌, ◌++◌, map, cond, Some, ◌&&◌, refl, sym, ap, ◌∙◌, subst}
 use Rattle.std.specs.Prelude.{nat_eq, slice_get}
-use Rattle.std.specs.Map.{keys_of, values_of}
 use Rattle.std.proofs.lemmas.Bool.{eq-eqb}
 use Rattle.name_meaning.specs.Names.{Name, Path, same_name}
 use Rattle.lf_meaning.specs.Signatures.{same_constant}
-use Rattle.base_types.specs.declared.qname.QName.{QName}
 use Rattle.term_trees.specs.Readings.{read_constant}
 use Rattle.term_trees.specs.declared.flat_decl.FlatDecl.{FlatDecl}
 use Rattle.term_trees.proofs.Below.Equality.{pointwise_itself}
@@ -22,41 +20,34 @@ found_by_name theory path (d ∷ decls) h = λ i. cond (same i) (Some d) (found_
         ap (λ t. same_name theory t && same_path path d.name.path) h.0 ∙ ap (λ b. b && same_path path d.name.path) (pointwise_itself nat_eq (λ i. eq-eqb i i refl) theory)
         ∙ same_path_turned path d.name.path
 
--- Entries under the names of their declarations.
-abbrev AreKeyed : List (QName × FlatDecl) → Type 0
-AreKeyed es = keys_of es ≡ map (λ (d : FlatDecl). d.name) (values_of es)
+-- All are of the theory of the first one.
+pub declared_in_first : (decls : List FlatDecl) (d : FlatDecl) → slice_get decls 0 ≡ Some d → AreOfOneTheory decls → AreDeclaredIn d.name.theory decls
+declared_in_first [] d here one = absurd (cc)
+declared_in_first (e ∷ decls) d here one =
+    let is : e ≡ d = cc in
+    subst (λ t. AreDeclaredIn t (e ∷ decls)) (ap (λ (x : FlatDecl). x.name.theory) is) (refl, one)
 
--- All are of the theory of the first name.
-pub declared_in_first : (es : List (QName × FlatDecl)) (name : QName) (d : FlatDecl) → AreKeyed es → slice_get es 0 ≡ Some (name, d) → AreOfOneTheory (values_of es) → AreDeclaredIn name.theory (values_of es)
-declared_in_first [] name d keyed here one = absurd (cc)
-declared_in_first (e ∷ es) name d keyed here one =
-    let first : e.0 ≡ e.1.name = cc in
-    let is : e.0 ≡ name = cc in
-    subst (λ t. AreDeclaredIn t (values_of (e ∷ es))) (ap (λ (q : QName). q.theory) (sym first ∙ is)) (refl, one)
-
-declared_last : (theory : Name) (es : List (QName × FlatDecl)) (d : FlatDecl) → d.name.theory ≡ theory → AreDeclaredIn theory (values_of es) → AreDeclaredIn theory (values_of (es ++ (d.name, d) ∷ []))
+declared_last : (theory : Name) (decls : List FlatDecl) (d : FlatDecl) → d.name.theory ≡ theory → AreDeclaredIn theory decls → AreDeclaredIn theory (decls ++ d ∷ [])
 declared_last theory [] d h in_it = (h, tt)
-declared_last theory (e ∷ es) d h in_it = (in_it.0, declared_last theory es d h in_it.1)
+declared_last theory (e ∷ decls) d h in_it = (in_it.0, declared_last theory decls d h in_it.1)
 
 -- One more of the theory of the first.
-pub one_grows : (es : List (QName × FlatDecl)) (d : FlatDecl) → AreKeyed es → IsOfFirst d.name.theory (keys_of es) → AreOfOneTheory (values_of es) → AreOfOneTheory (values_of (es ++ (d.name, d) ∷ []))
-one_grows [] d keyed h one = tt
-one_grows (e ∷ es) d keyed h one =
-    let first : e.0 ≡ e.1.name = cc in
-    declared_last e.1.name.theory es d (sym h ∙ ap (λ (q : QName). q.theory) first) one
+pub one_grows : (decls : List FlatDecl) (d : FlatDecl) → IsOfFirst d.name.theory (map (λ (e : FlatDecl). e.name) decls) → AreOfOneTheory decls → AreOfOneTheory (decls ++ d ∷ [])
+one_grows [] d h one = tt
+one_grows (e ∷ decls) d h one = declared_last e.name.theory decls d (sym h) one
 
-declared_before : (theory : Name) (es : List (QName × FlatDecl)) (last : QName × FlatDecl) → AreDeclaredIn theory (values_of (es ++ last ∷ [])) → AreDeclaredIn theory (values_of es)
+declared_before : (theory : Name) (decls : List FlatDecl) (last : FlatDecl) → AreDeclaredIn theory (decls ++ last ∷ []) → AreDeclaredIn theory decls
 declared_before theory [] last in_it = tt
-declared_before theory (e ∷ es) last in_it = (in_it.0, declared_before theory es last in_it.1)
+declared_before theory (e ∷ decls) last in_it = (in_it.0, declared_before theory decls last in_it.1)
 
 -- The last one goes.
-pub one_shrinks : (es : List (QName × FlatDecl)) (last : QName × FlatDecl) → AreOfOneTheory (values_of (es ++ last ∷ [])) → AreOfOneTheory (values_of es)
+pub one_shrinks : (decls : List FlatDecl) (last : FlatDecl) → AreOfOneTheory (decls ++ last ∷ []) → AreOfOneTheory decls
 one_shrinks [] last one = tt
-one_shrinks (e ∷ es) last one = declared_before e.1.name.theory es last one
+one_shrinks (e ∷ decls) last one = declared_before e.name.theory decls last one
 
--- The first name is of a theory.
-pub first_is_of : (es : List (QName × FlatDecl)) (name : QName) (d : FlatDecl) (theory : Name) → slice_get es 0 ≡ Some (name, d) → name.theory ≡ theory → IsOfFirst theory (keys_of es)
-first_is_of [] name d theory here h = tt
-first_is_of (e ∷ es) name d theory here h =
-    let is : e.0 ≡ name = cc in
-    ap (λ (q : QName). q.theory) is ∙ h
+-- The first one is of a theory.
+pub first_is_of : (decls : List FlatDecl) (d : FlatDecl) (theory : Name) → slice_get decls 0 ≡ Some d → d.name.theory ≡ theory → IsOfFirst theory (map (λ (e : FlatDecl). e.name) decls)
+first_is_of [] d theory here h = tt
+first_is_of (e ∷ decls) d theory here h =
+    let is : e ≡ d = cc in
+    ap (λ (x : FlatDecl). x.name.theory) is ∙ h

@@ -1,7 +1,7 @@
 -- Look-up by name in flat signatures and in maps of constants (this profile).
 use Rattle.std.specs.Prelude.{◌≡◌, ℕ, Bool, List, [], ◌∷◌, ◌++◌, Option, is_some, if◌then◌else◌, map, position, ⊤}
 use Rattle.std.specs.List.{find, IsDistinct}
-use Rattle.std.specs.Map.{keys_of, values_of, lookup}
+use Rattle.std.specs.Map.{keys_of, lookup}
 use lib.Pointwise.{pointwise}
 use Rattle.name_meaning.specs.Names.{Name, Path, same_name}
 use Rattle.lf_meaning.specs.Terms.{Constant}
@@ -52,10 +52,6 @@ HasFirstPlaces places decls = (path : Path) → lookup (same_path path) places �
 -- The table with the index of a declaration, unless its path has one.
 abbrev pub with_place : List (Path × ℕ) → Path → ℕ → List (Path × ℕ)
 with_place places path index = if is_some (lookup (same_path path) places) then places else places ++ (path, index) ∷ []
-
--- Declarations under their names, and the first place of each path.
-abbrev pub AreTables : List (Path × ℕ) → List (QName × FlatDecl) → Type 0
-AreTables places es = (keys_of es ≡ map (λ (d : FlatDecl). d.name) (values_of es)) × HasFirstPlaces places (values_of es)
 
 -- Declarations of this theory alone.
 abbrev pub AreDeclaredIn : Name → List FlatDecl → Type 0

@@ -1,20 +1,21 @@
-//! Flat signatures: declarations in order, with a table of their names, and one of their paths where they are of several theories.
-ghost use Rattle.std.specs.Prelude.{◌≡◌, ◌↔◌, ◌≤◌, ◌-◌, ◌∷◌, ◌++◌, [], length, slice_get, take, IfErr, IfOk, IfSome, IsErrOf, IsSome, None, Some, MatchOption, OnErr, OnOk, IsNone, if◌then◌else◌, true};
+//! Flat signatures: declarations in order, in a table that finds them by their names, and one of their paths where they are of several theories.
+ghost use Rattle.std.specs.Prelude.{◌≡◌, ◌↔◌, ◌≤◌, ◌-◌, ◌∷◌, ◌++◌, [], length, slice_get, take, IfErr, IfOk, IfSome, IsErrOf, IsSome, None, Some, MatchOption, OnErr, OnOk, IsNone, if◌then◌else◌, map, true};
 ghost use Rattle.std.specs.List.{find};
-ghost use Rattle.std.specs.Map.{keys_of, lookup, values_of};
+ghost use Rattle.std.specs.Map.{lookup};
 ghost use Rattle.std.specs.Option.{option_copied, option_map};
 ghost use Rattle.name_meaning.specs.Names as names;
-ghost use Rattle.lf_meaning.specs.Signatures.{declaration_of, same_constant, Declaration};
+ghost use Rattle.lf_meaning.specs.Signatures.{declaration_of, Declaration};
 ghost use Rattle.library_meaning.specs.Words.{identity_map, identity_mapping, own_value};
 ghost use Rattle.term_trees.specs.Readings.{read_constant, read_declaration, read_image, read_map, read_signature, read_value};
 ghost use Rattle.lf_terms.specs.Identities.{AreIdentity};
-ghost use Rattle.lf_terms.specs.Tables.{declared, first_with_path, handed_back, place_of, same_path, with_place, AreOfOneTheory, AreTables, HasDistinctNames, HasFirstPlaces, IsOfFirst};
+ghost use Rattle.lf_terms.specs.Tables.{declared, first_with_path, handed_back, place_of, same_path, with_place, AreOfOneTheory, HasDistinctNames, HasFirstPlaces, IsOfFirst};
 ghost use Rattle.lf_terms.specs.declared.flat_sig.PushFault.TheVariants.{Twice};
 
 use crate::map_part::MapPart;
+use crate::named::{ByName, Named, found_declaration};
 use crate::path_names::{NamesIn, PathNames};
 use base_types::{Arc, Memory, Name, Path, QName};
-use indexmap::IndexMap;
+use indexmap::{IndexMap, IndexSet};
 use std::alloc::Global;
 use std::marker::Model;
 use term_trees::{FlatDecl, Image, Value};
@@ -22,8 +23,8 @@ use term_trees::{FlatDecl, Image, Value};
 /// Declarations of different names, seen as the list of them, in the order in which they came.
 #[derive(Debug, Drop)]
 pub struct FlatSig {
-    /// Each declaration under a copy of its name, over the same bytes.
-    decls: IndexMap<QName, FlatDecl>,
+    /// Each declaration, found by its own name.
+    decls: IndexSet<Named>,
     by_path: ByPath,
     /// The images that the identity gives to these declarations, if they were made since the last of them came or went.
     identity: Option<Arc<MapPart>>,
@@ -39,8 +40,7 @@ enum ByPath {
 }
 
 impl Model for FlatSig {
-    ghost use Rattle.std.specs.Prelude.{◌≡◌, List, map};
-    ghost use Rattle.std.specs.Map.{keys_of, values_of};
+    ghost use Rattle.std.specs.Prelude.{List};
     ghost use Rattle.std.specs.Coded.{codes};
     ghost use Rattle.term_trees.specs.declared.flat_decl.FlatDecl.{FlatDecl};
     ghost use Rattle.term_trees.specs.contracts.flat_decl.FlatDecl as e;
@@ -51,9 +51,9 @@ impl Model for FlatSig {
 
     ghost coded = { Prim.hlevel (codes, e.the_row.coded) };
 
-    ghost view = { λ s. values_of s.decls.entries };
+    ghost view = { λ s. s.decls.keys };
 
-    ghost invariant = { λ s. ((keys_of s.decls.entries ≡ map (λ d. d.name) (values_of s.decls.entries)) × FindsPaths s.by_path (values_of s.decls.entries)) × AreIdentity s.identity (values_of s.decls.entries) };
+    ghost invariant = { λ s. FindsPaths s.by_path s.decls.keys × AreIdentity s.identity s.decls.keys };
 }
 
 /// Why a declaration was not added. It comes back with the reason.
@@ -71,7 +71,7 @@ impl FlatSig {
         ensures { result ≡ [] }
     {
         FlatSig {
-            decls: IndexMap::new(alloc),
+            decls: IndexSet::new(alloc),
             by_path: ByPath::OneTheory,
             identity: None,
         }
@@ -92,7 +92,7 @@ impl FlatSig {
         ensures twice { IsErrOf result (Twice decl) ↔ IsSome (declared self.old decl.name) }
         ensures back { IfErr result (λ fault. handed_back fault ≡ decl) }
     {
-        if self.decls.contains_key(&decl.name) {
+        if self.get(&decl.name).is_some() {
             return Err(PushFault::Twice(decl));
         }
         match self.append(decl) {
@@ -141,7 +141,7 @@ impl FlatSig {
         ensures declaration { option_copied result ≡ declared self.now name.now }
         ensures meaning { option_map (λ d. read_declaration d.now) result ≡ declaration_of (read_signature self.now) (read_constant name.now) }
     {
-        self.decls.get(name)
+        found_declaration(self.decls.get(ByName(name)))
     }
 
     /// The index of the declaration of a name, counted from 0. None exactly where the name is not there. It takes
@@ -150,7 +150,7 @@ impl FlatSig {
         ensures index { result ≡ place_of self.now name.now }
         ensures meaning { MatchOption result (declaration_of (read_signature self.now) (read_constant name.now) ≡ None) (λ i. slice_get (read_signature self.now) i ≡ declaration_of (read_signature self.now) (read_constant name.now)) }
     {
-        self.decls.get_index_of(name)
+        self.decls.get_index_of(ByName(name))
     }
 
     /// The declaration at an index. None exactly where the index is past the end.
@@ -159,10 +159,7 @@ impl FlatSig {
         ensures none { IsNone result ↔ (length self.now ≤ i) }
         ensures meaning { option_map (λ d. read_declaration d.now) result ≡ slice_get (read_signature self.now) i }
     {
-        match self.decls.get_index(i) {
-            Some((_, decl)) => Some(decl),
-            None => None,
-        }
+        found_declaration(self.decls.get_index(i))
     }
 
     /// The first declaration of a path. None exactly where there is none. It takes expected constant time, by a hash
@@ -184,11 +181,11 @@ impl FlatSig {
     fn own_at(&self, path: &[Name]) -> Option<&FlatDecl>
         ensures { AreOfOneTheory self.now → option_copied result ≡ first_with_path self.now path.now }
     {
-        let (first, _) = self.decls.get_index(0)?;
-        self.decls.get(NamesIn {
-            theory: &first.theory,
+        let first = self.at(0)?;
+        found_declaration(self.decls.get(NamesIn {
+            theory: &first.name.theory,
             names: path,
-        })
+        }))
     }
 
     /// Keeps the first `len` declarations, and lets the others go. It takes no memory.
@@ -205,8 +202,8 @@ impl FlatSig {
         ensures { self.new ≡ take (length self.old - 1) self.old }
     {
         self.identity = None;
-        if let Some((name, decl)) = self.decls.pop() {
-            drop(name);
+        if let Some(named) = self.decls.pop() {
+            let decl = named.into_declaration();
             if let ByPath::Table(places) = &mut self.by_path {
                 leave(places, &decl.name.path, self.decls.len());
             }
@@ -260,23 +257,23 @@ impl FlatSig {
 }
 
 /// Whether the first declaration, if there is one, is of this theory.
-fn is_of_theory(decls: &IndexMap<QName, FlatDecl>, theory: &Name) -> bool
-    ensures { result ≡ true → IsOfFirst theory.now (keys_of decls.now.entries) }
+fn is_of_theory(decls: &IndexSet<Named>, theory: &Name) -> bool
+    ensures { result ≡ true → IsOfFirst theory.now (map (λ d. d.name) decls.now.keys) }
 {
     match decls.get_index(0) {
-        Some((first, _)) => first.theory == *theory,
+        Some(first) => first.declaration().name.theory == *theory,
         None => true,
     }
 }
 
 /// The index of the first declaration of each path.
-fn first_places(decls: &IndexMap<QName, FlatDecl>) -> Result<IndexMap<Path, usize>, Memory>
-    ensures { IfOk result (λ places. HasFirstPlaces places.entries (values_of decls.now.entries)) }
+fn first_places(decls: &IndexSet<Named>) -> Result<IndexMap<Path, usize>, Memory>
+    ensures { IfOk result (λ places. HasFirstPlaces places.entries decls.now.keys) }
 {
     let mut places = IndexMap::new(*decls.allocator());
     for index in 0..decls.len() {
-        if let Some((_, decl)) = decls.get_index(index) {
-            note_place(&mut places, &decl.name.path, index)?;
+        if let Some(named) = decls.get_index(index) {
+            note_place(&mut places, &named.declaration().name.path, index)?;
         }
     }
     Ok(places)
@@ -294,18 +291,17 @@ fn note_place(places: &mut IndexMap<Path, usize>, path: &Path, index: usize) -> 
     Ok(())
 }
 
-/// Adds a declaration under a copy of its name, which is new, and its index under a copy of its path, unless that has one; or hands it
-/// back for want of memory.
+/// Adds a declaration of a new name, and its index under a copy of its path, unless that has one; or hands it back for want of memory.
 fn insert_in_both(
-    decls: &mut IndexMap<QName, FlatDecl>,
+    decls: &mut IndexSet<Named>,
     places: &mut IndexMap<Path, usize>,
     decl: FlatDecl,
 ) -> Result<(), FlatDecl>
-    requires name { lookup (λ q. same_constant (read_constant decl.name) (read_constant q)) decls.old.entries ≡ None }
-    requires tables { AreTables places.old.entries decls.old.entries }
-    ensures ok { OnOk result (decls.new.entries ≡ decls.old.entries ++ (decl.name, decl) ∷ []) }
-    ensures err { OnErr result (decls.new.entries ≡ decls.old.entries) }
-    ensures tables { AreTables places.new.entries decls.new.entries }
+    requires name { declared decls.old.keys decl.name ≡ None }
+    requires tables { HasFirstPlaces places.old.entries decls.old.keys }
+    ensures ok { OnOk result (decls.new.keys ≡ decls.old.keys ++ decl ∷ []) }
+    ensures err { OnErr result (decls.new.keys ≡ decls.old.keys) }
+    ensures tables { HasFirstPlaces places.new.entries decls.new.keys }
     ensures back { IfErr result (λ back. back ≡ decl) }
 {
     if places.contains_key(&decl.name.path) {
@@ -315,41 +311,30 @@ fn insert_in_both(
     }
 }
 
-/// Adds a declaration under a copy of its name, which is new, or hands it back for want of memory.
-fn insert(decls: &mut IndexMap<QName, FlatDecl>, decl: FlatDecl) -> Result<(), FlatDecl>
-    requires { lookup (λ q. same_constant (read_constant decl.name) (read_constant q)) decls.old.entries ≡ None }
-    ensures ok { OnOk result (decls.new.entries ≡ decls.old.entries ++ (decl.name, decl) ∷ []) }
-    ensures err { OnErr result (decls.new.entries ≡ decls.old.entries) }
+/// Adds a declaration of a new name, or hands it back for want of memory.
+fn insert(decls: &mut IndexSet<Named>, decl: FlatDecl) -> Result<(), FlatDecl>
+    requires { declared decls.old.keys decl.name ≡ None }
+    ensures ok { OnOk result (decls.new.keys ≡ decls.old.keys ++ decl ∷ []) }
+    ensures err { OnErr result (decls.new.keys ≡ decls.old.keys) }
     ensures back { IfErr result (λ back. back ≡ decl) }
 {
-    let alloc = *decls.allocator();
-    let Ok(name) = decl.name.copy(alloc) else {
-        return Err(decl);
-    };
-    match decls.insert(name, decl) {
-        Ok(previous) => {
-            drop(previous);
-            Ok(())
-        }
-        Err(failed) => {
-            let (name, decl) = failed.value;
-            drop(name);
-            Err(decl)
-        }
+    match decls.insert(Named::new(decl)) {
+        Ok(_) => Ok(()),
+        Err(failed) => Err(failed.value.into_declaration()),
     }
 }
 
 /// Adds a declaration of a new path as `insert` does, and its index under a copy of the path.
 fn insert_first(
-    decls: &mut IndexMap<QName, FlatDecl>,
+    decls: &mut IndexSet<Named>,
     by_path: &mut IndexMap<Path, usize>,
     decl: FlatDecl,
 ) -> Result<(), FlatDecl>
-    requires name { lookup (λ q. same_constant (read_constant decl.name) (read_constant q)) decls.old.entries ≡ None }
+    requires name { declared decls.old.keys decl.name ≡ None }
     requires path { lookup (same_path decl.name.path) by_path.old.entries ≡ None }
-    ensures ok { OnOk result (decls.new.entries ≡ decls.old.entries ++ (decl.name, decl) ∷ []) }
-    ensures ok_path { OnOk result (by_path.new.entries ≡ by_path.old.entries ++ (decl.name.path, length decls.old.entries) ∷ []) }
-    ensures err { OnErr result (decls.new.entries ≡ decls.old.entries) }
+    ensures ok { OnOk result (decls.new.keys ≡ decls.old.keys ++ decl ∷ []) }
+    ensures ok_path { OnOk result (by_path.new.entries ≡ by_path.old.entries ++ (decl.name.path, length decls.old.keys) ∷ []) }
+    ensures err { OnErr result (decls.new.keys ≡ decls.old.keys) }
     ensures err_path { OnErr result (by_path.new.entries ≡ by_path.old.entries) }
     ensures back { IfErr result (λ back. back ≡ decl) }
 {

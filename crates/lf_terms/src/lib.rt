@@ -5,6 +5,7 @@
 mod flat_sig;
 mod head_map;
 mod map_part;
+mod named;
 mod path_names;
 
 pub use base_types::{

@@ -1,15 +1,13 @@
 //! Names in the place of the path that they make, and of a constant.
 ghost use Rattle.std.specs.Prelude.{nat_eq};
-ghost use Rattle.std.specs.Cmp.{decided, unsigned_Decides};
+ghost use Rattle.std.specs.Cmp.{unsigned_Decides};
 ghost use Rattle.std.specs.Cmp.Lexicographic.{pointwise, pointwise_decides, lists_equiv, nat_list_eq_equiv};
 ghost use Rattle.std.specs.Hash as fed;
 ghost use Rattle.base_types.specs.Digests.{digest_of};
 ghost use Rattle.lf_terms.specs.NamedConstants.{fed_of, named_by};
-ghost use Rattle.lf_meaning.specs.Signatures.{same_constant};
-ghost use Rattle.term_trees.specs.Readings.{read_constant};
 ghost use Rattle.term_trees.proofs.Below.Equality.{same_constant_decides};
 
-use base_types::{Name, Path, QName, digest_of};
+use base_types::{Name, Path, digest_of};
 use indexmap::Equivalent;
 use std::hash::{Hash, Hasher};
 
@@ -54,17 +52,5 @@ impl Hash for NamesIn<'_> {
     fn hash<H: Hasher>(&self, state: &mut H) {
         self.theory.hash(state);
         PathNames(self.names).hash(state);
-    }
-}
-
-impl Equivalent<QName> for NamesIn<'_> {
-    ghost equivalent = { λ q c. same_constant (named_by q) (read_constant c) };
-
-    ghost respects_hash = { λ q c. (fed.same_Alike fed_of same_constant_decides).fed (named_by q) (read_constant c) };
-
-    ghost respects_eq = { λ q c d. (decided same_constant same_constant_decides).congr (named_by q) (read_constant c) (read_constant d) };
-
-    fn equivalent(&self, key: &QName) -> bool {
-        *self.theory == key.theory && self.names == key.path.as_slice()
     }
 }

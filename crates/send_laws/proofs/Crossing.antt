@@ -14,6 +14,7 @@ use Rattle.std.specs.contracts.hash.FoldHasher as hasher
 use Rattle.std.specs.contracts.option.Option as option
 use Rattle.std.specs.contracts.sync.Arc as counted
 use Rattle.indexmap.proofs.map.IndexMap.TheSendSync as tables
+use Rattle.indexmap.proofs.set.IndexSet.TheSendSync as sets
 use Rattle.base_types.specs.contracts.name.Name as name
 use Rattle.base_types.specs.contracts.path.Path as path
 use Rattle.base_types.specs.contracts.qname.QName as constant
@@ -43,6 +44,8 @@ use Rattle.lf_terms.specs.contracts.head_map.HeadMap as head_map
 use Rattle.lf_terms.specs.contracts.head_map.HeadMap.TheInside as head_map_inside
 use Rattle.lf_terms.specs.contracts.map_part.MapPart as map_part
 use Rattle.lf_terms.specs.contracts.map_part.MapPart.TheInside as map_part_inside
+use Rattle.lf_terms.specs.contracts.named.Named as named
+use Rattle.lf_terms.specs.contracts.named.Named.TheInside as named_inside
 use Rattle.mmt_interface.specs.contracts.face.StructFace as structure
 use Rattle.mmt_interface.specs.contracts.face.TheoryFace as theory
 use Rattle.mmt_interface.specs.contracts.face.ViewFace as view_face
@@ -178,9 +181,15 @@ by_path_send = enum_send (enum.shape by_path.the_type) (
   ),
 )
 
+named_inside_send : IsSend named_inside.the_row
+named_inside_send = recorded_send (named_inside.the_field).row _ _ (named_inside.the_type).to_one (struct_send (shape named_inside.the_type) (declaration_row_send, tt))
+
+named_send : IsSend named.the_row
+named_send = view_send named_inside.the_row _ _ _ _ named_inside_send
+
 signature_inside_send : IsSend signature_inside.the_row
 signature_inside_send = recorded_send (signature_inside.the_field).row _ _ (signature_inside.the_type).to_one (struct_send (shape signature_inside.the_type) (
-  tables.the_send constant.the_row declaration.the_row (hashers.the_row hasher.the_row) heap.the_row hasher.the_row _ _ _ _ ghosts constants.the_send declaration_row_send (search sendable depth 20) send frees,
+  sets.the_send named.the_row (hashers.the_row hasher.the_row) heap.the_row hasher.the_row _ _ _ _ ghosts named_send (search sendable depth 20) send frees,
   (by_path_send, (option_part_send, tt)),
 ))
 
@@ -232,9 +241,15 @@ by_path_sync = enum_sync (enum.shape by_path.the_type) (
   ),
 )
 
+named_inside_sync : IsSync named_inside.the_row
+named_inside_sync = recorded_sync (named_inside.the_field).row _ _ (named_inside.the_type).to_one (struct_sync (shape named_inside.the_type) (declaration_row_sync, tt))
+
+named_sync : IsSync named.the_row
+named_sync = view_sync named_inside.the_row _ _ _ _ named_inside_sync
+
 signature_inside_sync : IsSync signature_inside.the_row
 signature_inside_sync = recorded_sync (signature_inside.the_field).row _ _ (signature_inside.the_type).to_one (struct_sync (shape signature_inside.the_type) (
-  tables.the_sync constant.the_row declaration.the_row (hashers.the_row hasher.the_row) heap.the_row hasher.the_row _ _ _ _ ghosts constants.the_sync declaration_row_sync (search sendable depth 20) sync,
+  sets.the_sync named.the_row (hashers.the_row hasher.the_row) heap.the_row hasher.the_row _ _ _ _ ghosts named_sync (search sendable depth 20) sync,
   (by_path_sync, (option_part_sync, tt)),
 ))
 

@@ -1,28 +1,23 @@
-use Rattle.std.proofs.Common.{subst}
-use Rattle.std.specs.Map.{values_of}
-use Rattle.lf_terms.specs.Tables.{AreTables, FindsPaths}
-use Rattle.term_trees.specs.declared.flat_decl.FlatDecl.{FlatDecl}
-use Rattle.lf_terms.proofs.FlatTables.{tables_leave}
-use Rattle.lf_terms.proofs.KeyedEntries.{keyed_popped}
+use Rattle.std.proofs.Common.{◌≡◌, ◌∷◌, ◌++◌, [], sym, ap, subst, ◌∙◌}
+use Rattle.lf_terms.specs.Tables.{FindsPaths, HasFirstPlaces, AreOfOneTheory}
+use Rattle.lf_terms.proofs.FlatTables.{table_leaves}
 use Rattle.lf_terms.proofs.OneTheory.{one_shrinks}
 use Rattle.lf_terms.proofs.flat_sig.FlatSig.drop_last.Goals as goal
 use Rattle.lf_terms.proofs.flat_sig.FlatSig.drop_last.Goals.{in-Table, in_default-by_path}
 
 pub invariant_of-self : goal.invariant_of-self
 invariant_of-self c =
-    let left = c.pop.new.self.entries in
-    let name = c.in-Some.name in
-    let d = c.in-Some.decl in
+    let left = c.pop.new.self.keys in
+    let decls = c.self.inside.decls.keys in
+    let d = c.into_declaration-decl.result in
+    let popped : decls ≡ left ++ d ∷ [] = c.in-Some.ensures.keys ∙ ap (λ e. left ++ e ∷ []) (sym c.into_declaration-decl.ensures) in
     elim c.match-self-2.branch [
       | in-Table w ↦
           let places = w.in-Table.places.entries in
-          let held = subst (λ by_path. FindsPaths by_path (values_of c.self.inside.decls.entries)) w.in-Table.is c.self.invariant.0.1 in
-          let before = subst (AreTables places) c.in-Some.ensures.entries (c.self.invariant.0.0, held) in
-          rw w.self-inside-is (tables_leave places left d name before w.leave.new.by_path.entries w.len.result w.len.ensures.len w.leave.ensures.gone w.leave.ensures.stays, tt)
+          let held = subst (λ by_path. FindsPaths by_path decls) w.in-Table.is c.self.invariant.0 in
+          let before = subst (HasFirstPlaces places) popped held in
+          rw w.self-inside-is (table_leaves places left d before w.leave.new.by_path.entries w.len.result w.len.ensures.len w.leave.ensures.gone w.leave.ensures.stays, tt)
       | in_default-by_path w ↦
-          let held = subst (λ by_path. FindsPaths by_path (values_of c.self.inside.decls.entries)) w.in_default-by_path.is c.self.invariant.0.1 in
-          rw w.self-inside-is (
-            (keyed_popped (λ (e : FlatDecl). e.name) left (name, d) (rw (← c.in-Some.ensures.entries) c.self.invariant.0.0), rw w.in_default-by_path.is (one_shrinks left (name, d) (rw (← c.in-Some.ensures.entries) held))),
-            tt,
-          )
+          let held = subst (λ by_path. FindsPaths by_path decls) w.in_default-by_path.is c.self.invariant.0 in
+          rw w.self-inside-is (rw w.in_default-by_path.is (one_shrinks left d (subst AreOfOneTheory popped held)), tt)
     ]

@@ -1,6 +1,5 @@
 use Rattle.std.proofs.Common.{◌≡◌, Option, Some, None, sym, ap, subst, ◌∙◌}
 use Rattle.std.specs.Prelude.{slice_get}
-use Rattle.std.specs.Map.{values_of}
 use Rattle.std.specs.Option.{option_map}
 use Rattle.term_trees.specs.Readings.{read_declaration}
 use Rattle.term_trees.specs.declared.flat_decl.FlatDecl.{FlatDecl}
@@ -10,7 +9,7 @@ use Rattle.lf_terms.proofs.flat_sig.FlatSig.first_at.Goals as goal
 use Rattle.lf_terms.proofs.flat_sig.FlatSig.first_at.Goals.{After-at, After-own_at, In-None}
 
 one : (c : After-own_at) → AreOfOneTheory c.args.self.now
-one c = rw (← c.self.view_is) (subst (λ by_path. FindsPaths by_path (values_of c.self.inside.decls.entries)) c.in-OneTheory.is c.self.invariant.0.1)
+one c = rw (← c.self.view_is) (subst (λ by_path. FindsPaths by_path c.self.inside.decls.keys) c.in-OneTheory.is c.self.invariant.0)
 
 pub returns-in-OneTheory-clause-meaning : goal.returns-in-OneTheory-clause-meaning
 returns-in-OneTheory-clause-meaning c =
@@ -21,7 +20,7 @@ returns-in-OneTheory-clause-declaration c = c.own_at.ensures (one c)
 
 there : (c : After-at) → first_place c.args.self.now c.args.path.now ≡ Some c.in-Some.index.now
 there c =
-    let places = subst (λ by_path. FindsPaths by_path (values_of c.self.inside.decls.entries)) c.in-Table.is c.self.invariant.0.1 in
+    let places = subst (λ by_path. FindsPaths by_path c.self.inside.decls.keys) c.in-Table.is c.self.invariant.0 in
     rw (← c.self.view_is) (sym (places c.args.path.now) ∙ sym c.in-Some.ensures.value)
 
 found : (c : After-at) → slice_get c.args.self.now c.in-Some.index.now ≡ first_with_path c.args.self.now c.args.path.now
@@ -29,7 +28,7 @@ found c = sym (found_there (λ (d : FlatDecl). same_path d.name.path c.args.path
 
 none : (c : In-None) → ◌≡◌ {A = Option FlatDecl} None (first_with_path c.args.self.now c.args.path.now)
 none c =
-    let places = subst (λ by_path. FindsPaths by_path (values_of c.self.inside.decls.entries)) c.in-Table.is c.self.invariant.0.1 in
+    let places = subst (λ by_path. FindsPaths by_path c.self.inside.decls.keys) c.in-Table.is c.self.invariant.0 in
     let absent : first_place c.args.self.now c.args.path.now ≡ None = rw (← c.self.view_is) (sym (places c.args.path.now) ∙ sym c.in-None.ensures.value) in
     sym (none_found (λ (d : FlatDecl). same_path d.name.path c.args.path.now) c.args.self.now absent)
 

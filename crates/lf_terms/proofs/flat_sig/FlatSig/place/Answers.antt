@@ -1,15 +1,11 @@
-use Rattle.std.proofs.Common.{◌≡◌, ◌∙◌}
+use Rattle.std.proofs.Common.{◌≡◌}
 use Rattle.lf_terms.specs.Tables.{place_of}
-use Rattle.lf_terms.proofs.SameName.{same_qname}
-use Rattle.term_trees.specs.declared.flat_decl.FlatDecl.{FlatDecl}
-use Rattle.lf_terms.proofs.KeyedEntries.{place_by_key}
 use Rattle.lf_terms.proofs.Lookup.{place_read}
 use Rattle.lf_terms.proofs.flat_sig.FlatSig.place.Goals as goal
 use Rattle.lf_terms.proofs.flat_sig.FlatSig.place.Goals.{After-get_index_of}
 
 found : (c : After-get_index_of) → c.get_index_of.result ≡ place_of c.args.self.now c.args.name.now
-found c =
-    rw (← c.self.view_is) (c.get_index_of.ensures.index ∙ place_by_key (λ (d : FlatDecl). d.name) (same_qname c.args.name.now) c.self.inside.decls.entries c.self.invariant.0.0)
+found c = rw (← c.self.view_is) c.get_index_of.ensures.index
 
 pub returns-clause-index : goal.returns-clause-index
 returns-clause-index c = found c

@@ -1,25 +1,30 @@
-use Rattle.std.proofs.Common.{◌≡◌, true, false, is_some, refl, sym, ◌∙◌}
+use Rattle.std.proofs.Common.{◌≡◌, Bool, true, false, List, Option, None, Bor, is_some, refl, sym, ap, ◌∙◌}
+use Rattle.std.specs.Option.{option_copied}
+use Rattle.base_types.specs.declared.qname.QName.{QName}
+use Rattle.term_trees.specs.declared.flat_decl.FlatDecl.{FlatDecl}
+use Rattle.list_laws.proofs.Options.{copied_some, none_of}
 use Rattle.lf_terms.specs.Tables.{declared}
-use Rattle.lf_terms.proofs.Lookup.{contained_declared}
 use Rattle.lf_terms.proofs.flat_sig.FlatSig.push.Goals as goal
-use Rattle.list_laws.proofs.Options.{none_of}
 
-pub returns-then-contains_key-clause-twice : goal.returns-then-contains_key-clause-twice
-returns-then-contains_key-clause-twice c =
-    let there : is_some (declared c.args.self.now c.args.decl.name) ≡ true = rw (← c.self.view_is) (sym (contained_declared c.args.decl.name c.self.inside.decls.entries c.self.invariant.0.0) ∙ sym c.contains_key.ensures ∙ c.if-contains_key.true) in
+-- What the look-up says of the declaration.
+looked_up : (decls : List FlatDecl) (name : QName) (found : Option (Bor FlatDecl)) (some answer : Bool) → option_copied found ≡ declared decls name → some ≡ is_some found → some ≡ answer → is_some (declared decls name) ≡ answer
+looked_up decls name found some answer is told e = ap is_some (sym is) ∙ copied_some found ∙ sym told ∙ e
+
+pub returns-then-is_some-clause-twice : goal.returns-then-is_some-clause-twice
+returns-then-is_some-clause-twice c =
+    let there : is_some (declared c.args.self.now c.args.decl.name) ≡ true = looked_up c.args.self.now c.args.decl.name c.get.result c.is_some.result true c.get.ensures.declaration c.is_some.ensures c.if-is_some.true in
     (λ _. there, λ _. refl)
 
 pub append-requires : goal.append-requires
 append-requires c =
-    let absent : is_some (declared c.args.self.now c.args.decl.name) ≡ false = rw (← c.self.view_is) (sym (contained_declared c.args.decl.name c.self.inside.decls.entries c.self.invariant.0.0) ∙ sym c.contains_key.ensures ∙ c.if-contains_key.false) in
-    none_of (declared c.args.self.now c.args.decl.name) absent
+    none_of (declared c.args.self.now c.args.decl.name) (looked_up c.args.self.now c.args.decl.name c.get.result c.is_some.result false c.get.ensures.declaration c.is_some.ensures c.if-is_some.false)
 
 pub returns-in-Ok-clause-twice : goal.returns-in-Ok-clause-twice
 returns-in-Ok-clause-twice c =
-    let absent : is_some (declared c.args.self.now c.args.decl.name) ≡ false = rw (← c.self.view_is) (sym (contained_declared c.args.decl.name c.self.inside.decls.entries c.self.invariant.0.0) ∙ sym c.contains_key.ensures ∙ c.if-contains_key.false) in
+    let absent : is_some (declared c.args.self.now c.args.decl.name) ≡ false = looked_up c.args.self.now c.args.decl.name c.get.result c.is_some.result false c.get.ensures.declaration c.is_some.ensures c.if-is_some.false in
     (λ e. absurd (cc), λ e. absurd (cc))
 
 pub returns-in-Err-clause-twice : goal.returns-in-Err-clause-twice
 returns-in-Err-clause-twice c =
-    let absent : is_some (declared c.args.self.now c.args.decl.name) ≡ false = rw (← c.self.view_is) (sym (contained_declared c.args.decl.name c.self.inside.decls.entries c.self.invariant.0.0) ∙ sym c.contains_key.ensures ∙ c.if-contains_key.false) in
+    let absent : is_some (declared c.args.self.now c.args.decl.name) ≡ false = looked_up c.args.self.now c.args.decl.name c.get.result c.is_some.result false c.get.ensures.declaration c.is_some.ensures c.if-is_some.false in
     (λ e. absurd (cc), λ e. absurd (cc))
