@@ -182,10 +182,12 @@ impl FlatSig {
         ensures { AreOfOneTheory self.now → option_copied result ≡ first_with_path self.now path.now }
     {
         let first = self.at(0)?;
-        found_declaration(self.decls.get(NamesIn {
-            theory: &first.name.theory,
-            names: path,
-        }))
+        found_declaration(
+            self.decls.get(NamesIn {
+                theory: &first.name.theory,
+                names: path,
+            }),
+        )
     }
 
     /// Keeps the first `len` declarations, and lets the others go. It takes no memory.

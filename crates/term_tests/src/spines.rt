@@ -43,7 +43,10 @@ fn next_row(alloc: Global, last: Option<&Spine>, width: usize) -> Result<Spine, 
             Some(spine) => spine.copy(alloc)?,
             None => Spine::new(alloc),
         };
-        items.push(Obj::At { head: Head::Var(0), spine })?;
+        items.push(Obj::At {
+            head: Head::Var(0),
+            spine,
+        })?;
     }
     Spine::of(alloc, items)
 }

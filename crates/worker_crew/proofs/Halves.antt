@@ -8,11 +8,6 @@ pub moved : {X : Type 0} (R : ℕ → X → X → Type 0) {i j : ℕ} {x x' y y'
 moved R {i} {j} {x} {x'} {y} {y'} a b c r = subst (λ k. R k x' y') a (subst (λ u. R i u y') b (subst (R i x) c r))
 
 module _ {X : Type 0} (base : ℕ) (whole low high : List X) (cut : whole ≡ low ++ high) where
-  pub accepts_low : (P : ℕ → X → Type 0) → HoldsFrom P base whole → HoldsFrom P base low
-  accepts_low P all k d lt =
-      let many = ap length cut ∙ length-append low high in
-      subst (P (base + k)) (ap (λ z. get_or z k d) cut ∙ get_or_append_left low high d k lt) (all k d (omega (arith, many, lt)))
-
   at_high : (k : ℕ) (d : X) → get_or (low ++ high) (length low + k) d ≡ get_or high k d
   at_high k d =
       let rest : length low + k - length low ≡ k = omega arith in

@@ -59,32 +59,32 @@ fn run_both<
     T: Task<Output = B> + Drop,
     A: Send + Drop,
     B,
->(rt: &R, s: S, t: T) -> (A, B)
-    requires { S.can_run s × T.can_run t }
-    ensures { S.run_gives s result.0 × T.run_gives t result.1 }
+>(rt: &R, first: S, second: T) -> (A, B)
+    requires { S.can_run first × T.can_run second }
+    ensures { S.run_gives first result.0 × T.run_gives second result.1 }
 {
     scope(
         scope_env(),
         rt,
         move |threads| -> (A, B)
-            requires { S.can_run s × T.can_run t }
-            ensures { S.run_gives s result.0 × T.run_gives t result.1 }
+            requires { S.can_run first × T.can_run second }
+            ensures { S.run_gives first result.0 × T.run_gives second result.1 }
         {
-            let promise = Gives(Snapshot::of(&s));
-            let first = move || -> A
-                requires { S.can_run s }
-                ensures { S.run_gives s result }
-            { s.run() };
+            let promise = Gives(Snapshot::of(&first));
+            let task = move || -> A
+                requires { S.can_run first }
+                ensures { S.run_gives first result }
+            { first.run() };
             match Stack::new()
                 .stack_size(STACK)
-                .spawn_scoped_with(threads, promise, first)
+                .spawn_scoped_with(threads, promise, task)
             {
                 Ok(thread) => {
-                    let b = t.run();
+                    let b = second.run();
                     (thread.join(rt), b)
                 }
                 Err(refused) => {
-                    let b = t.run();
+                    let b = second.run();
                     ((refused.value)(), b)
                 }
             }
