@@ -182,7 +182,7 @@ by_path_send = enum_send (enum.shape by_path.the_type) (
 )
 
 named_inside_send : IsSend named_inside.the_row
-named_inside_send = recorded_send (named_inside.the_field).row _ _ (named_inside.the_type).to_one (struct_send (shape named_inside.the_type) (declaration_row_send, tt))
+named_inside_send = recorded_send (named_inside.the_field).row _ _ (named_inside.the_type).to_one (struct_send (shape named_inside.the_type) (declaration_send, tt))
 
 named_send : IsSend named.the_row
 named_send = view_send named_inside.the_row _ _ _ _ named_inside_send
@@ -242,7 +242,7 @@ by_path_sync = enum_sync (enum.shape by_path.the_type) (
 )
 
 named_inside_sync : IsSync named_inside.the_row
-named_inside_sync = recorded_sync (named_inside.the_field).row _ _ (named_inside.the_type).to_one (struct_sync (shape named_inside.the_type) (declaration_row_sync, tt))
+named_inside_sync = recorded_sync (named_inside.the_field).row _ _ (named_inside.the_type).to_one (struct_sync (shape named_inside.the_type) (declaration_sync, tt))
 
 named_sync : IsSync named.the_row
 named_sync = view_sync named_inside.the_row _ _ _ _ named_inside_sync
