@@ -1,0 +1,5 @@
+pub mod LongTerms
+pub mod Identity
+pub mod LongFamilies
+pub mod IdentityTyping
+pub mod LongValues

@@ -1,0 +1,4 @@
+pub mod LongTermLaws
+pub mod IdentityLaws
+pub mod LongValueLaws
+pub mod Examples

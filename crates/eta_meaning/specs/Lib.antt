@@ -1,0 +1,2 @@
+pub mod LongTerms
+pub mod LongValues
