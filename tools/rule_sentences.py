@@ -21,7 +21,7 @@ SENTENCES = {
     "ambiguous-name": "two included theories have the name {name}: write the theory in front (in {label})",
     "level": "a type stands where an object is wanted, or an object where a type is, or a kind, a product or an arrow has no place here (in {label})",
     "not-a-function": "{name} is one argument too many (in {label})",
-    "not-canonical": "{name} is not written in full: a function wants [x], a family all its arguments, and a function that is written out none (in {label})",
+    "not-canonical": "{name} is not written in full: a type wants all its arguments, and a function that is written out takes none (in {label})",
     "mismatch": "what begins with {name} has another type than the one that is wanted here (in {label})",
     "annotation": "the type that is written here for a variable is not the one that it has (in {label})",
     "unknown-target": "{name} is nothing that the domain declares itself; what the domain includes is mapped by %include",

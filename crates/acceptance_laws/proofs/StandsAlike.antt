@@ -40,10 +40,14 @@ module _ (one two : Scope) (goes : (variables : Variables) (path : Path) (resolv
           domain_stands = family_alike domain locals s.domain s.domain_stands;
           stands = object_alike body (with_local binder s.domain locals) s.codomain s.body s.stands;
         }
-    object_alike (NameExpr span path) locals family object s = (s.0, name_alike locals path (ObjectHead object family) s.1)
+    object_alike (NameExpr span path) locals family object s = record { outcome = s.outcome; stands = name_alike locals path (ObjectHead s.outcome family) s.stands; is = s.is }
     object_alike (AppExpr span function arguments) locals family object s =
-        let a = s.1 in
-        (s.0, record { first = a.first; begins = head_alike function locals a.first a.begins; takes = arguments_alike arguments locals a.first (ObjectHead object family) a.takes })
+        let a = s.stands in
+        record {
+          outcome = s.outcome;
+          stands = record { first = a.first; begins = head_alike function locals a.first a.begins; takes = arguments_alike arguments locals a.first (ObjectHead s.outcome family) a.takes };
+          is = s.is;
+        }
 
     head_alike : (expression : Expr) (locals : Locals) (head : Head) → StandsHead one locals expression head → StandsHead two locals expression head
     head_alike (NameExpr span path) locals head s = name_alike locals path head s
@@ -130,11 +134,16 @@ module _ (one two : Scope) (goes : (variables : Variables) (path : Path) (resolv
         domain_stands = family_alike domain locals s.domain s.domain_stands;
         stands = family_value_alike body (with_local binder s.domain locals) s.rest family s.stands;
       }
-  family_value_alike (NameExpr span path) locals kind family s = let f = s.1 in (s.0, (f.0, name_alike locals path (FamilyHead f.0 family Ty) f.1))
+  family_value_alike (NameExpr span path) locals kind family s =
+      record { binders = s.binders; outcome = s.outcome; stands = name_alike locals path (FamilyHead s.binders s.outcome kind) s.stands; is = s.is }
   family_value_alike (AppExpr span function arguments) locals kind family s =
-      let f = s.1 in
-      let a = f.1 in
-      (s.0, (f.0, record { first = a.first; begins = head_alike function locals a.first a.begins; takes = arguments_alike arguments locals a.first (FamilyHead f.0 family Ty) a.takes }))
+      let a = s.stands in
+      record {
+        binders = s.binders;
+        outcome = s.outcome;
+        stands = record { first = a.first; begins = head_alike function locals a.first a.begins; takes = arguments_alike arguments locals a.first (FamilyHead s.binders s.outcome kind) a.takes };
+        is = s.is;
+      }
   family_value_alike (TypeExpr span) locals kind family s = absurd s
   family_value_alike (PiExpr span binder domain body) locals kind family s = absurd s
   family_value_alike (ArrowExpr span domain body) locals kind family s = absurd s

@@ -15,14 +15,15 @@ use Rattle.library_meaning.specs.Words.{own_value}
 use Rattle.text_meaning.specs.Trees.{Expr, TypeExpr, NameExpr, AppExpr, PiExpr, LamExpr, TypedLamExpr, ArrowExpr, BackExpr, Exprs, NoArgs, ThenArg}
 use Rattle.elaborate_meaning.specs.Locals.{Local, Locals, with_local, variables_of}
 use Rattle.elaborate_meaning.specs.NameHeads.{class_head}
-use Rattle.translation_meaning.specs.AtomicFamilies.{IsAtomicFamily}
+use Rattle.elaborate_meaning.specs.Values.{expanded_family}
 use Rattle.elaborate_meaning.specs.Stands.{BeginsAs, NameStands, StandsObject, StandsHead, StandsArguments, StandsFamily, StandsKind, StandsClass, StandsFamilyValue, NameGives, BuildsValue, StandsValue}
 use Rattle.constant_laws.specs.ExpansionHolds.{scope_signature, ScopeHolds, LocalsHold, StandingObjectHolds, StandingHeadHolds, TakenArgumentsHold, StandingFamilyValueHolds, StandingFamilyHolds, StandingKindHolds, StandingClassHolds, StandingValueHolds}
 use Rattle.constant_laws.proofs.Declared.{class_in, class_at, value_at}
 use Rattle.constant_laws.proofs.Replaced.{raise_family_holds}
 use Rattle.constant_laws.specs.HeadsHold.{HeadHolds}
-use Rattle.constant_laws.proofs.Heads.{head_taken, domain_holds, whole_holds, whole_atomic, object_anywhere, family_anywhere, kind_anywhere, family_value_partly, constant_partly}
+use Rattle.constant_laws.proofs.Heads.{head_taken, domain_holds, whole_holds, object_anywhere, family_anywhere, kind_anywhere, family_value_partly, constant_partly}
 use Rattle.constant_laws.proofs.Translating.{object_value_holds, family_value_holds}
+use Rattle.constant_laws.proofs.OutcomesHold.{BodyHolds, outcome_holds, family_outcome_holds}
 use Rattle.std.proofs.lemmas.Option.{same_Some}
 
 -- ---- variables
@@ -113,9 +114,13 @@ module _ (scope : Scope) (signature : Signature) (declared_holds : (d : Declarat
     object_holds (TypedLamExpr span binder domain body) locals family object l f s =
         let g : FamilyHolds signature (length locals) (Pi s.domain s.codomain) = subst (FamilyHolds signature (length locals)) s.family_is f in
         subst (ObjectHolds signature (length locals)) (sym s.object_is) (object_holds body (with_local binder s.domain locals) s.codomain s.body (g.0, l) g.1 s.stands)
-    object_holds (NameExpr span path) locals family object l f s = (name_holds locals path (ObjectHead object family) l s.1).0
+    object_holds (NameExpr span path) locals family object l f s =
+        let h : HeadHolds signature (length locals) (ObjectHead s.outcome family) = name_holds locals path (ObjectHead s.outcome family) l s.stands in
+        subst (ObjectHolds signature (length locals)) (sym s.is) (outcome_holds signature family (length locals) s.outcome h.0)
     object_holds (AppExpr span function arguments) locals family object l f s =
-        let b = s.1 in (arguments_hold arguments locals b.first (ObjectHead object family) l (head_holds function locals b.first l b.begins) b.takes).0
+        let b = s.stands in
+        let h : HeadHolds signature (length locals) (ObjectHead s.outcome family) = arguments_hold arguments locals b.first (ObjectHead s.outcome family) l (head_holds function locals b.first l b.begins) b.takes in
+        subst (ObjectHolds signature (length locals)) (sym s.is) (outcome_holds signature family (length locals) s.outcome h.0)
 
     pub head_holds : (e : Expr) (locals : Locals) (head : Head) → LocalsHold signature locals → StandsHead scope locals e head → HeadHolds signature (length locals) head
     head_holds (NameExpr span path) locals head l s = name_holds locals path head l s
@@ -173,32 +178,25 @@ module _ (scope : Scope) (signature : Signature) (declared_holds : (d : Declarat
 
   -- ---- values
 
-  pub record BodyHolds (variables : ℕ) (family : Family) : Type 0 where
-    pub atomic : IsAtomicFamily family
-    pub holds : FamilyHolds signature variables family
+  family_outcome : (locals : Locals) (kind : Kind) (binders : ℕ) (outcome family : Family) → family ≡ expanded_family kind binders outcome → HeadHolds signature (length locals) (FamilyHead binders outcome kind) → BodyHolds signature (length locals + domain_count kind) family
+  family_outcome locals kind binders outcome family e h = subst (BodyHolds signature (length locals + domain_count kind)) (sym e) (family_outcome_holds signature (length locals) binders outcome kind h.0)
 
-  body_at_type : (locals : Locals) (kind : Kind) (binders : ℕ) (family : Family) → kind ≡ Ty → HeadHolds signature (length locals) (FamilyHead binders family Ty) → BodyHolds (length locals + domain_count kind) family
-  body_at_type locals kind binders family e h =
-      let c : domain_count kind ≡ 0 = ap domain_count e in
-      record { atomic = whole_atomic signature (length locals) binders 0 family h.0; holds = subst (λ n. FamilyHolds signature n family) (omega (arith, c)) (whole_holds signature (length locals) binders family h.0) }
-
-  under_binder : (locals : Locals) (own : Local) (kind rest : Kind) (domain family : Family) → kind ≡ PiKind domain rest → BodyHolds (length (own ∷ locals) + domain_count rest) family → BodyHolds (length locals + domain_count kind) family
+  under_binder : (locals : Locals) (own : Local) (kind rest : Kind) (domain family : Family) → kind ≡ PiKind domain rest → BodyHolds signature (length (own ∷ locals) + domain_count rest) family → BodyHolds signature (length locals + domain_count kind) family
   under_binder locals own kind rest domain family e b =
       let c : domain_count kind ≡ suc (domain_count rest) = ap domain_count e in
-      subst (λ n. BodyHolds n family) (omega (arith, c)) b
+      subst (λ n. BodyHolds signature n family) (omega (arith, c)) b
 
-  pub family_value_body : (e : Expr) (locals : Locals) (kind : Kind) (family : Family) → LocalsHold signature locals → KindHolds signature (length locals) kind → StandsFamilyValue scope locals e kind family → BodyHolds (length locals + domain_count kind) family
+  pub family_value_body : (e : Expr) (locals : Locals) (kind : Kind) (family : Family) → LocalsHold signature locals → KindHolds signature (length locals) kind → StandsFamilyValue scope locals e kind family → BodyHolds signature (length locals + domain_count kind) family
   family_value_body (LamExpr span binder body) locals kind family l k s =
       let g : KindHolds signature (length locals) (PiKind s.domain s.rest) = subst (KindHolds signature (length locals)) s.kind_is k in
       under_binder locals (record { name = binder; family = s.domain }) kind s.rest s.domain family s.kind_is (family_value_body body (with_local binder s.domain locals) s.rest family (g.0, l) g.1 s.stands)
   family_value_body (TypedLamExpr span binder domain body) locals kind family l k s =
       let g : KindHolds signature (length locals) (PiKind s.domain s.rest) = subst (KindHolds signature (length locals)) s.kind_is k in
       under_binder locals (record { name = binder; family = s.domain }) kind s.rest s.domain family s.kind_is (family_value_body body (with_local binder s.domain locals) s.rest family (g.0, l) g.1 s.stands)
-  family_value_body (NameExpr span path) locals kind family l k s = let b = s.1 in body_at_type locals kind b.0 family s.0 (name_holds locals path (FamilyHead b.0 family Ty) l b.1)
+  family_value_body (NameExpr span path) locals kind family l k s = family_outcome locals kind s.binders s.outcome family s.is (name_holds locals path (FamilyHead s.binders s.outcome kind) l s.stands)
   family_value_body (AppExpr span function arguments) locals kind family l k s =
-      let b = s.1 in
-      let a = b.1 in
-      body_at_type locals kind b.0 family s.0 (arguments_hold arguments locals a.first (FamilyHead b.0 family Ty) l (head_holds function locals a.first l a.begins) a.takes)
+      let b = s.stands in
+      family_outcome locals kind s.binders s.outcome family s.is (arguments_hold arguments locals b.first (FamilyHead s.binders s.outcome kind) l (head_holds function locals b.first l b.begins) b.takes)
   family_value_body (TypeExpr span) locals kind family l k s = absurd s
   family_value_body (PiExpr span binder domain body) locals kind family l k s = absurd s
   family_value_body (ArrowExpr span domain body) locals kind family l k s = absurd s

@@ -69,11 +69,12 @@ module _ (from to : Signature) (by : Replacement) (Place : ℕ → ℕ → ℕ �
 
 -- ---- families and kinds
 
-module _ (signature : Signature) (f : ℕ → Object → Object) (Place : ℕ → ℕ → ℕ → Type 0) (under : (n v w : ℕ) → Place n v w → Place (suc n) (suc v) (suc w)) (objects : (m : Object) (n v w : ℕ) → Place n v w → ObjectHolds signature v m → ObjectHolds signature w (f n m)) where
-  count_map : (n : ℕ) (p : AtomicFamily) → family_argument_count (map_atomic_family f n p) ≡ family_argument_count p
-  count_map n (FamilyCon c) = refl
-  count_map n (FamilyApp p m) = ap suc (count_map n p)
+-- a family has as many arguments, whatever is done to them
+pub argument_count_map : (f : ℕ → Object → Object) (n : ℕ) (p : AtomicFamily) → family_argument_count (map_atomic_family f n p) ≡ family_argument_count p
+argument_count_map f n (FamilyCon c) = refl
+argument_count_map f n (FamilyApp p m) = ap suc (argument_count_map f n p)
 
+module _ (signature : Signature) (f : ℕ → Object → Object) (Place : ℕ → ℕ → ℕ → Type 0) (under : (n v w : ℕ) → Place n v w → Place (suc n) (suc v) (suc w)) (objects : (m : Object) (n v w : ℕ) → Place n v w → ObjectHolds signature v m → ObjectHolds signature w (f n m)) where
   pub arguments_map : (p : AtomicFamily) (n v w : ℕ) → Place n v w → ArgumentsHold signature v p → ArgumentsHold signature w (map_atomic_family f n p)
   arguments_map (FamilyCon c) n v w p h = tt
   arguments_map (FamilyApp q m) n v w p h = (arguments_map q n v w p h.0, objects m n v w p h.1)
@@ -84,7 +85,7 @@ module _ (signature : Signature) (f : ℕ → Object → Object) (Place : ℕ �
       let k = h.0 in
       let c = head_constant_map f n q in
       let g : IsFamilyConstant signature (head_constant (map_atomic_family f n q)) (family_argument_count q) = subst (λ z. IsFamilyConstant signature z (family_argument_count q)) (sym c) k in
-      (subst (IsFamilyConstant signature (head_constant (map_atomic_family f n q))) (sym (count_map n q)) g, arguments_map q n v w p h.1)
+      (subst (IsFamilyConstant signature (head_constant (map_atomic_family f n q))) (sym (argument_count_map f n q)) g, arguments_map q n v w p h.1)
 
   pub kind_map : (k : Kind) (n v w : ℕ) → Place n v w → KindHolds signature v k → KindHolds signature w (map_kind f n k)
   kind_map Ty n v w p h = tt
@@ -124,6 +125,9 @@ module _ (signature : Signature) where
 
   pub substitute_kind_holds : (value : Object) (t : Simple) (outside : ℕ) → ObjectHolds signature outside value → (k : Kind) (n v w : ℕ) → Substituting outside n v w → KindHolds signature v k → KindHolds signature w (map_kind (substitute value t) n k)
   substitute_kind_holds value t outside h = kind_map signature (substitute value t) (Substituting outside) (deeper outside) (substitute_holds value t outside h)
+
+  pub raise_arguments_hold : (k : ℕ) (p : AtomicFamily) (n v w : ℕ) → w ≡ v + k → ArgumentsHold signature v p → ArgumentsHold signature w (map_atomic_family (raise k) n p)
+  raise_arguments_hold k p n v w e h = arguments_map signature (raise k) (λ n v w. w ≡ v + k) (λ n v w e. omega (arith, e)) (λ m n v w e h. raise_holds signature k n v w m e h) p n v w e h
 
   pub raise_family_holds : (k : ℕ) (a : Family) (n v w : ℕ) → w ≡ v + k → FamilyHolds signature v a → FamilyHolds signature w (map_family (raise k) n a)
   raise_family_holds k a n v w e h = family_map signature (raise k) (λ n v w. w ≡ v + k) (λ n v w e. omega (arith, e)) (λ m n v w e h. raise_holds signature k n v w m e h) a n v w e h

@@ -1,11 +1,11 @@
 -- What the heads of the code stand for, step by step.
-use Rattle.std.proofs.Common.{◌≡◌, ℕ, Option, true, List, [], ◌∷◌, ◌++◌, Some, None, Ok, Err, sym, ap, ap₂, ◌∙◌, subst}
+use Rattle.std.proofs.Common.{◌≡◌, ℕ, zero, suc, ◌-◌, nat_lt, Bor, Option, List, [], ◌∷◌, ◌++◌, length, Some, None, Ok, Err, sym, ap, ◌∙◌, subst, arith}
 use Rattle.std.specs.Option.{option_map}
 use Rattle.std.specs.declared.alloc.Global.{Global}
 use Rattle.std.specs.declared.vec.Vec.{Vec}
-use Rattle.std.proofs.lemmas.List.{map-append}
-use Rattle.lf_meaning.specs.Terms.{Object, At, Var, Con, Family, Pi, AtFamily, AtomicFamily, FamilyCon, Kind, apply_all, family_apply_all}
-use Rattle.lf_meaning.specs.Equality.{same_family}
+use Rattle.std.proofs.lemmas.Bool.Decides.{nat_tests}
+use Rattle.std.proofs.lemmas.List.{map-append, length-map}
+use Rattle.lf_meaning.specs.Terms.{Object, At, Var, Con, Family, Pi, AtFamily, AtomicFamily, FamilyCon, Kind, PiKind, apply_all, family_apply_all}
 use Rattle.lf_meaning.specs.Erasure.{erase}
 use Rattle.lf_meaning.specs.Substitution.{app, substitute_family}
 use Rattle.lf_meaning.specs.Replacement.{object_of, takes_all}
@@ -21,9 +21,7 @@ use Rattle.term_trees.specs.declared.flat_decl.FlatDecl.{FlatDecl}
 use Rattle.term_trees.specs.declared.class.Value as code
 use Rattle.term_trees.specs.declared.kind.Kind as code_kind
 use Rattle.term_trees.specs.declared.kind.Kind.TheVariants as kinds
-use Rattle.answer_meaning.specs.Answers.{◌>>=◌}
-use Rattle.elaborate_meaning.specs.Answers.{Answer, must}
-use Rattle.elaborate_meaning.specs.Rules.{Rule}
+use Rattle.elaborate_meaning.specs.Answers.{Answer}
 use Rattle.term_trees.specs.declared.obj.Obj.{Obj}
 use Rattle.term_trees.specs.declared.obj.Obj.TheVariants as objs
 use Rattle.term_trees.specs.declared.obj.Head.TheVariants as head
@@ -32,14 +30,14 @@ use Rattle.base_types.specs.declared.qname.QName.{QName}
 use Rattle.term_trees.proofs.ReadingEquations.{read_object_at, read_family_at, read_kind_ty}
 use Rattle.term_trees.specs.declared.obj.Spine.{Spine}
 use Rattle.elaborate.specs.LentValues.{value_of}
-use Rattle.elaborate.specs.HeadStates.{BeginsWith, Classifies, Stands, StandsForFamily, StandsForHead}
+use Rattle.elaborate.specs.HeadStates.{BeginsWith, Classifies, Stands, StandsForFamily, StandsForHead, has_binder, value_binders}
 use Rattle.elaborate.specs.Answers.{Begins}
 use Rattle.elaborate.specs.declared.heads.Classifier.{Classifier}
 use Rattle.elaborate.specs.declared.heads.Classifier.TheVariants as classifiers
 use Rattle.elaborate.specs.declared.heads.Start.TheVariants as starts
 use Rattle.elaborate.specs.declared.heads.Head.{Head}
 use Rattle.elaborate.specs.declared.lent.Lent.{Lent}
-use Rattle.elaborate.proofs.TakenArguments.{takes_one_more, atomic_is, constant_kept, family_kept, value_taken, family_value_taken}
+use Rattle.elaborate.proofs.TakenArguments.{takes_one_more, atomic_is, constant_kept, family_kept, value_taken, family_value_taken, value_binders_left}
 
 pub one_more : (own : Head) (items : Vec Obj Global) (classifier : Classifier) (m : Obj) (head : heads.Head) → Stands own head
     → items.items ≡ own.arguments.items ++ m ∷ []
@@ -113,11 +111,11 @@ family_unvalued d spine q n f k is copied h =
     ∙ family_kept (read_constant d.name) (read_class d.class) (read_arguments spine) n f k (begins d spine None is h)
 
 -- The classifier of an object is a family, that of a family a kind.
-object_of_family : (family : Lent Fam) (f : heads.Head) → Classifies (classifiers.Family family) f → (o : Object) × (f ≡ heads.ObjectHead o (read_family (value_of family)))
+pub object_of_family : (family : Lent Fam) (f : heads.Head) → Classifies (classifiers.Family family) f → (o : Object) × (f ≡ heads.ObjectHead o (read_family (value_of family)))
 object_of_family family (heads.ObjectHead o a) h = (o, ap (λ x. heads.ObjectHead o x) (sym h))
 object_of_family family (heads.FamilyHead n b k) h = absurd h
 
-family_of_kind : (kind : Lent code_kind.Kind) (f : heads.Head) → Classifies (classifiers.Kind kind) f → (n : ℕ) × (b : Family) × (f ≡ heads.FamilyHead n b (read_kind (value_of kind)))
+pub family_of_kind : (kind : Lent code_kind.Kind) (f : heads.Head) → Classifies (classifiers.Kind kind) f → (n : ℕ) × (b : Family) × (f ≡ heads.FamilyHead n b (read_kind (value_of kind)))
 family_of_kind kind (heads.ObjectHead o a) h = absurd h
 family_of_kind kind (heads.FamilyHead n b k) h = (n, b, ap (λ x. heads.FamilyHead n b x) (sym h))
 
@@ -132,20 +130,6 @@ pub begun : (own : Head) (answer : Answer heads.Head) → Begins (Ok own) answer
 begun own (Ok head) h = (head, h)
 begun own (Err fault) h = absurd h
 
--- The object of a head that stands at its family.
-pub object_stands : (span : Span) (own : Head) (family : Lent Fam) (t : Fam) (q : QName) (s : Spine) (m : Obj) (f : heads.Head) → own.classifier ≡ classifiers.Family family → t ≡ fams.At q s
-    → same_family (read_family (value_of family)) (read_family t) ≡ true → Stands own f → ((o : Object) (a : Family) → Stands own (heads.ObjectHead o a) → read_object m ≡ o)
-    → expansion.object_at span (read_family t) f ≡ Ok (read_object m)
-object_stands span own family t q s m f is atomic same stands object =
-    let classified : Classifies (classifiers.Family family) f = subst (λ x. Classifies x f) is stands.classifies in
-    let found = object_of_family family f classified in
-    let p = family_apply_all (FamilyCon (read_constant q)) (read_arguments s) in
-    let target : read_family t ≡ AtFamily p = ap read_family atomic ∙ read_family_at q s in
-    let tested : same_family (read_family (value_of family)) (AtFamily p) ≡ true = ap (same_family (read_family (value_of family))) (sym target) ∙ same in
-    ap₂ (expansion.object_at span) target found.1
-    ∙ ap (λ b. must b span Rule.Mismatch >>= (λ _. Ok found.0)) tested
-    ∙ ap Ok (sym (object found.0 (read_family (value_of family)) (subst (Stands own) found.1 stands)))
-
 -- The family of a head at `type`.
 pub family_stands : (span : Span) (own : Head) (kind : Lent code_kind.Kind) (b : Fam) (f : heads.Head) → own.classifier ≡ classifiers.Kind kind → value_of kind ≡ kinds.Ty → Stands own f
     → ((n : ℕ) (a : Family) (k : Kind) → Stands own (heads.FamilyHead n a k) → read_family b ≡ a) → expansion.family_at_type span f ≡ Ok (read_family b)
@@ -156,3 +140,16 @@ family_stands span own kind b f is type stands family =
     ap (expansion.family_at_type span) found.2
     ∙ ap (λ j. expansion.family_at_type span (heads.FamilyHead found.0 found.1 j)) (ap read_kind type ∙ read_kind_ty)
     ∙ ap Ok (sym (family found.0 found.1 k (subst (Stands own) found.2 stands)))
+
+-- Whether a binder is left, by the number of arguments.
+counted : (m n l : ℕ) → m ≡ n - l → nat_lt l n ≡ has_binder m
+counted zero n l e = grind (arith, nat_tests, e)
+counted (suc m) n l e = grind (arith, nat_tests, e)
+
+pub binders_counted : (own : Head) (decl : Bor FlatDecl) (n : ℕ) (f a : Family) (r : Kind) → own.start ≡ starts.Constant decl → Stands own (heads.FamilyHead n f (PiKind a r)) → nat_lt (length own.arguments.items) (value_binders (read_declaration decl.now).value) ≡ has_binder n
+binders_counted own decl n f a r is stands =
+    let d = read_declaration decl.now in
+    let items = own.arguments.items in
+    let begins : BeginsWith (starts.Constant decl) stands.first = subst (λ s. BeginsWith s stands.first) is stands.begins in
+    let left : n ≡ value_binders d.value - length (read_objects items) = value_binders_left d.name d.class d.value (read_objects items) n f a r (ap (λ h. head_takes_all h (read_objects items)) (sym begins) ∙ stands.takes) in
+    counted n (value_binders d.value) (length items) (left ∙ ap (λ l. value_binders d.value - l) (length-map items read_object))

@@ -5,6 +5,7 @@ use Rattle.std.specs.declared.alloc.Global.{Global}
 use Rattle.name_meaning.specs.Names.{Name, Path}
 use Rattle.lf_meaning.specs.Terms.{Family, Kind, PiKind}
 use Rattle.lf_meaning.specs.Equality.{same_family}
+use Rattle.translation_meaning.specs.Heads as heads
 use Rattle.library_meaning.specs.Resolution.{Scope}
 use Rattle.text_meaning.specs.Tokens.{Span}
 use Rattle.text_meaning.specs.Trees as trees
@@ -14,7 +15,7 @@ use Rattle.elaborate_meaning.specs.Answers.{Answer, broken, must}
 use Rattle.elaborate_meaning.specs.Locals.{Locals, with_local}
 use Rattle.elaborate_meaning.specs.NameHeads.{Families}
 use Rattle.elaborate_meaning.specs.Expansion.{span_of, expand_object, expand_head, expand_family, expand_kind}
-use Rattle.elaborate_meaning.specs.Values.{KindProduct, ends_in_type, lambda_at_kind, expand_family_value}
+use Rattle.elaborate_meaning.specs.Values.{KindProduct, ends_in_type, lambda_at_kind, family_at_kind, expand_family_value}
 use Rattle.term_trees.specs.Readings.{read_family, read_kind}
 use Rattle.term_trees.proofs.ReadingEquations.{read_kind_ty, read_kind_pi}
 use Rattle.term_trees.specs.declared.fam.Fam.{Fam}
@@ -26,10 +27,12 @@ use Rattle.mmt_syntax.specs.declared.expr.Expr.{Expr}
 use Rattle.mmt_syntax.specs.declared.expr.Exprs.{Exprs}
 use Rattle.mmt_syntax.specs.declared.expr.Node.TheVariants as nodes
 use Rattle.elaborate.specs.Steps.{written_of, domain_answer, kind_product_answer, atomic_body_answer}
-use Rattle.elaborate.specs.Answers.{IsFirstFault, Expands}
+use Rattle.elaborate.specs.Answers.{IsFirstFault, Expands, Begins}
+use Rattle.elaborate.specs.HeadStates.{Stands}
+use Rattle.elaborate.specs.declared.heads.Head.{Head}
 use Rattle.elaborate.specs.declared.fault.ElabFault.{ElabFault}
 use Rattle.mmt_syntax.proofs.Nodes.{read_ty, read_name, read_app, read_pi, read_lam, read_typed_lam, read_arrow, read_back}
-use Rattle.elaborate.proofs.ExpansionSteps.{bind_same, first_stays, same_fault, same_answer}
+use Rattle.elaborate.proofs.ExpansionSteps.{begun, bind_same, first_stays, same_fault, same_answer}
 
 -- ---- the end of an expression
 
@@ -130,6 +133,12 @@ module _ (scope : Scope) (locals : Locals) where
       ap (λ x. expand_family_value scope locals x kind) is
       ∙ sym (bind_same (expand_head Families scope locals (read_expr h.value)) _ _)
       ∙ sym (ap (λ x. atomic_body_answer scope locals (read_span e.span) x kind) is)
+
+  pub body_begins : (e : Expr) (kind : Kind) (own : Head) (result : Result Fam ElabFault) → Begins (Ok own) (expand_head Families scope locals (read_expr e))
+      → ((head : heads.Head) → Stands own head → Expands read_family result (family_at_kind (read_span e.span) kind head)) → Expands read_family result (atomic_body_answer scope locals (read_span e.span) (read_expr e) kind)
+  body_begins e kind own result begins answers =
+      let head = begun own (expand_head Families scope locals (read_expr e)) begins in
+      same_answer read_family result _ _ (ap (λ m. m >>= family_at_kind (read_span e.span) kind) head.1) (answers head.0 head.2)
 
   -- a λ, with a written domain or none
   lambda_body_answer : Span → Option Name → Option trees.Expr → trees.Expr → Kind → Answer Family

@@ -1,5 +1,5 @@
 -- Heads that take their arguments at once.
-use Rattle.std.proofs.Common.{◌≡◌, ℕ, zero, suc, List, [], ◌∷◌, ◌++◌, Some, None, refl, sym, ap, ◌∙◌}
+use Rattle.std.proofs.Common.{◌≡◌, ℕ, zero, suc, ◌-◌, List, [], ◌∷◌, ◌++◌, length, Option, Some, None, refl, sym, ap, ◌∙◌, arith}
 use Rattle.lf_meaning.specs.Terms.{Constant, Object, Lam, At, Atomic, Con, Family, Pi, AtFamily, AtomicFamily, FamilyCon, Kind, Ty, PiKind, Simple, Base, Arrow, apply_all, family_apply_all}
 use Rattle.lf_meaning.specs.Erasure.{erase, head_constant}
 use Rattle.lf_meaning.specs.Replacement.{object_of, takes_all}
@@ -11,6 +11,7 @@ use Rattle.translation_meaning.specs.Heads.{Head, ObjectHead, FamilyHead, head_t
 use Rattle.translation_meaning.specs.Translation.{object_image, family_image, family_of}
 use Rattle.translation_laws.proofs.Spines.{spine_kept}
 use Rattle.elaborate_meaning.specs.NameHeads.{class_head}
+use Rattle.elaborate.specs.HeadStates.{value_binders}
 
 -- One argument more.
 pub takes_one_more : (head : Head) (ms : List Object) (m : Object) → head_takes_all head (ms ++ m ∷ []) ≡ head_takes (head_takes_all head ms) m
@@ -103,3 +104,29 @@ family_value_taken c (FamilyClass a) (FamilyValue m b) ms n f k p h = absurd (no
 family_value_taken c (KindClass l) (SameAs d) ms n f k p h = family_is zero (AtFamily (FamilyCon d)) l ms n f k p h
 family_value_taken c (KindClass l) (TermValue v) ms n f k p h = family_is zero (AtFamily (FamilyCon c)) l ms n f k p h
 family_value_taken c (KindClass l) (FamilyValue m b) ms n f k p h = family_is m b l ms n f k p h
+
+-- A head of families without domains stays without.
+type_stays : (n : ℕ) (f : Family) (ms : List Object) (m : ℕ) (g : Family) (k : Kind) → head_takes_all (FamilyHead n f Ty) ms ≡ FamilyHead m g k → k ≡ Ty
+unfolding head_takes_all
+type_stays n f [] m g k h = cc
+type_stays zero f (x ∷ ms) m g k h = type_stays zero (family_takes f x) ms m g k h
+type_stays (suc n) f (x ∷ ms) m g k h = type_stays (suc n) f ms m g k h
+
+-- So where domains are left, each argument was taken for a binder, where there was one.
+binders_left : (n : ℕ) (f : Family) (k : Kind) (ms : List Object) (m : ℕ) (g d : Family) (r : Kind) → head_takes_all (FamilyHead n f k) ms ≡ FamilyHead m g (PiKind d r) → m ≡ n - length ms
+unfolding head_takes_all
+binders_left n f k [] m g d r h = let e : n ≡ m = cc in omega (arith, e)
+binders_left zero f (PiKind a k) (x ∷ ms) m g d r h = let e = binders_left zero (family_takes f x) (substitute_kind x (erase a) 0 k) ms m g d r h in omega (arith, e)
+binders_left (suc n) f (PiKind a k) (x ∷ ms) m g d r h = let e = binders_left n (substitute_family x (erase a) n f) (substitute_kind x (erase a) 0 k) ms m g d r h in omega (arith, e)
+binders_left zero f Ty (x ∷ ms) m g d r h = let e = binders_left zero (family_takes f x) Ty ms m g d r h in omega (arith, e)
+binders_left (suc n) f Ty (x ∷ ms) m g d r h = let e : PiKind d r ≡ Ty = type_stays (suc n) f ms m g (PiKind d r) h in absurd (cc)
+
+pub value_binders_left : (c : Constant) (class : Class) (value : Option Value) (ms : List Object) (m : ℕ) (g d : Family) (r : Kind) → head_takes_all (class_head c class value) ms ≡ FamilyHead m g (PiKind d r) → m ≡ value_binders value - length ms
+value_binders_left c (FamilyClass a) None ms m g d r h = absurd (no_family (At (Con c)) a ms m g (PiKind d r) h)
+value_binders_left c (FamilyClass a) (Some (SameAs e)) ms m g d r h = absurd (no_family (At (Con e)) a ms m g (PiKind d r) h)
+value_binders_left c (FamilyClass a) (Some (TermValue v)) ms m g d r h = absurd (no_family v a ms m g (PiKind d r) h)
+value_binders_left c (FamilyClass a) (Some (FamilyValue n b)) ms m g d r h = absurd (no_family (At (Con c)) a ms m g (PiKind d r) h)
+value_binders_left c (KindClass k) None ms m g d r h = binders_left zero (AtFamily (FamilyCon c)) k ms m g d r h
+value_binders_left c (KindClass k) (Some (SameAs e)) ms m g d r h = binders_left zero (AtFamily (FamilyCon e)) k ms m g d r h
+value_binders_left c (KindClass k) (Some (TermValue v)) ms m g d r h = binders_left zero (AtFamily (FamilyCon c)) k ms m g d r h
+value_binders_left c (KindClass k) (Some (FamilyValue n b)) ms m g d r h = binders_left n b k ms m g d r h

@@ -1,8 +1,9 @@
 -- What the heads of this crate stand for: a head of the definitions, which takes one argument at a time.
-use Rattle.std.specs.Prelude.{◌≡◌, ℕ}
+use Rattle.std.specs.Prelude.{◌≡◌, ℕ, zero, suc, Bool, true, false, Option, Some, None}
 use Rattle.lf_meaning.specs.Terms.{Object, At, Var, Family, Pi, AtFamily, Kind, Ty, PiKind}
 use Rattle.lf_meaning.specs.Erasure.{erase}
 use Rattle.lf_meaning.specs.Substitution.{substitute_family, substitute_kind}
+use Rattle.lf_meaning.specs.Signatures.{Value, SameAs, TermValue, FamilyValue}
 use Rattle.translation_meaning.specs.Heads as heads
 use Rattle.translation_meaning.specs.Heads.{head_takes_all}
 use Rattle.elaborate_meaning.specs.NameHeads.{declared_head}
@@ -66,3 +67,15 @@ KindAt before argument after = read_kind (value_of after) ≡ kind_after (read_k
 abbrev pub read_level : Level → names.Level
 read_level levels.Objects = names.Objects
 read_level levels.Families = names.Families
+
+-- A family has at least one binder left.
+abbrev pub has_binder : ℕ → Bool
+has_binder zero = false
+has_binder (suc binders) = true
+
+-- The binders of the value of a constant.
+abbrev pub value_binders : Option Value → ℕ
+value_binders None = zero
+value_binders (Some (SameAs constant)) = zero
+value_binders (Some (TermValue object)) = zero
+value_binders (Some (FamilyValue binders body)) = binders

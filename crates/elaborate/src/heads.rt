@@ -9,17 +9,22 @@ ghost use Rattle.translation_meaning.specs.Heads.{head_takes_all};
 ghost use Rattle.elaborate_meaning.specs.NameHeads.{declared_head};
 ghost use Rattle.elaborate_meaning.specs.Expansion.{domain_of};
 ghost use Rattle.elaborate_meaning.specs.Expansion as expansion;
+ghost use Rattle.elaborate_meaning.specs.Values as values;
 ghost use Rattle.term_trees.specs.Readings.{read_declaration, read_family, read_kind, read_object, read_objects};
 ghost use Rattle.mmt_syntax.specs.Readings.{read_span};
 ghost use Rattle.elaborate.specs.LentValues.{value_of};
-ghost use Rattle.elaborate.specs.HeadStates.{BodyAt, KindAt, Classifies, Stands, StandsForFamily, StandsForHead};
+ghost use Rattle.elaborate.specs.HeadStates.{BodyAt, KindAt, Classifies, Stands, StandsForFamily, StandsForHead, has_binder, value_binders};
 ghost use Rattle.elaborate.specs.Answers.{Expands};
 
 use crate::closed::{is_closed_family, is_closed_kind};
 use crate::fault::{ElabFault, broken};
 use crate::lent::Lent;
+use crate::outcomes::{long_family, long_object};
 use hereditary_subst::{subst_fam, subst_kind};
-use lf_terms::{Fam, FlatDecl, Head as TermHead, Kind, Memory, Obj, Span, Spine, erase, same_fam};
+use lf_terms::{
+    Fam, FlatDecl, Head as TermHead, Kind, Memory, Obj, Span, Spine, Value, erase, same_fam,
+    same_kind,
+};
 use lf_translate::{family_in_place, object_in_place};
 use mmt_interface::Rule;
 use std::alloc::Global;
@@ -238,20 +243,74 @@ impl<'a> Head<'a> {
         }
     }
 
-    /// The object where one is wanted at a family: a name or an application stands at an atomic family alone, and there
-    /// only where it has just this one.
+    /// The body of the family value that the head and its arguments are at a kind with domains. Where the value of a
+    /// constant has binders left, what stands under them is this body already.
+    fn into_body(self, alloc: Global, kind: &Kind) -> Result<Fam, Memory>
+        requires { StandsForFamily self }
+        ensures { IfOk result (λ a. (binders : ℕ) (family : terms.Family) (domain : terms.Family) (rest : terms.Kind) → Stands self.entry (meant.FamilyHead binders family (terms.PiKind domain rest)) → read_family a ≡ values.expanded_family (read_kind kind.now) binders family) }
+    {
+        let is_under_binders = self.is_under_binders();
+        let outcome = self.into_family(alloc)?;
+        if is_under_binders {
+            Ok(outcome)
+        } else {
+            long_family(alloc, kind, outcome)
+        }
+    }
+
+    /// Whether the value of a constant has more binders than there are arguments so far.
+    fn is_under_binders(&self) -> bool
+        ensures { (binders : ℕ) (family : terms.Family) (domain : terms.Family) (rest : terms.Kind) → Stands self.now (meant.FamilyHead binders family (terms.PiKind domain rest)) → result ≡ has_binder binders }
+    {
+        match &self.start {
+            Start::Constant(decl) => self.arguments.len() < binders_of(decl) as usize,
+            Start::Variable(_) => false,
+        }
+    }
+
+    /// The object where one is wanted at a family: a name or an application stands only where its classifier is just this
+    /// one, and what is atomic at a Π is put in its long form.
     pub(crate) fn object_at(self, alloc: Global, span: Span, family: &Fam) -> Result<Obj, ElabFault>
         ensures { (head : meant.Head) → Stands self.entry head → Expands read_object result (expansion.object_at (read_span span) (read_family family.now) head) }
     {
-        if let Fam::Pi(_, _) = family {
-            return Err(broken(span, Rule::NotCanonical));
-        }
         match &self.classifier {
-            Classifier::Family(found) if same_fam(found.get(), family) => Ok(self.into_object(
-                alloc,
-            )?),
+            Classifier::Family(found) if same_fam(found.get(), family) => {
+                let outcome = self.into_object(alloc)?;
+                Ok(long_object(alloc, family, outcome)?)
+            }
             Classifier::Family(_) => Err(broken(span, Rule::Mismatch)),
             Classifier::Kind(_) => Err(broken(span, Rule::Level)),
+        }
+    }
+
+    /// The family where one is wanted at a kind. At `type` no domain may be left.
+    pub(crate) fn family_at_kind(
+        self,
+        alloc: Global,
+        span: Span,
+        kind: &Kind,
+    ) -> Result<Fam, ElabFault>
+        requires { StandsForHead self }
+        ensures { (head : meant.Head) → Stands self.entry head → Expands read_family result (values.family_at_kind (read_span span) (read_kind kind.now) head) }
+    {
+        match kind {
+            Kind::Ty => self.family_at_type(alloc, span),
+            Kind::Pi(_, _) => self.family_at_domains(alloc, span, kind),
+        }
+    }
+
+    /// The family where one is wanted at a kind with domains: a name or an application stands only where the kind that it
+    /// has left is just this one.
+    fn family_at_domains(self, alloc: Global, span: Span, kind: &Kind) -> Result<Fam, ElabFault>
+        requires { StandsForHead self }
+        ensures { (head : meant.Head) → Stands self.entry head → (domain : terms.Family) (rest : terms.Kind) → read_kind kind.now ≡ terms.PiKind domain rest → Expands read_family result (values.family_at_kind (read_span span) (read_kind kind.now) head) }
+    {
+        match &self.classifier {
+            Classifier::Kind(found) if same_kind(found.get(), kind) => {
+                Ok(self.into_body(alloc, kind)?)
+            }
+            Classifier::Kind(_) => Err(broken(span, Rule::Mismatch)),
+            Classifier::Family(_) => Err(broken(span, Rule::Level)),
         }
     }
 
@@ -294,5 +353,19 @@ fn family_of(alloc: Global, decl: &FlatDecl, arguments: Vec<Obj>) -> Result<Fam,
             head: decl.name.copy(alloc)?,
             spine,
         }),
+    }
+}
+
+/// The binders of the value of a family constant. One that stands for another constant has none.
+fn binders_of(decl: &FlatDecl) -> u32
+    ensures { result ≡ value_binders (read_declaration decl.now).value }
+{
+    match &decl.value {
+        Some(value) => match value {
+            Value::Fam { binders, .. } => *binders,
+            Value::Same(_) => 0,
+            Value::Term(_) => 0,
+        },
+        None => 0,
     }
 }

@@ -10,6 +10,7 @@ mod given;
 mod heads;
 mod kinds;
 mod lent;
+mod outcomes;
 mod terms;
 mod values;
 

@@ -1,6 +1,5 @@
 //! Values that written expressions stand for.
 ghost use Rattle.std.specs.Prelude.{◌≡◌, IfOk};
-ghost use Rattle.lf_meaning.specs.Terms as terms;
 ghost use Rattle.library_meaning.specs.Words as words;
 ghost use Rattle.elaborate_meaning.specs.NameHeads.{same_level};
 ghost use Rattle.elaborate_meaning.specs.Values.{class_level, expand_family_value};
@@ -14,6 +13,7 @@ use crate::context::Context;
 use crate::fault::{ElabFault, broken};
 use crate::heads::Level;
 use crate::terms::{head, name_of, object, written_domain};
+use hereditary_subst::domain_count;
 use lf_terms::{Class, Fam, FlatDecl, Kind, Memory, Path, Span, Value, same_class};
 use lf_translate::{family_value, object_value};
 use mmt_interface::Rule;
@@ -96,18 +96,8 @@ fn built_value(
     }
 }
 
-/// The number of domains of a kind. More than a number of binders can say are want of memory.
-fn domain_count(kind: &Kind) -> Result<u32, Memory>
-    ensures { IfOk result (λ count. count ≡ terms.domain_count (read_kind kind.now)) }
-{
-    match kind {
-        Kind::Ty => Ok(0),
-        Kind::Pi(_, rest) => Ok(domain_count(rest)?.checked_add(1).ok_or(Memory)?),
-    }
-}
-
-/// The body of the family value that an expression stands for at a kind: a λ for each domain of the kind, and an atomic
-/// family under them.
+/// The body of the family value that an expression stands for at a kind: λs for domains of the kind, and under them a name
+/// or an application at the kind that is left.
 fn family_body(
     alloc: Global,
     context: &Context<'_>,
@@ -133,7 +123,7 @@ fn family_body(
     }
 }
 
-/// The family that a name or an application stands for at a kind, which has to be `type`.
+/// The family that a name or an application stands for at a kind.
 fn atomic_body(
     alloc: Global,
     context: &Context<'_>,
@@ -143,8 +133,5 @@ fn atomic_body(
     ensures { Expands read_family result (atomic_body_answer (scope_of context.now) (locals_of context.now) (read_span expr.now.span) (read_expr expr.now) (read_kind kind.now)) }
 {
     let head = head(alloc, context, expr, Level::Families)?;
-    match kind {
-        Kind::Ty => head.family_at_type(alloc, expr.span),
-        Kind::Pi(_, _) => Err(broken(expr.span, Rule::NotCanonical)),
-    }
+    head.family_at_kind(alloc, expr.span, kind)
 }

@@ -1,6 +1,6 @@
 -- What stands is answered.
 use Rattle.std.proofs.Common.{◌≡◌, None, Ok, refl, sym, ap, ◌∙◌}
-use Rattle.lf_meaning.specs.Terms.{Object, Family, Pi, AtFamily, Kind, Ty}
+use Rattle.lf_meaning.specs.Terms.{Object, Family, Kind, Ty}
 use Rattle.lf_meaning.specs.Equality.{same_family}
 use Rattle.lf_term_laws.proofs.Equality.{same_family_itself}
 use Rattle.translation_meaning.specs.Heads.{Head, ObjectHead, FamilyHead}
@@ -12,16 +12,15 @@ use Rattle.elaborate_meaning.specs.Answers.{must, or_broken}
 use Rattle.elaborate_meaning.specs.Locals.{Locals, with_local}
 use Rattle.elaborate_meaning.specs.NameHeads.{Level, Objects, Families, level_of, name_head}
 use Rattle.elaborate_meaning.specs.Expansion.{span_of, lambda_at, domain_of, object_at, expand_object, expand_head, expand_arguments, expand_family, expand_kind}
-use Rattle.translation_meaning.specs.AtomicFamilies.{IsAtomicFamily}
+use Rattle.eta_meaning.specs.LongTerms.{expanded}
 use Rattle.elaborate_meaning.specs.Stands.{StandsObject, StandsHead, StandsArguments, StandsFamily, StandsKind}
 use Rattle.elaborate_laws.proofs.Binding.{must_by, there_by}
 use Rattle.elaborate_laws.proofs.NamesStand.{level_kept, name_complete}
 use Rattle.list_laws.proofs.Answers.{goes_by}
 
-pub object_at_complete : (span : Span) (family : Family) (object : Object) → IsAtomicFamily family → object_at span family (ObjectHead object family) ≡ Ok object
-object_at_complete span (Pi domain codomain) object a = absurd a
-object_at_complete span (AtFamily p) object a =
-    goes_by (must (same_family (AtFamily p) (AtFamily p)) span Rule.Mismatch) _ tt object (must_by (same_family (AtFamily p) (AtFamily p)) span Rule.Mismatch (same_family_itself (AtFamily p))) refl
+pub object_at_complete : (span : Span) (family : Family) (outcome object : Object) → object ≡ expanded family outcome → object_at span family (ObjectHead outcome family) ≡ Ok object
+object_at_complete span family outcome object e =
+    goes_by (must (same_family family family) span Rule.Mismatch) _ tt object (must_by (same_family family family) span Rule.Mismatch (same_family_itself family)) (ap Ok (sym e))
 
 mutual
   unfolding expand_object expand_head expand_arguments expand_family
@@ -44,15 +43,15 @@ mutual
       (object_complete body scope (with_local binder s.domain locals) s.codomain s.body s.stands)
       (ap Ok (sym s.object_is)))))
   object_complete (NameExpr span path) scope locals family object s =
-      goes_by (name_head Objects scope locals span path) _ (ObjectHead object family) object (name_complete Objects scope locals span path (ObjectHead object family) s.1 refl)
-      (object_at_complete span family object s.0)
+      goes_by (name_head Objects scope locals span path) _ (ObjectHead s.outcome family) object (name_complete Objects scope locals span path (ObjectHead s.outcome family) s.stands refl)
+      (object_at_complete span family s.outcome object s.is)
   object_complete (AppExpr span function arguments) scope locals family object s =
-      let b = s.1 in
+      let b = s.stands in
       goes_by (expand_head Objects scope locals function) _ b.first object
-      (head_complete function Objects scope locals b.first b.begins (sym (arguments_keep arguments scope locals b.first (ObjectHead object family) b.takes)))
-      (goes_by (expand_arguments scope locals arguments b.first) _ (ObjectHead object family) object
-      (arguments_complete arguments scope locals b.first (ObjectHead object family) b.takes)
-      (object_at_complete span family object s.0))
+      (head_complete function Objects scope locals b.first b.begins (sym (arguments_keep arguments scope locals b.first (ObjectHead s.outcome family) b.takes)))
+      (goes_by (expand_arguments scope locals arguments b.first) _ (ObjectHead s.outcome family) object
+      (arguments_complete arguments scope locals b.first (ObjectHead s.outcome family) b.takes)
+      (object_at_complete span family s.outcome object s.is))
 
   pub head_complete : (expression : Expr) (level : Level) (scope : Scope) (locals : Locals) (head : Head) → StandsHead scope locals expression head → level_of head ≡ level → expand_head level scope locals expression ≡ Ok head
   head_complete (NameExpr span path) level scope locals head s l = name_complete level scope locals span path head s l

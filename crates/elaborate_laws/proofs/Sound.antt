@@ -12,7 +12,7 @@ use Rattle.elaborate_meaning.specs.Answers.{must, or_broken}
 use Rattle.elaborate_meaning.specs.Locals.{Locals, with_local}
 use Rattle.elaborate_meaning.specs.NameHeads.{Level, Objects, Families, level_of, name_head}
 use Rattle.elaborate_meaning.specs.Expansion.{span_of, lambda_at, domain_of, object_at, family_at_type, expand_object, expand_head, expand_arguments, expand_family, expand_kind}
-use Rattle.translation_meaning.specs.AtomicFamilies.{IsAtomicFamily}
+use Rattle.eta_meaning.specs.LongTerms.{expanded}
 use Rattle.elaborate_meaning.specs.Stands.{StandsObject, StandsHead, StandsArguments, StandsFamily, StandsKind}
 use Rattle.elaborate_laws.proofs.Binding.{must_holds, there}
 use Rattle.elaborate_laws.proofs.NamesStand.{level_kept, name_sound}
@@ -20,17 +20,16 @@ use Rattle.list_laws.proofs.Answers.{came_by, ok_same}
 
 -- a head that is answered as an object, or as a family
 pub record ObjectAt (family : Family) (head : Head) (object : Object) : Type 0 where
-  pub atomic : IsAtomicFamily family
-  pub is : head ≡ ObjectHead object family
+  pub outcome : Object
+  pub head_is : head ≡ ObjectHead outcome family
+  pub is : object ≡ expanded family outcome
 
 pub object_at_sound : (span : Span) (family : Family) (head : Head) (object : Object) → object_at span family head ≡ Ok object → ObjectAt family head object
-object_at_sound span (Pi domain codomain) head object h = absurd (cc)
-object_at_sound span (AtFamily p) (ObjectHead found classifier) object h =
-    let c = came_by (must (same_family classifier (AtFamily p)) span Rule.Mismatch) _ object h in
-    let e : classifier ≡ AtFamily p = same_family_sound classifier (AtFamily p) (must_holds (same_family classifier (AtFamily p)) span Rule.Mismatch c.item c.came) in
-    let g : found ≡ object = ok_same c.goes in
-    record { atomic = tt; is = ap (λ a. ObjectHead found a) e ∙ ap (λ m. ObjectHead m (AtFamily p)) g }
-object_at_sound span (AtFamily p) (FamilyHead binders family kind) object h = absurd (cc)
+object_at_sound span family (ObjectHead outcome classifier) object h =
+    let c = came_by (must (same_family classifier family) span Rule.Mismatch) _ object h in
+    let e : classifier ≡ family = same_family_sound classifier family (must_holds (same_family classifier family) span Rule.Mismatch c.item c.came) in
+    record { outcome = outcome; head_is = ap (ObjectHead outcome) e; is = sym (ok_same c.goes) }
+object_at_sound span family (FamilyHead binders other kind) object h = absurd (cc)
 
 pub record FamilyAt (head : Head) (family : Family) : Type 0 where
   pub binders : ℕ
@@ -83,18 +82,20 @@ mutual
   object_sound (NameExpr span path) scope locals family object h =
       let c = came_by (name_head Objects scope locals span path) _ object h in
       let a = object_at_sound span family c.item object c.goes in
-      (a.atomic, subst (StandsHead scope locals (NameExpr span path)) a.is ((name_sound Objects scope locals span path c.item c.came).0))
+      record { outcome = a.outcome; stands = subst (StandsHead scope locals (NameExpr span path)) a.head_is ((name_sound Objects scope locals span path c.item c.came).0); is = a.is }
   object_sound (AppExpr span function arguments) scope locals family object h =
       let c = came_by (expand_head Objects scope locals function) _ object h in
       let d = came_by (expand_arguments scope locals arguments c.item) _ object c.goes in
-      let a = object_at_sound span family d.item object d.goes in (
-        a.atomic,
-        record {
+      let a = object_at_sound span family d.item object d.goes in
+      record {
+        outcome = a.outcome;
+        stands = record {
           first = c.item;
           begins = (head_sound function Objects scope locals c.item c.came).0;
-          takes = subst (StandsArguments scope locals arguments c.item) a.is (arguments_sound arguments scope locals c.item d.item d.came);
-        },
-      )
+          takes = subst (StandsArguments scope locals arguments c.item) a.head_is (arguments_sound arguments scope locals c.item d.item d.came);
+        };
+        is = a.is;
+      }
 
   pub head_sound : (expression : Expr) (level : Level) (scope : Scope) (locals : Locals) (head : Head) → expand_head level scope locals expression ≡ Ok head → StandsHead scope locals expression head × (level_of head ≡ level)
   head_sound (NameExpr span path) level scope locals head h = name_sound level scope locals span path head h

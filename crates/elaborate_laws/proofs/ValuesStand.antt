@@ -1,11 +1,11 @@
 -- Classes and values: what is answered stands, and what stands is answered.
-use Rattle.std.proofs.Common.{◌≡◌, Bool, true, false, [], Ok, refl, sym, ap, ◌∙◌, subst}
+use Rattle.std.proofs.Common.{◌≡◌, ℕ, zero, suc, Bool, true, false, [], Ok, refl, sym, ap, ◌∙◌, subst}
 use Rattle.name_meaning.specs.Names.{Path}
-use Rattle.lf_meaning.specs.Terms.{Family, Kind, Ty, PiKind}
+use Rattle.lf_meaning.specs.Terms.{Family, Pi, AtFamily, Kind, Ty, PiKind}
 use Rattle.lf_meaning.specs.Signatures.{Class, FamilyClass, KindClass, Value, Declaration}
-use Rattle.lf_meaning.specs.Equality.{same_family, same_class}
-use Rattle.lf_term_laws.proofs.Equality.{same_family_sound, same_family_itself, same_class_sound, same_class_itself}
-use Rattle.translation_meaning.specs.Heads.{Head, FamilyHead}
+use Rattle.lf_meaning.specs.Equality.{same_family, same_kind, same_class}
+use Rattle.lf_term_laws.proofs.Equality.{same_family_sound, same_family_itself, same_kind_sound, same_kind_itself, same_class_sound, same_class_itself}
+use Rattle.translation_meaning.specs.Heads.{Head, ObjectHead, FamilyHead}
 use Rattle.library_meaning.specs.Resolution.{Scope, Resolved, Variable, Declared, Unknown, Ambiguous, resolve}
 use Rattle.library_meaning.specs.StandsFor.{StandsFor}
 use Rattle.library_laws.proofs.Resolving.{resolution_stands}
@@ -16,11 +16,11 @@ use Rattle.elaborate_meaning.specs.Answers.{must}
 use Rattle.elaborate_meaning.specs.Locals.{Locals, with_local}
 use Rattle.elaborate_meaning.specs.NameHeads.{Families, same_level, name_head}
 use Rattle.elaborate_meaning.specs.Expansion.{span_of, expand_head, expand_arguments, expand_object, expand_family, expand_kind}
-use Rattle.elaborate_meaning.specs.Values.{ends_in_type, class_by, expand_class, lambda_at_kind, family_at_kind, expand_family_value, class_level, resolved_declaration, named_value, built_value, expand_value}
+use Rattle.elaborate_meaning.specs.Values.{ends_in_type, class_by, expand_class, lambda_at_kind, expanded_family, family_at_kind, expand_family_value, class_level, resolved_declaration, named_value, built_value, expand_value}
 use Rattle.elaborate_meaning.specs.Stands.{StandsHead, StandsArguments, StandsClass, StandsFamily, StandsFamilyValue, NameGives, BuildsValue, StandsValue}
 use Rattle.elaborate_laws.proofs.Binding.{must_holds, must_by}
 use Rattle.elaborate_laws.proofs.NamesStand.{same_level_itself, name_sound, name_complete}
-use Rattle.elaborate_laws.proofs.Sound.{FamilyAt, family_at_sound, object_sound, head_sound, arguments_sound, family_sound, kind_sound}
+use Rattle.elaborate_laws.proofs.Sound.{family_at_sound, object_sound, head_sound, arguments_sound, family_sound, kind_sound}
 use Rattle.elaborate_laws.proofs.Complete.{object_complete, head_complete, arguments_complete, arguments_keep, family_complete, kind_complete}
 use Rattle.list_laws.proofs.Answers.{came_by, goes_by, ok_same}
 
@@ -47,13 +47,33 @@ class_complete scope expression (KindClass kind) s =
 
 -- ---- family values
 
+-- at `type` an outcome is left
+at_type : (binders : ℕ) (outcome : Family) → expanded_family Ty binders outcome ≡ outcome
+at_type zero (AtFamily p) = refl
+at_type zero (Pi domain codomain) = refl
+at_type (suc binders) outcome = refl
+
 record FamilyAtKind (kind : Kind) (head : Head) (family : Family) : Type 0 where
-  pub kind_is : kind ≡ Ty
-  pub at : FamilyAt head family
+  pub binders : ℕ
+  pub outcome : Family
+  pub head_is : head ≡ FamilyHead binders outcome kind
+  pub is : family ≡ expanded_family kind binders outcome
 
 family_at_kind_sound : (span : Span) (kind : Kind) (head : Head) (family : Family) → family_at_kind span kind head ≡ Ok family → FamilyAtKind kind head family
-family_at_kind_sound span (PiKind domain rest) head family h = absurd (cc)
-family_at_kind_sound span Ty head family h = record { kind_is = refl; at = family_at_sound span head family h }
+family_at_kind_sound span (PiKind domain rest) (FamilyHead binders outcome kind) family h =
+    let c = came_by (must (same_kind kind (PiKind domain rest)) span Rule.Mismatch) _ family h in
+    let e : kind ≡ PiKind domain rest = same_kind_sound kind (PiKind domain rest) (must_holds (same_kind kind (PiKind domain rest)) span Rule.Mismatch c.item c.came) in
+    record { binders = binders; outcome = outcome; head_is = ap (FamilyHead binders outcome) e; is = sym (ok_same c.goes) }
+family_at_kind_sound span (PiKind domain rest) (ObjectHead object classifier) family h = absurd (cc)
+family_at_kind_sound span Ty head family h =
+    let a = family_at_sound span head family h in
+    record { binders = a.binders; outcome = family; head_is = a.is; is = sym (at_type a.binders family) }
+
+family_at_kind_complete : (span : Span) (kind : Kind) (binders : ℕ) (outcome family : Family) → family ≡ expanded_family kind binders outcome → family_at_kind span kind (FamilyHead binders outcome kind) ≡ Ok family
+family_at_kind_complete span (PiKind domain rest) binders outcome family e =
+    let kind : Kind = PiKind domain rest in
+    goes_by (must (same_kind kind kind) span Rule.Mismatch) _ tt family (must_by (same_kind kind kind) span Rule.Mismatch (same_kind_itself kind)) (ap Ok (sym e))
+family_at_kind_complete span Ty binders outcome family e = ap Ok (sym (e ∙ at_type binders outcome))
 
 lambda_at_kind_sound : (span : Span) (kind : Kind) (domain : Family) (rest : Kind) → lambda_at_kind span kind ≡ Ok (record { domain = domain; rest = rest }) → kind ≡ PiKind domain rest
 lambda_at_kind_sound span (PiKind a k) domain rest h = let e = ok_same h in ap (λ z. PiKind z.domain z.rest) e
@@ -77,21 +97,21 @@ family_value_sound (BackExpr span inner domain) scope locals kind body h = absur
 family_value_sound (NameExpr span path) scope locals kind body h =
     let c = came_by (name_head Families scope locals span path) _ body h in
     let a = family_at_kind_sound span kind c.item body c.goes in
-    (a.kind_is, (a.at.binders, subst (StandsHead scope locals (NameExpr span path)) a.at.is ((name_sound Families scope locals span path c.item c.came).0)))
+    record { binders = a.binders; outcome = a.outcome; stands = subst (StandsHead scope locals (NameExpr span path)) a.head_is ((name_sound Families scope locals span path c.item c.came).0); is = a.is }
 family_value_sound (AppExpr span function arguments) scope locals kind body h =
     let c = came_by (expand_head Families scope locals function) _ body h in
     let d = came_by (expand_arguments scope locals arguments c.item) _ body c.goes in
-    let a = family_at_kind_sound span kind d.item body d.goes in (
-      a.kind_is,
-      (
-        a.at.binders,
-        record {
-          first = c.item;
-          begins = (head_sound function Families scope locals c.item c.came).0;
-          takes = subst (StandsArguments scope locals arguments c.item) a.at.is (arguments_sound arguments scope locals c.item d.item d.came);
-        },
-      ),
-    )
+    let a = family_at_kind_sound span kind d.item body d.goes in
+    record {
+      binders = a.binders;
+      outcome = a.outcome;
+      stands = record {
+        first = c.item;
+        begins = (head_sound function Families scope locals c.item c.came).0;
+        takes = subst (StandsArguments scope locals arguments c.item) a.head_is (arguments_sound arguments scope locals c.item d.item d.came);
+      };
+      is = a.is;
+    }
 
 pub family_value_complete : (expression : Expr) (scope : Scope) (locals : Locals) (kind : Kind) (body : Family) → StandsFamilyValue scope locals expression kind body → expand_family_value scope locals expression kind ≡ Ok body
 unfolding expand_family_value
@@ -108,17 +128,16 @@ family_value_complete (PiExpr span binder domain inner) scope locals kind body s
 family_value_complete (ArrowExpr span domain inner) scope locals kind body s = absurd s
 family_value_complete (BackExpr span inner domain) scope locals kind body s = absurd s
 family_value_complete (NameExpr span path) scope locals kind body s =
-    let b = s.1 in
-    goes_by (name_head Families scope locals span path) _ (FamilyHead b.0 body Ty) body (name_complete Families scope locals span path (FamilyHead b.0 body Ty) b.1 refl)
-    (ap (λ k. family_at_kind span k (FamilyHead b.0 body Ty)) s.0)
+    goes_by (name_head Families scope locals span path) _ (FamilyHead s.binders s.outcome kind) body (name_complete Families scope locals span path (FamilyHead s.binders s.outcome kind) s.stands refl)
+    (family_at_kind_complete span kind s.binders s.outcome body s.is)
 family_value_complete (AppExpr span function arguments) scope locals kind body s =
-    let b = s.1 in
-    let a = b.1 in
-    goes_by (expand_head Families scope locals function) _ a.first body
-    (head_complete function Families scope locals a.first a.begins (sym (arguments_keep arguments scope locals a.first (FamilyHead b.0 body Ty) a.takes)))
-    (goes_by (expand_arguments scope locals arguments a.first) _ (FamilyHead b.0 body Ty) body
-    (arguments_complete arguments scope locals a.first (FamilyHead b.0 body Ty) a.takes)
-    (ap (λ k. family_at_kind span k (FamilyHead b.0 body Ty)) s.0))
+    let b = s.stands in
+    let head : Head = FamilyHead s.binders s.outcome kind in
+    goes_by (expand_head Families scope locals function) _ b.first body
+    (head_complete function Families scope locals b.first b.begins (sym (arguments_keep arguments scope locals b.first head b.takes)))
+    (goes_by (expand_arguments scope locals arguments b.first) _ head body
+    (arguments_complete arguments scope locals b.first head b.takes)
+    (family_at_kind_complete span kind s.binders s.outcome body s.is))
 
 -- ---- values
 

@@ -1,8 +1,10 @@
 -- Expansion: the term that a written expression stands for, or its first fault (this profile). Each argument is taken by the
--- head so far (Harper and Licata 2007, section 2: hereditary substitution at the erasure of the classifier).
+-- head so far, and what is atomic at a Π is put in its long form (Harper and Licata 2007, section 2: hereditary substitution
+-- and η-expansion at the erasure of the classifier).
 use Rattle.std.specs.Prelude.{Option, Some, None, Ok}
 use Rattle.library_meaning.specs.Below.Terms.{Object, Lam, Family, Pi, AtFamily, Kind, Ty, PiKind}
 use Rattle.library_meaning.specs.Below.Equality.{same_family}
+use Rattle.library_meaning.specs.Below.LongTerms.{expanded}
 use Rattle.library_meaning.specs.Below.Heads.{Head, ObjectHead, FamilyHead, head_takes}
 use Rattle.library_meaning.specs.Resolution.{Scope}
 use Rattle.text_meaning.specs.Tokens.{Span}
@@ -41,14 +43,13 @@ domain_of (ObjectHead object (AtFamily p)) = None
 domain_of (FamilyHead binders family (PiKind domain kind)) = Some domain
 domain_of (FamilyHead binders family Ty) = None
 
--- The object of a head that is wanted at this family: a name or an application stands at an atomic family alone, and
--- there only where it has just this one.
+-- The object of a head that is wanted at this family: a name or an application stands only where its classifier is just this
+-- one. What it comes out as is put in its long form, where it is not there already.
 abbrev pub object_at : Span → Family → Head → Answer Object
-object_at span (Pi domain codomain) head = broken span Rule.NotCanonical
-object_at span (AtFamily p) (ObjectHead object classifier) = do
-  _ ← must (same_family classifier (AtFamily p)) span Rule.Mismatch
-  Ok object
-object_at span (AtFamily p) (FamilyHead binders family kind) = broken span Rule.Level
+object_at span family (ObjectHead outcome classifier) = do
+  _ ← must (same_family classifier family) span Rule.Mismatch
+  Ok (expanded family outcome)
+object_at span family (FamilyHead binders other kind) = broken span Rule.Level
 
 -- The family of a head whose remaining kind is `type`.
 abbrev pub family_at_type : Span → Head → Answer Family

@@ -1,10 +1,10 @@
 -- What a written expression stands for, as relations: one case for each form of expression, and one argument for each case
--- (this profile; heads take arguments as in Harper and Licata 2007, section 2).
+-- (this profile; heads take arguments, and atomic objects have long forms, as in Harper and Licata 2007, section 2).
 use Rattle.std.specs.Prelude.{◌≡◌, ℕ, Some, None, true, false, [], ⊤}
 use Rattle.name_meaning.specs.Names.{Path}
 use Rattle.library_meaning.specs.Below.Terms.{Object, Lam, At, Var, Family, Pi, Kind, Ty, PiKind, domain_count}
 use Rattle.library_meaning.specs.Below.Signatures.{Class, FamilyClass, KindClass, Value, Declaration}
-use Rattle.library_meaning.specs.Below.AtomicFamilies.{IsAtomicFamily}
+use Rattle.library_meaning.specs.Below.LongTerms.{expanded}
 use Rattle.library_meaning.specs.Below.Heads.{Head, ObjectHead, FamilyHead, head_takes}
 use Rattle.library_meaning.specs.Below.Translation.{object_value, family_value}
 use Rattle.library_meaning.specs.Resolution.{Scope, Resolved, Variable, Declared, Unknown, Ambiguous}
@@ -14,7 +14,7 @@ use Rattle.text_meaning.specs.Trees.{Expr, TypeExpr, NameExpr, AppExpr, PiExpr, 
 use Rattle.elaborate_meaning.specs.Locals.{Locals, with_local, variables_of, family_at}
 use Rattle.elaborate_meaning.specs.NameHeads.{declared_head}
 use Rattle.elaborate_meaning.specs.Expansion.{domain_of}
-use Rattle.elaborate_meaning.specs.Values.{ends_in_type}
+use Rattle.elaborate_meaning.specs.Values.{ends_in_type, expanded_family}
 
 -- A variable begins as itself at its family; a declared constant as its value or as itself.
 abbrev pub BeginsAs : Locals → Resolved → Head → Type 0
@@ -63,6 +63,12 @@ pub record ProductStands (domain_stands : Family → Type 0) (body_stands : Fami
   pub first : domain_stands domain
   pub second : body_stands domain codomain
 
+-- A name or an application comes out as some object with this family for its classifier, which stands for this object there.
+pub record OutcomeStands (stands_as : Head → Type 0) (family : Family) (object : Object) : Type 0 where
+  pub outcome : Object
+  pub stands : stands_as (ObjectHead outcome family)
+  pub is : object ≡ expanded family outcome
+
 -- Some family head is this family at `type`.
 abbrev pub IsFamilyHead : (Head → Type 0) → Family → Type 0
 IsFamilyHead stands family = (binders : ℕ) × stands (FamilyHead binders family Ty)
@@ -78,9 +84,9 @@ abbrev mutual
       LambdaStands (λ written. ⊤) (λ first codomain inner. StandsObject scope (with_local binder first locals) body codomain inner) family object
   StandsObject scope locals (TypedLamExpr span binder domain body) family object =
       LambdaStands (StandsFamily scope locals domain) (λ first codomain inner. StandsObject scope (with_local binder first locals) body codomain inner) family object
-  StandsObject scope locals (NameExpr span path) family object = IsAtomicFamily family × NameStands scope locals path (ObjectHead object family)
+  StandsObject scope locals (NameExpr span path) family object = OutcomeStands (NameStands scope locals path) family object
   StandsObject scope locals (AppExpr span function arguments) family object =
-      IsAtomicFamily family × ApplicationStands (StandsHead scope locals function) (StandsArguments scope locals arguments) (ObjectHead object family)
+      OutcomeStands (ApplicationStands (StandsHead scope locals function) (StandsArguments scope locals arguments)) family object
 
   -- A name, or a name with arguments, stands for what has become this head.
   pub StandsHead : Scope → Locals → Expr → Head → Type 0
@@ -150,15 +156,22 @@ pub record FamilyLambdaStands (written : Family → Type 0) (body_stands : Famil
   pub domain_stands : written domain
   pub stands : body_stands domain rest family
 
+-- A name or an application comes out as some family that has this kind left, which stands for this body there.
+pub record FamilyOutcomeStands (stands_as : Head → Type 0) (kind : Kind) (family : Family) : Type 0 where
+  pub binders : ℕ
+  pub outcome : Family
+  pub stands : stands_as (FamilyHead binders outcome kind)
+  pub is : family ≡ expanded_family kind binders outcome
+
 -- The expression stands for a family value of the kind, with this body.
 abbrev pub StandsFamilyValue : Scope → Locals → Expr → Kind → Family → Type 0
 StandsFamilyValue scope locals (LamExpr span binder body) kind family =
     FamilyLambdaStands (λ written. ⊤) (λ first rest inner. StandsFamilyValue scope (with_local binder first locals) body rest inner) kind family
 StandsFamilyValue scope locals (TypedLamExpr span binder domain body) kind family =
     FamilyLambdaStands (StandsFamily scope locals domain) (λ first rest inner. StandsFamilyValue scope (with_local binder first locals) body rest inner) kind family
-StandsFamilyValue scope locals (NameExpr span path) kind family = (kind ≡ Ty) × IsFamilyHead (NameStands scope locals path) family
+StandsFamilyValue scope locals (NameExpr span path) kind family = FamilyOutcomeStands (NameStands scope locals path) kind family
 StandsFamilyValue scope locals (AppExpr span function arguments) kind family =
-    (kind ≡ Ty) × IsFamilyHead (ApplicationStands (StandsHead scope locals function) (StandsArguments scope locals arguments)) family
+    FamilyOutcomeStands (ApplicationStands (StandsHead scope locals function) (StandsArguments scope locals arguments)) kind family
 StandsFamilyValue scope locals (TypeExpr span) kind family = ⊥
 StandsFamilyValue scope locals (PiExpr span binder domain body) kind family = ⊥
 StandsFamilyValue scope locals (ArrowExpr span domain body) kind family = ⊥

@@ -1,11 +1,12 @@
 -- Classes and values: what stands behind the colon of a declaration, and behind its `=` or that of an assignment (this
 -- profile).
-use Rattle.std.specs.Prelude.{Bool, true, false, [], Ok}
+use Rattle.std.specs.Prelude.{ℕ, zero, suc, Bool, true, false, [], Ok}
 use Rattle.name_meaning.specs.Names.{Path}
-use Rattle.library_meaning.specs.Below.Terms.{Family, Kind, Ty, PiKind, domain_count}
+use Rattle.library_meaning.specs.Below.Terms.{Family, Pi, AtFamily, Kind, Ty, PiKind, domain_count}
 use Rattle.library_meaning.specs.Below.Signatures.{Class, FamilyClass, KindClass, Value, Declaration}
-use Rattle.library_meaning.specs.Below.Equality.{same_family, same_class}
-use Rattle.library_meaning.specs.Below.Heads.{Head}
+use Rattle.library_meaning.specs.Below.Equality.{same_family, same_kind, same_class}
+use Rattle.library_meaning.specs.Below.LongTerms.{eta_family}
+use Rattle.library_meaning.specs.Below.Heads.{Head, ObjectHead, FamilyHead}
 use Rattle.library_meaning.specs.Below.Translation.{object_value, family_value}
 use Rattle.library_meaning.specs.Resolution.{Scope, Resolved, Variable, Declared, Unknown, Ambiguous, resolve}
 use Rattle.library_meaning.specs.Words.{own_value}
@@ -52,13 +53,25 @@ abbrev pub lambda_at_kind : Span → Kind → Answer KindProduct
 lambda_at_kind span (PiKind domain rest) = Ok (record { domain = domain; rest = rest })
 lambda_at_kind span Ty = broken span Rule.Mismatch
 
--- The family of a head that is wanted at this kind: a name or an application stands at `type` alone.
+-- The body of the family value that an outcome stands for at a kind: behind the kind's domains, the outcome applied to the
+-- long forms of their variables. Where binders are left, there is one for each of these domains, and what stands under them is
+-- this body already. A Π takes no argument.
+abbrev pub expanded_family : Kind → ℕ → Family → Family
+expanded_family kind zero (AtFamily p) = AtFamily (eta_family kind p)
+expanded_family kind zero (Pi domain codomain) = Pi domain codomain
+expanded_family kind (suc binders) outcome = outcome
+
+-- The family of a head that is wanted at this kind: at a Π kind a name or an application stands only where the kind that it has
+-- left is just this one.
 abbrev pub family_at_kind : Span → Kind → Head → Answer Family
-family_at_kind span (PiKind domain rest) head = broken span Rule.NotCanonical
+family_at_kind span (PiKind domain rest) (FamilyHead binders outcome kind) = do
+  _ ← must (same_kind kind (PiKind domain rest)) span Rule.Mismatch
+  Ok (expanded_family (PiKind domain rest) binders outcome)
+family_at_kind span (PiKind domain rest) (ObjectHead object classifier) = broken span Rule.Level
 family_at_kind span Ty head = family_at_type span head
 
--- The body of the family value that an expression stands for at a kind: λ for each domain of the kind, and an atomic
--- family under them.
+-- The body of the family value that an expression stands for at a kind: λ for domains of the kind, and under them a name or
+-- an application at the kind that is left.
 unfoldable pub expand_family_value : Scope → Locals → Expr → Kind → Answer Family
 expand_family_value scope locals (LamExpr span binder body) kind = do
   product ← lambda_at_kind span kind

@@ -1,5 +1,5 @@
 -- What stands is well typed over a well-typed signature that knows the scope's declarations, as the scope's own does.
-use Rattle.std.proofs.Common.{◌≡◌, ℕ, zero, suc, [], ◌∷◌, ◌++◌, take, drop, slice_get, Option, Some, None, option_map, inl, inr, refl, sym, ap, subst}
+use Rattle.std.proofs.Common.{◌≡◌, ℕ, zero, suc, [], ◌∷◌, ◌++◌, take, drop, slice_get, Option, Some, None, option_map, inl, inr, refl, sym, ap, subst, subst₂}
 use Rattle.name_meaning.specs.Names.{Path}
 use Rattle.lf_meaning.specs.Terms.{Object, Lam, At, Var, Con, App, Family, Pi, AtFamily, FamilyCon, FamilyApp, Kind, Ty, PiKind, Context, domain_count, with_domains}
 use Rattle.lf_meaning.specs.Raising.{raise_family}
@@ -18,7 +18,7 @@ use Rattle.library_meaning.specs.Words.{own_value}
 use Rattle.text_meaning.specs.Trees.{Expr, TypeExpr, NameExpr, AppExpr, PiExpr, LamExpr, TypedLamExpr, ArrowExpr, BackExpr, Exprs, NoArgs, ThenArg}
 use Rattle.elaborate_meaning.specs.Locals.{Local, Locals, with_local, variables_of, context_of, family_at}
 use Rattle.elaborate_meaning.specs.NameHeads.{class_head}
-use Rattle.translation_meaning.specs.AtomicFamilies.{IsAtomicFamily}
+use Rattle.elaborate_meaning.specs.Values.{expanded_family}
 use Rattle.elaborate_meaning.specs.Stands.{BeginsAs, NameStands, StandsObject, StandsHead, StandsArguments, StandsFamily, StandsKind, StandsClass, StandsFamilyValue, NameGives, BuildsValue, StandsValue}
 use Rattle.constant_laws.specs.HoldingLaws.{Grows}
 use Rattle.constant_laws.specs.ExpansionHolds.{scope_signature}
@@ -26,11 +26,13 @@ use Rattle.constant_laws.proofs.Declared.{class_in}
 use Rattle.constant_laws.proofs.Expanding.{scope_member}
 use Rattle.elaborate_typing.specs.TypingOfExpansion.{IsTypedScope, StandingObjectChecks, StandingHeadIsTyped, TakenArgumentsAreTyped, StandingFamilyIsFamily, StandingKindIsKind, StandingClassIsClass, StandingFamilyValueIsFamily, StandingValueFits}
 use Rattle.translation_typing.proofs.KindDomains.{domains_append}
-use Rattle.translation_typing.specs.FamilyHeads.{OnSpine, UnderBinders}
+use Rattle.translation_typing.specs.FamilyHeads.{FamilyTyped, OnSpine, UnderBinders}
 use Rattle.translation_typing.proofs.TypedHeads.{family_whole}
 use Rattle.translation_typing.proofs.Grown.{declaration_more}
-use Rattle.elaborate_typing.specs.TypingOfHeads.{HeadTyped}
-use Rattle.elaborate_typing.proofs.HeadsTyped.{object_checks, head_taken, domain_typed}
+use Rattle.eta_meaning.specs.LongTerms.{expanded}
+use Rattle.eta_laws.proofs.IdentityTyping.{eta_family_is_family, expanded_atomic_checks, expanded_checked}
+use Rattle.elaborate_typing.specs.TypingOfHeads.{ObjectTyped, HeadTyped}
+use Rattle.elaborate_typing.proofs.HeadsTyped.{head_taken, domain_typed}
 use Rattle.std.proofs.lemmas.Option.{same_Some}
 
 local_there : (locals : Locals) (index : ℕ) (family : Family) → family_at locals index ≡ Some family → (own : Family) × (slice_get (context_of locals) index ≡ Some own) × (family ≡ raise_family (suc index) 0 own)
@@ -90,9 +92,12 @@ module _ (scope : Scope) (sig : Signature) (typed : IsSignature sig) (knows : (d
 
   -- ---- expressions
 
-  at_atomic : (locals : Locals) (family : Family) (object : Object) (c : IsContext sig (context_of locals)) → IsAtomicFamily family → HeadTyped sig (context_of locals) (ObjectHead object family) → Checks sig (context_of locals) object family
-  at_atomic locals (Pi a b) object c i h = absurd i
-  at_atomic locals (AtFamily p) object c i h = object_checks sig typed (context_of locals) c object p h.0
+  outcome_checks : (locals : Locals) (family : Family) (outcome object : Object) (c : IsContext sig (context_of locals)) → object ≡ expanded family outcome → HeadTyped sig (context_of locals) (ObjectHead outcome family) → Checks sig (context_of locals) object family
+  outcome_checks locals family outcome object c e h = subst (λ z. Checks sig (context_of locals) z family) (sym e) (by h.0)
+    where
+      by : ObjectTyped sig (context_of locals) outcome family → Checks sig (context_of locals) (expanded family outcome) family
+      by (inl g) = subst (λ z. Checks sig (context_of locals) z family) (sym (expanded_checked sig (context_of locals) outcome family g)) g
+      by (inr g) = subst (λ z. Checks sig (context_of locals) (expanded family z) family) (sym g.1) (expanded_atomic_checks sig typed (context_of locals) c g.0 family g.2)
 
   mutual
     pub object_typed : (e : Expr) (locals : Locals) (family : Family) (object : Object) → IsContext sig (context_of locals) → IsFamily sig (context_of locals) family → StandsObject scope locals e family object → Checks sig (context_of locals) object family
@@ -108,9 +113,9 @@ module _ (scope : Scope) (sig : Signature) (typed : IsSignature sig) (knows : (d
         let g : IsFamily sig (context_of locals) (Pi s.domain s.codomain) = subst (IsFamily sig (context_of locals)) s.family_is f in
         let h : Checks sig (context_of locals) (Lam s.body) (Pi s.domain s.codomain) = object_typed body (with_local binder s.domain locals) s.codomain s.body (c, g.0) g.1 s.stands in
         subst (Checks sig (context_of locals) object) (sym s.family_is) (subst (λ z. Checks sig (context_of locals) z (Pi s.domain s.codomain)) (sym s.object_is) h)
-    object_typed (NameExpr span path) locals family object c f s = at_atomic locals family object c s.0 (name_typed locals path (ObjectHead object family) c s.1)
+    object_typed (NameExpr span path) locals family object c f s = outcome_checks locals family s.outcome object c s.is (name_typed locals path (ObjectHead s.outcome family) c s.stands)
     object_typed (AppExpr span function arguments) locals family object c f s =
-        let b = s.1 in at_atomic locals family object c s.0 (arguments_typed arguments locals b.first (ObjectHead object family) c (head_typed function locals b.first c b.begins) b.takes)
+        let b = s.stands in outcome_checks locals family s.outcome object c s.is (arguments_typed arguments locals b.first (ObjectHead s.outcome family) c (head_typed function locals b.first c b.begins) b.takes)
 
     pub head_typed : (e : Expr) (locals : Locals) (head : Head) (c : IsContext sig (context_of locals)) → StandsHead scope locals e head → HeadTyped sig (context_of locals) head
     head_typed (NameExpr span path) locals head c s = name_typed locals path head c s
@@ -168,8 +173,21 @@ module _ (scope : Scope) (sig : Signature) (typed : IsSignature sig) (knows : (d
 
   -- ---- values
 
-  at_type : (locals : Locals) (kind : Kind) (binders : ℕ) (family : Family) (c : IsContext sig (context_of locals)) → kind ≡ Ty → HeadTyped sig (context_of locals) (FamilyHead binders family Ty) → IsFamily sig (with_domains kind (context_of locals)) family
-  at_type locals kind binders family c e h = subst (λ k. IsFamily sig (with_domains k (context_of locals)) family) (sym e) (family_whole sig (context_of locals) binders family h.0)
+  -- with as many binders as the kind has domains an outcome is left
+  under_binders : (context : Context) (k : Kind) (n : ℕ) (outcome : Family) → n ≡ domain_count k → IsFamily sig (with_domains k context) outcome → IsFamily sig (with_domains k context) (expanded_family k n outcome)
+  under_binders context k (suc n) outcome e h = h
+  under_binders context k zero (Pi a b) e h = h
+  under_binders context Ty zero (AtFamily p) e h = h
+  under_binders context (PiKind a k) zero (AtFamily p) e h = absurd (cc)
+
+  outcome_is_family : (locals : Locals) (kind : Kind) (binders : ℕ) (outcome family : Family) (c : IsContext sig (context_of locals)) → family ≡ expanded_family kind binders outcome → HeadTyped sig (context_of locals) (FamilyHead binders outcome kind)
+      → IsFamily sig (with_domains kind (context_of locals)) family
+  outcome_is_family locals kind binders outcome family c e h = subst (IsFamily sig (with_domains kind (context_of locals))) (sym e) (by h.0)
+    where
+      by : FamilyTyped sig (context_of locals) binders outcome kind → IsFamily sig (with_domains kind (context_of locals)) (expanded_family kind binders outcome)
+      by (OnSpine p none q g) =
+          subst₂ (λ n a. IsFamily sig (with_domains kind (context_of locals)) (expanded_family kind n a)) (sym none) (sym q) (eta_family_is_family sig typed (context_of locals) c p kind g)
+      by (UnderBinders n g) = under_binders (context_of locals) kind binders outcome n g
 
   pub family_value_typed : (e : Expr) (locals : Locals) (kind : Kind) (family : Family) → IsContext sig (context_of locals) → IsKind sig (context_of locals) kind → StandsFamilyValue scope locals e kind family → IsFamily sig (with_domains kind (context_of locals)) family
   family_value_typed (LamExpr span binder body) locals kind family c k s =
@@ -178,11 +196,11 @@ module _ (scope : Scope) (sig : Signature) (typed : IsSignature sig) (knows : (d
   family_value_typed (TypedLamExpr span binder domain body) locals kind family c k s =
       let g : IsKind sig (context_of locals) (PiKind s.domain s.rest) = subst (IsKind sig (context_of locals)) s.kind_is k in
       subst (λ z. IsFamily sig (with_domains z (context_of locals)) family) (sym s.kind_is) (family_value_typed body (with_local binder s.domain locals) s.rest family (c, g.0) g.1 s.stands)
-  family_value_typed (NameExpr span path) locals kind family c k s = let b = s.1 in at_type locals kind b.0 family c s.0 (name_typed locals path (FamilyHead b.0 family Ty) c b.1)
+  family_value_typed (NameExpr span path) locals kind family c k s =
+      outcome_is_family locals kind s.binders s.outcome family c s.is (name_typed locals path (FamilyHead s.binders s.outcome kind) c s.stands)
   family_value_typed (AppExpr span function arguments) locals kind family c k s =
-      let b = s.1 in
-      let a = b.1 in
-      at_type locals kind b.0 family c s.0 (arguments_typed arguments locals a.first (FamilyHead b.0 family Ty) c (head_typed function locals a.first c a.begins) a.takes)
+      let b = s.stands in
+      outcome_is_family locals kind s.binders s.outcome family c s.is (arguments_typed arguments locals b.first (FamilyHead s.binders s.outcome kind) c (head_typed function locals b.first c b.begins) b.takes)
   family_value_typed (TypeExpr span) locals kind family c k s = absurd s
   family_value_typed (PiExpr span binder domain body) locals kind family c k s = absurd s
   family_value_typed (ArrowExpr span domain body) locals kind family c k s = absurd s

@@ -1,6 +1,6 @@
 -- Heads that take arguments of their domains stay well typed.
 use Rattle.std.proofs.Common.{◌≡◌, ℕ, zero, suc, [], ◌∷◌, Some, inl, inr, refl, sym, ap, subst}
-use Rattle.lf_meaning.specs.Terms.{Object, App, Family, Pi, AtFamily, AtomicFamily, Kind, Ty, PiKind, Context}
+use Rattle.lf_meaning.specs.Terms.{Object, App, Family, Pi, AtFamily, Kind, Ty, PiKind, Context}
 use Rattle.lf_meaning.specs.Erasure.{erase}
 use Rattle.lf_meaning.specs.Substitution.{substitute_family, app}
 use Rattle.lf_meaning.specs.Signatures.{Signature}
@@ -15,10 +15,6 @@ use Rattle.elaborate_meaning.specs.Expansion.{domain_of}
 use Rattle.elaborate_typing.specs.TypingOfHeads.{ObjectTyped, HeadTyped}
 
 module _ (sig : Signature) (typed : IsSignature sig) (context : Context) (context_is : IsContext sig context) where
-  pub object_checks : (m : Object) (p : AtomicFamily) → ObjectTyped sig context m (AtFamily p) → Checks sig context m (AtFamily p)
-  object_checks m p (inl h) = h
-  object_checks m p (inr h) = subst (λ z. Checks sig context z (AtFamily p)) (sym h.1) h.2
-
   object_taken : (m n : Object) (a b : Family) → IsFamily sig context (Pi a b) → ObjectTyped sig context m (Pi a b) → Checks sig context n a → ObjectTyped sig context ((app (erase (Pi a b)) m n).value) (substitute_family n (erase a) 0 b)
   object_taken m n a b f (inl h) g = inl (app_checks sig typed context context_is a b f n g m h)
   object_taken m n a b f (inr h) g = inr (App h.0 n, ap (λ z. (app (erase (Pi a b)) z n).value) h.1, record { domain = a; body = b; head_has = h.2; argument_has = g; is = refl })

@@ -1,2 +1,3 @@
 pub mod HeadsTyped
 pub mod Expanding
+pub mod Applied

@@ -1,2 +1,3 @@
 pub mod TypingOfHeads
 pub mod TypingOfExpansion
+pub mod AppliedFamilies

@@ -3,7 +3,7 @@ use Rattle.std.proofs.Common.{ℕ, Bool, true, false, [], Option, Some, None, re
 use Rattle.name_meaning.specs.Names.{Path}
 use Rattle.lf_meaning.specs.Terms.{Family, Pi, AtFamily, Kind, Ty, PiKind}
 use Rattle.lf_meaning.specs.Signatures.{Class, FamilyClass, KindClass}
-use Rattle.lf_meaning.specs.Equality.{same_family, same_class}
+use Rattle.lf_meaning.specs.Equality.{same_family, same_kind, same_class}
 use Rattle.translation_meaning.specs.Heads.{Head, ObjectHead, FamilyHead}
 use Rattle.library_meaning.specs.Resolution.{Scope, Resolved, Variable, Declared, Unknown, Ambiguous, resolve}
 use Rattle.text_meaning.specs.Tokens.{Span}
@@ -55,10 +55,9 @@ module _ (P : Span → Type 0) where
   lambda_told span (AtFamily p) h = (h, refl)
 
   object_told : (span : Span) (family : Family) (head : Head) → P span → Told (object_at span family head)
-  object_told span (Pi domain codomain) head h = (h, refl)
-  object_told span (AtFamily p) (ObjectHead object classifier) h =
-      tells_then P expression_rules (must (same_family classifier (AtFamily p)) span Rule.Mismatch) _ (tells_test P expression_rules (same_family classifier (AtFamily p)) span Rule.Mismatch h refl) (λ done. tt)
-  object_told span (AtFamily p) (FamilyHead binders family kind) h = (h, refl)
+  object_told span family (ObjectHead outcome classifier) h =
+      tells_then P expression_rules (must (same_family classifier family) span Rule.Mismatch) _ (tells_test P expression_rules (same_family classifier family) span Rule.Mismatch h refl) (λ done. tt)
+  object_told span family (FamilyHead binders other kind) h = (h, refl)
 
   family_told : (span : Span) (head : Head) → P span → Told (family_at_type span head)
   family_told span (FamilyHead binders family Ty) h = tt
@@ -167,7 +166,9 @@ module _ (P : Span → Type 0) where
   lambda_kind_told span Ty h = (h, refl)
 
   family_kind_told : (span : Span) (kind : Kind) (head : Head) → P span → Told (family_at_kind span kind head)
-  family_kind_told span (PiKind domain rest) head h = (h, refl)
+  family_kind_told span (PiKind domain rest) (FamilyHead binders outcome kind) h =
+      tells_then P expression_rules (must (same_kind kind (PiKind domain rest)) span Rule.Mismatch) _ (tells_test P expression_rules (same_kind kind (PiKind domain rest)) span Rule.Mismatch h refl) (λ done. tt)
+  family_kind_told span (PiKind domain rest) (ObjectHead object classifier) h = (h, refl)
   family_kind_told span Ty head h = family_told span head h
 
   family_value_faults : (e : Expr) (scope : Scope) (locals : Locals) (kind : Kind) → ExprStands P e → Told (expand_family_value scope locals e kind)

@@ -1,1 +1,2 @@
 pub mod Codomain
+pub mod LongForms

@@ -105,7 +105,7 @@ fn subst_spine(
 }
 
 /// One call less.
-fn one_less(left: u32) -> Result<u32, Memory>
+pub(crate) fn one_less(left: u32) -> Result<u32, Memory>
     ensures { IfOk result (λ less. left ≡ less + 1) }
 {
     left.checked_sub(1).ok_or(Memory)

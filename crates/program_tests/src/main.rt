@@ -51,6 +51,7 @@ const FILES: &[&str] = &[
     "rows.cases",
     "carried.cases",
     "printed.cases",
+    "short.cases",
     "large.cases",
     "hostile.cases",
     "held.cases",

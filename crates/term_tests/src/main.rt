@@ -1,10 +1,11 @@
-//! Terms, substitution, the checker, translation, and the laws over terms in memory, row by row. Each file of `data/` that is named here
-//! has cases, parted by lines that begin with `==` and their kind: rows, with parts between ` ; ` and what is wanted last, and the tables
-//! that they are about. It is printed how many rows hold, and each one that does not.
+//! Terms, substitution, long forms, the checker, translation, and the laws over terms in memory, row by row. Each file of `data/` that is
+//! named here has cases, parted by lines that begin with `==` and their kind: rows, with parts between ` ; ` and what is wanted last, and
+//! the tables that they are about. It is printed how many rows hold, and each one that does not.
 #![tactic(auto)]
 
 mod judgements;
 mod laws;
+mod long_forms;
 mod names;
 mod rows;
 mod signatures;
@@ -24,6 +25,7 @@ const FILES: &[&str] = &[
     "names.cases",
     "terms.cases",
     "substitutions.cases",
+    "long_forms.cases",
     "signatures.cases",
     "judgements.cases",
     "translations.cases",

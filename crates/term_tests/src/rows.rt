@@ -2,6 +2,7 @@
 
 use crate::judgements::{judges, synthesises};
 use crate::laws::{both_give, carries, keeps_typing};
+use crate::long_forms::{is_long_form, is_long_value, takes};
 use crate::names::{is_name, is_no_name, name_call};
 use crate::signatures::{answers, answers_behind};
 use crate::spines::spine_call;
@@ -60,6 +61,9 @@ pub(crate) fn holds(alloc: Global, case: &Case<'_>, line: &str) -> bool {
         "copied" => is_copied(alloc, row.first),
         "substituted" => gives(alloc, row),
         "reduced" => reduces(alloc, row),
+        "long forms" => is_long_form(alloc, row),
+        "long forms that take arguments" => takes(alloc, row),
+        "long values" => is_long_value(alloc, row),
         "whole signatures" => answers(alloc, file(case, row.first), row.second),
         "declarations" => answers_behind(alloc, file(case, "signature"), row.first, row.second),
         "judged" => judges(alloc, case, row.first, row.second),

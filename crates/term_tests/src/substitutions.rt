@@ -27,12 +27,12 @@ fn copy_of(alloc: Global, text: &str) -> Option<Box<Term>> {
     copied(alloc, &term)
 }
 
-fn read_value(alloc: Global, text: &str) -> Option<Box<Obj>> {
+pub(crate) fn read_value(alloc: Global, text: &str) -> Option<Box<Obj>> {
     let text = expanded(alloc, text)?;
     object(alloc, "", text.as_str())
 }
 
-fn read_type(alloc: Global, text: &str) -> Option<Box<Simple>> {
+pub(crate) fn read_type(alloc: Global, text: &str) -> Option<Box<Simple>> {
     let text = expanded(alloc, text)?;
     simple(alloc, text.as_str())
 }
@@ -86,7 +86,7 @@ fn is_reduced(alloc: Global, value: &Obj, simple: &Simple, row: Row<'_>) -> bool
     }
 }
 
-fn is_object(alloc: Global, found: Result<Obj, Memory>, wanted: &str) -> bool {
+pub(crate) fn is_object(alloc: Global, found: Result<Obj, Memory>, wanted: &str) -> bool {
     let wanted = read_value(alloc, wanted);
     let holds = match (&found, &wanted) {
         (Ok(found), Some(wanted)) => same_obj(found, wanted),

@@ -20,8 +20,8 @@ pub(crate) enum Term {
     Value(Box<Value>),
 }
 
-/// The text itself, or of `A|B|C` the text of A, of B 1,000 times, and of C. Where nothing stands before the first bar,
-/// it is 500 times: so deep the terms are nested.
+/// The text itself, or of `A|B|C` the text of A, of B 1,000 times, and of C; of `A|B|C|D|E` the same with D, too. Where nothing stands
+/// before the first bar, it is 500 times: so deep the terms are nested.
 pub(crate) fn expanded(alloc: Global, text: &str) -> Option<String> {
     let mut whole = String::new(alloc);
     if is_expanded(&mut whole, text) {
@@ -32,16 +32,21 @@ pub(crate) fn expanded(alloc: Global, text: &str) -> Option<String> {
     }
 }
 
-/// Whether memory was there for it.
+/// Whether each second bar has a part behind it, and memory was there for all.
 fn is_expanded(whole: &mut String, text: &str) -> bool {
-    let Some((front, rest)) = text.split_once('|') else {
-        return whole.push_str(text).is_ok();
+    let count = if text.as_bytes().starts_with(b"|") {
+        500
+    } else {
+        1_000
     };
-    let Some((part, back)) = rest.split_once('|') else {
-        return false;
-    };
-    let count = if front.is_empty() { 500 } else { 1_000 };
-    whole.push_str(front).is_ok() && is_repeated(whole, part, count) && whole.push_str(back).is_ok()
+    let mut all = true;
+    let mut many = false;
+    for part in text.split('|') {
+        let times = if many { count } else { 1 };
+        all = all && is_repeated(whole, part, times);
+        many = !many;
+    }
+    all && many
 }
 
 fn is_repeated(whole: &mut String, part: &str, count: u32) -> bool {

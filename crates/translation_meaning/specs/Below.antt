@@ -1,9 +1,10 @@
 -- What those above cite of the crates below, which they have from here.
-pub use Rattle.lf_meaning.specs.Below.Names
-pub use Rattle.lf_meaning.specs.Below.Rows
-pub use Rattle.lf_meaning.specs.Equality
-pub use Rattle.lf_meaning.specs.Erasure
-pub use Rattle.lf_meaning.specs.HeadMaps
-pub use Rattle.lf_meaning.specs.Raising
-pub use Rattle.lf_meaning.specs.Signatures
-pub use Rattle.lf_meaning.specs.Terms
+pub use Rattle.eta_meaning.specs.Below.Names
+pub use Rattle.eta_meaning.specs.Below.Rows
+pub use Rattle.eta_meaning.specs.Below.Equality
+pub use Rattle.eta_meaning.specs.Below.Erasure
+pub use Rattle.eta_meaning.specs.Below.HeadMaps
+pub use Rattle.eta_meaning.specs.Below.Raising
+pub use Rattle.eta_meaning.specs.Below.Signatures
+pub use Rattle.eta_meaning.specs.Below.Terms
+pub use Rattle.eta_meaning.specs.LongTerms

@@ -1,9 +1,9 @@
 -- Where two maps differ (this profile).
 use Rattle.std.specs.Prelude.{ℕ, zero, suc, Bool, false, [], ◌∷◌, Option, Some, None, option_map, if◌then◌else◌}
-use Rattle.lf_meaning.specs.Terms.{Constant}
-use Rattle.lf_meaning.specs.Signatures.{Value, Declaration, Signature}
-use Rattle.lf_meaning.specs.Equality.{same_value}
-use Rattle.lf_meaning.specs.HeadMaps.{Image, HeadMap, image_of}
+use Rattle.eta_meaning.specs.Below.Terms.{Constant}
+use Rattle.eta_meaning.specs.Below.Signatures.{Value, Declaration, Signature}
+use Rattle.eta_meaning.specs.Below.Equality.{same_value}
+use Rattle.eta_meaning.specs.Below.HeadMaps.{Image, HeadMap, image_of}
 
 -- The value of a constant's image, if it has one.
 abbrev pub value_in : HeadMap → Constant → Option Value

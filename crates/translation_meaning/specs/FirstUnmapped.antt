@@ -1,8 +1,8 @@
 -- What it means that a constant is the first one without an image (this profile): beside the function that finds it.
 use Rattle.std.specs.Prelude.{◌≡◌, List, [], ◌∷◌, ◌++◌, Option, Some, None, IsSome, All}
-use Rattle.lf_meaning.specs.Terms.{Constant, Object, Lam, At, Atomic, Var, Con, App, Family, Pi, AtFamily, AtomicFamily, FamilyCon, FamilyApp, Kind, Ty, PiKind}
-use Rattle.lf_meaning.specs.Signatures.{Class, FamilyClass, KindClass, Value, SameAs, TermValue, FamilyValue}
-use Rattle.lf_meaning.specs.HeadMaps.{HeadMap, image_of}
+use Rattle.eta_meaning.specs.Below.Terms.{Constant, Object, Lam, At, Atomic, Var, Con, App, Family, Pi, AtFamily, AtomicFamily, FamilyCon, FamilyApp, Kind, Ty, PiKind}
+use Rattle.eta_meaning.specs.Below.Signatures.{Class, FamilyClass, KindClass, Value, SameAs, TermValue, FamilyValue}
+use Rattle.eta_meaning.specs.Below.HeadMaps.{HeadMap, image_of}
 
 -- The constants that stand in a term, from left to right.
 abbrev mutual

@@ -1,9 +1,9 @@
 -- Heads that take arguments, one at a time (Harper and Licata 2007, section 2; definitions that are families are this
 -- profile's). What a head is followed by decides nothing: each argument is taken by the head so far.
 use Rattle.std.specs.Prelude.{ℕ, zero, suc, List, [], ◌∷◌}
-use Rattle.lf_meaning.specs.Terms.{Object, Family, Pi, AtFamily, FamilyApp, Kind, Ty, PiKind}
-use Rattle.lf_meaning.specs.Erasure.{erase}
-use Rattle.lf_meaning.specs.Substitution.{app, substitute_family, substitute_kind}
+use Rattle.eta_meaning.specs.Below.Terms.{Object, Family, Pi, AtFamily, FamilyApp, Kind, Ty, PiKind}
+use Rattle.eta_meaning.specs.Below.Erasure.{erase}
+use Rattle.eta_meaning.specs.Below.Substitution.{app, substitute_family, substitute_kind}
 
 -- An object with its classifier, or a family that still has so many binders, with the kind that is left.
 pub data Head : Type 0 where

@@ -1,9 +1,9 @@
 -- Values in the form in which they are kept: what can be said by naming a constant is said so, and a family value is atomic
 -- below its binders (this profile).
 use Rattle.std.specs.Prelude.{◌≡◌, ℕ, ◌<◌, Some, ⊤}
-use Rattle.lf_meaning.specs.Terms.{Constant, Object, Lam, At, Var, Con, App, Family, Pi, AtFamily, FamilyCon, FamilyApp}
-use Rattle.lf_meaning.specs.Signatures.{Value, SameAs, TermValue, FamilyValue}
-use Rattle.lf_meaning.specs.HeadMaps.{Image, HeadMap, image_of}
+use Rattle.eta_meaning.specs.Below.Terms.{Constant, Object, Lam, At, Var, Con, App, Family, Pi, AtFamily, FamilyCon, FamilyApp}
+use Rattle.eta_meaning.specs.Below.Signatures.{Value, SameAs, TermValue, FamilyValue}
+use Rattle.eta_meaning.specs.Below.HeadMaps.{Image, HeadMap, image_of}
 
 -- The object is no constant without arguments; as a value such a one is the same as the constant.
 abbrev pub IsNoConstant : Object → Type 0

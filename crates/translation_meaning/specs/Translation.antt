@@ -1,13 +1,13 @@
 -- Translation along a head map (Rabe and Kohlhase 2013, section 4: the homomorphic extension of a morphism; here the result
 -- is brought to canonical form hereditarily).
 use Rattle.std.specs.Prelude.{ℕ, zero, suc, Option, Some, None, map}
-use Rattle.lf_meaning.specs.Terms.{Constant, Object, Lam, At, Var, Con, App, Family, Pi, AtFamily, AtomicFamily, FamilyCon, FamilyApp, Kind, Ty, PiKind}
-use Rattle.lf_meaning.specs.Erasure.{erase}
-use Rattle.lf_meaning.specs.Replacement.{Headed, Kept, Replaced, replace_constants}
-use Rattle.lf_meaning.specs.Substitution.{action}
-use Rattle.lf_meaning.specs.Signatures.{Class, FamilyClass, KindClass, Value, SameAs, TermValue, FamilyValue}
+use Rattle.eta_meaning.specs.Below.Terms.{Constant, Object, Lam, At, Var, Con, App, Family, Pi, AtFamily, AtomicFamily, FamilyCon, FamilyApp, Kind, Ty, PiKind}
+use Rattle.eta_meaning.specs.Below.Erasure.{erase}
+use Rattle.eta_meaning.specs.Below.Replacement.{Headed, Kept, Replaced, replace_constants}
+use Rattle.eta_meaning.specs.Below.Substitution.{action}
+use Rattle.eta_meaning.specs.Below.Signatures.{Class, FamilyClass, KindClass, Value, SameAs, TermValue, FamilyValue}
 use Rattle.translation_meaning.specs.Heads.{Head, ObjectHead, FamilyHead, head_takes}
-use Rattle.lf_meaning.specs.HeadMaps.{Image, Mapping, HeadMap, image_of}
+use Rattle.eta_meaning.specs.Below.HeadMaps.{Image, Mapping, HeadMap, image_of}
 
 -- What stands in place of an object constant with this image. The same constant d is d; a term is itself, at the
 -- erasure of the image's classifier. An image of another level leaves the constant: no checked map has one.

@@ -1,8 +1,8 @@
 -- Typed maps between signatures (Rabe and Kohlhase 2013, section 4: well-formed morphisms).
 use Rattle.std.specs.Prelude.{◌≡◌, ℕ, Option, Some, None, slice_get, ⊤}
-use Rattle.lf_meaning.specs.Signatures.{Value, Declaration, Signature}
-use Rattle.lf_meaning.specs.Judgements.{Fits}
-use Rattle.lf_meaning.specs.HeadMaps.{Image, HeadMap, image_of}
+use Rattle.eta_meaning.specs.Below.Signatures.{Value, Declaration, Signature}
+use Rattle.eta_meaning.specs.Below.Judgements.{Fits}
+use Rattle.eta_meaning.specs.Below.HeadMaps.{Image, HeadMap, image_of}
 use Rattle.translation_meaning.specs.Translation.{translate_class, translate_value}
 
 -- The image has the translated value of a defined constant; of an undefined one nothing is said.

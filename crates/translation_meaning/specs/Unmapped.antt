@@ -1,9 +1,9 @@
 -- The first constant without an image in what is to be translated (this profile). Parts are taken from left to right, and a
 -- head before its arguments.
 use Rattle.std.specs.Prelude.{[], ◌∷◌, Option, Some, None}
-use Rattle.lf_meaning.specs.Terms.{Constant, Object, Lam, At, Atomic, Var, Con, App, Family, Pi, AtFamily, AtomicFamily, FamilyCon, FamilyApp, Kind, Ty, PiKind}
-use Rattle.lf_meaning.specs.Signatures.{Class, FamilyClass, KindClass, Value, SameAs, TermValue, FamilyValue}
-use Rattle.lf_meaning.specs.HeadMaps.{Image, HeadMap, image_of}
+use Rattle.eta_meaning.specs.Below.Terms.{Constant, Object, Lam, At, Atomic, Var, Con, App, Family, Pi, AtFamily, AtomicFamily, FamilyCon, FamilyApp, Kind, Ty, PiKind}
+use Rattle.eta_meaning.specs.Below.Signatures.{Class, FamilyClass, KindClass, Value, SameAs, TermValue, FamilyValue}
+use Rattle.eta_meaning.specs.Below.HeadMaps.{Image, HeadMap, image_of}
 
 -- The first of the two, if there is one.
 abbrev pub first_of : Option Constant → Option Constant → Option Constant

@@ -18,7 +18,8 @@ use Rattle.lf_meaning.specs.HeadMaps.{HeadMap, image_of}
 use Rattle.translation_meaning.specs.Translation.{object_image, headed_image, family_image, family_head_image, family_of, translate_object, translate_head, translate_family, translate_kind, translate_class, translate_value, object_value, family_value, same_image}
 use Rattle.translation_typing.specs.TypedTranslation.{translate_context}
 use Rattle.translation_typing.proofs.KindDomains.{domains_append}
-use Rattle.translation_typing.proofs.Kinded.{IsKinded, family_kinded, kind_kinded}
+use Rattle.translation_typing.specs.KindedFamilies.{IsKinded}
+use Rattle.translation_typing.proofs.Kinded.{family_kinded, kind_kinded}
 use Rattle.translation_typing.proofs.Bases.{bases, erase_translated}
 use Rattle.translation_typing.proofs.Images.{IsMap, by_images}
 use Rattle.translation_typing.proofs.Commuting.{raise_family_translated, substitute_family_translated, substitute_kind_translated}

@@ -10,7 +10,7 @@ use Rattle.lf_substitution_laws.proofs.Constants.{constants_raise, constants_com
 use Rattle.translation_meaning.specs.Heads.{head_takes}
 use Rattle.lf_meaning.specs.HeadMaps.{HeadMap}
 use Rattle.translation_meaning.specs.Translation.{translate_object, translate_head, translate_family, translate_kind, family_of}
-use Rattle.translation_typing.proofs.Kinded.{HasDomains, IsKinded, IsKindedKind}
+use Rattle.translation_typing.specs.KindedFamilies.{HasDomains, IsKinded, IsKindedKind}
 use Rattle.translation_typing.proofs.Bases.{bases, renamed}
 use Rattle.translation_typing.proofs.Images.{IsMap, by_images, sorted_map}
 use Rattle.translation_typing.proofs.HeadSorts.{HeadFits, object_sorted, head_fits, constant_head_fits}

@@ -13,8 +13,8 @@ use Rattle.translation_meaning.specs.Heads.{Head, ObjectHead, FamilyHead, head_t
 use Rattle.lf_meaning.specs.HeadMaps.{HeadMap, image_of}
 use Rattle.translation_meaning.specs.Translation.{family_image, family_head_image, translate_object, translate_head, translate_kind}
 use Rattle.translation_typing.specs.AtomicBodies.{HasAtomicBody}
-use Rattle.translation_typing.proofs.KindDomains.{domains_of, domains_of_map, domains_of_length, with_simples, simples_append, simples_length, simples_erased}
-use Rattle.translation_typing.proofs.Kinded.{class_domains, HasDomains}
+use Rattle.translation_typing.specs.KindedFamilies.{class_domains, domains_of, HasDomains}
+use Rattle.translation_typing.proofs.KindDomains.{domains_of_map, domains_of_length, with_simples, simples_append, simples_length, simples_erased}
 use Rattle.translation_typing.proofs.Bases.{bases, renamed, erase_translated}
 use Rattle.translation_typing.proofs.Images.{IsMap, by_images, sorted_map}
 use Rattle.std.proofs.lemmas.Option.{same_Some}

@@ -2,8 +2,9 @@
 use Rattle.std.proofs.Common.{◌≡◌, ℕ, suc, ◌+◌, List, [], ◌∷◌, ◌++◌, length, refl, ap, ap₂, ◌∙◌, arith}
 use Rattle.lf_meaning.specs.Terms.{Object, Kind, Ty, PiKind, Context, Simple, SimpleContext, domain_count, with_domains}
 use Rattle.lf_meaning.specs.Raising.{map_kind, map_context}
-use Rattle.lf_meaning.specs.Erasure.{erase, erase_context}
+use Rattle.lf_meaning.specs.Erasure.{erase_context}
 use Rattle.lf_substitution_laws.proofs.Families.{erase_map}
+use Rattle.translation_typing.specs.KindedFamilies.{domains_of}
 
 -- ---- as contexts
 
@@ -20,10 +21,6 @@ domains_map f Ty xs = refl
 domains_map f (PiKind a k) xs = domains_map f k (a ∷ xs)
 
 -- ---- as simple types
-
-abbrev pub domains_of : Kind → List Simple
-domains_of Ty = []
-domains_of (PiKind a k) = erase a ∷ domains_of k
 
 pub domains_of_map : (f : ℕ → Object → Object) (n : ℕ) (k : Kind) → domains_of (map_kind f n k) ≡ domains_of k
 domains_of_map f n Ty = refl

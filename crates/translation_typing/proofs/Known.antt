@@ -7,7 +7,7 @@ use Rattle.lf_meaning.specs.Substitution.{substitute, substitute_family, substit
 use Rattle.lf_meaning.specs.Signatures.{Class, Signature, class_of}
 use Rattle.lf_meaning.specs.Sorts.{HasSort, SynthesisesSort, sort_of_class, sorts_of}
 use Rattle.lf_substitution_laws.proofs.Sorting.{keeps_sorts}
-use Rattle.translation_typing.proofs.Kinded.{class_domains, HasDomains, IsKinded, IsKindedKind}
+use Rattle.translation_typing.specs.KindedFamilies.{class_domains, HasDomains, IsKinded, IsKindedKind}
 
 module _ (sig : Signature) where
   abbrev pub IsKnown : Constant → Type 0

@@ -21,13 +21,13 @@ use Rattle.lf_meaning.specs.HeadMaps.{HeadMap, image_of}
 use Rattle.translation_meaning.specs.Translation.{translate_object, translate_head, translate_family, translate_kind, translate_class, translate_value}
 use Rattle.translation_meaning.specs.TypedMaps.{IsTypedMap}
 use Rattle.translation_typing.specs.TypedTranslation.{BodiesAreAtomicOver, translate_context, IsTypedTranslation, TypingIsCarried, ContextsAreCarried, FamiliesAreCarried, KindsAreCarried, ClassesAreCarried, ValuesAreCarried, RaisedObjectsAreTranslated, RaisedFamiliesAreTranslated, RaisedKindsAreTranslated, SubstitutedObjectsAreTranslated, SubstitutedFamiliesAreTranslated, SubstitutedKindsAreTranslated}
-use Rattle.translation_typing.proofs.Kinded.{kind_has_domains, IsKinded, IsKindedKind, family_kinded, kind_kinded}
+use Rattle.translation_typing.specs.KindedFamilies.{domains_of, IsKinded, IsKindedKind}
+use Rattle.translation_typing.proofs.Kinded.{kind_has_domains, family_kinded, kind_kinded}
 use Rattle.translation_typing.proofs.Known.{AtomicKnown, HeadKnown, atomic_known, head_known, object_known, family_known, kind_known, raised_object_known, raised_family_known, raised_kind_known, substituted_object_known, substituted_family_known, substituted_kind_known}
 use Rattle.translation_typing.proofs.Bases.{renamed, erase_translated}
 use Rattle.translation_typing.proofs.Commuting.{raise_translated, raise_family_translated, raise_kind_translated, substitute_translated, substitute_family_translated, substitute_kind_translated}
 use Rattle.translation_typing.proofs.Images.{TypedImage, IsMap, by_images}
 use Rattle.translation_typing.proofs.TypedHeads.{HeadIs}
-use Rattle.translation_typing.proofs.KindDomains.{domains_of}
 use Rattle.translation_typing.proofs.Restricted.{restrict, restricted_there, restricted_declared}
 use Rattle.translation_typing.proofs.Agreeing.{replace_head_agrees, head_agrees, class_agrees, context_agrees, object_agrees, family_agrees, kind_agrees, checked_agrees, typed_family_agrees, typed_kind_agrees, value_agrees}
 use Rattle.translation_typing.proofs.Carrying.{synthesises_translated, head_translated, class_translated, context_translated, family_translated, kind_translated, checks_translated, value_translated}
@@ -36,16 +36,16 @@ use Rattle.lf_term_laws.proofs.Declarations.{undefined_is, AgreeOn}
 
 -- ---- images of a typed map
 
-record Placed (sig : Signature) (c : Constant) (d : Declaration) : Type 0 where
-  place : ℕ
-  found : slice_get sig place ≡ Some d
-  name : d.name ≡ c
+pub record Placed (sig : Signature) (c : Constant) (d : Declaration) : Type 0 where
+  pub place : ℕ
+  pub found : slice_get sig place ≡ Some d
+  pub name : d.name ≡ c
 
 placed_by : (b : Bool) (e d : Declaration) (sig : Signature) (c : Constant) → same_constant e.name c ≡ b → (declaration_of sig c ≡ Some d → Placed sig c d) → cond b (Some e) (declaration_of sig c) ≡ Some d → Placed (e ∷ sig) c d
 placed_by true e d sig c f rest h = let same : e ≡ d = same_Some _ _ h in record { place = zero; found = h; name = ap (λ (z : Declaration). z.name) (sym same) ∙ same_constant_sound e.name c f }
 placed_by false e d sig c f rest h = let p = rest h in record { place = suc p.place; found = p.found; name = p.name }
 
-placed : (sig : Signature) (c : Constant) (d : Declaration) → declaration_of sig c ≡ Some d → Placed sig c d
+pub placed : (sig : Signature) (c : Constant) (d : Declaration) → declaration_of sig c ≡ Some d → Placed sig c d
 placed [] c d h = absurd (cc)
 placed (e ∷ sig) c d h = placed_by (same_constant e.name c) e d sig c refl (placed sig c d) h
 

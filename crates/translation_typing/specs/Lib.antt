@@ -1,4 +1,5 @@
 pub mod AtomicBodies
+pub mod KindedFamilies
 pub mod SortedTranslation
 pub mod FamilyHeads
 pub mod TypedTranslation

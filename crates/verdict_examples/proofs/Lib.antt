@@ -1,4 +1,5 @@
 mod LinksComputed
 mod TermsComputed
+mod ShortTermsComputed
 pub mod Computed
 pub mod BoardComputed

@@ -1,19 +1,19 @@
 -- The worked cases of declarations compute.
 use Rattle.std.proofs.Common.{refl}
 use Rattle.verdict_examples.proofs.Computed.{judging}
-use Rattle.verdict_examples.specs.TermOrder.{CycleBeforeWrongName, ArgumentsBeforeNotCanonical, NameBeforeNotCanonical, ValueOfAnotherLevel, LambdaAsAHead, LambdaAtAnAtomicFamilyBeforeItsDomain, OrderInARowOfBackArrows, ApplicationAtAKindWithADomain, LambdaAtType, LevelBeforeArguments, WrongNameBeforeDeclarations, SecondInclusion, AnnotationBeforeTheBody}
+use Rattle.verdict_examples.specs.TermOrder.{CycleBeforeWrongName, ArgumentsBeforeTheClassifier, UnknownNameAtAProduct, ValueOfAnotherLevel, LambdaAsAHead, LambdaAtAnAtomicFamilyBeforeItsDomain, OrderInARowOfBackArrows, ApplicationAtAKindWithADomain, LambdaAtType, LevelBeforeArguments, WrongNameBeforeDeclarations, SecondInclusion, AnnotationBeforeTheBody}
 
 pub cycle_before_wrong_name : CycleBeforeWrongName
 unfolding judging
 cycle_before_wrong_name = refl
 
-pub arguments_before_not_canonical : ArgumentsBeforeNotCanonical
+pub arguments_before_the_classifier : ArgumentsBeforeTheClassifier
 unfolding judging
-arguments_before_not_canonical = refl
+arguments_before_the_classifier = refl
 
-pub name_before_not_canonical : NameBeforeNotCanonical
+pub unknown_name_at_a_product : UnknownNameAtAProduct
 unfolding judging
-name_before_not_canonical = refl
+unknown_name_at_a_product = refl
 
 pub value_of_another_level : ValueOfAnotherLevel
 unfolding judging

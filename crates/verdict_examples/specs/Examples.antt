@@ -19,7 +19,7 @@ MisspelledName = told_of [] (codes "Nat") text_Nat_misspelled ≡ RefusedAt 4 12
 
 -- An argument that is no λ.
 abbrev pub EtaShortArgument : Type 0
-EtaShortArgument = told_of [] (codes "E") text_E ≡ RefusedAt 5 11 Rule.NotCanonical (codes "d" ∷ [])
+EtaShortArgument = told_of [] (codes "E") text_E ≡ TheoryOf 4
 
 -- The same, long, put in its place.
 abbrev pub EtaLongArgument : Type 0

@@ -1,6 +1,7 @@
 pub mod OrderTexts
 pub mod LinkOrder
 pub mod TermOrder
+pub mod ShortTerms
 pub mod Telling
 pub mod ExampleTexts
 pub mod Examples

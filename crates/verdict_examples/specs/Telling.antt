@@ -1,5 +1,5 @@
 -- How worked cases are stated: texts are put into a library, and the verdict on one of them is told.
-use Rattle.std.specs.Prelude.{ℕ, ◌+◌, List, [], ◌∷◌, ◌++◌, Option, Some, None, map, length, fold}
+use Rattle.std.specs.Prelude.{ℕ, List, [], ◌∷◌, ◌++◌, Option, Some, None, map, length, fold}
 use Rattle.lf_meaning.specs.Signatures.{Signature}
 use Rattle.name_meaning.specs.Names.{Name, Text}
 use Rattle.edit_log_meaning.specs.Log.{Module, Library, with_module, without_module}

@@ -11,16 +11,16 @@ CycleBeforeWrongName =
     (codes "%sig Y = { %include Z. }.")
     ≡ RefusedAt 1 21 Rule.Cycle (codes "Z" ∷ [])
 
--- Arguments before not-canonical.
-abbrev pub ArgumentsBeforeNotCanonical : Type 0
-ArgumentsBeforeNotCanonical =
+-- Arguments before the classifier.
+abbrev pub ArgumentsBeforeTheClassifier : Type 0
+ArgumentsBeforeTheClassifier =
     told_of (under (codes "A") text_A ∷ []) (codes "Z")
     (codes "%sig Z = { %include A. d : a -> a = f nope. }.")
     ≡ RefusedAt 1 39 Rule.UnknownName (codes "d" ∷ [])
 
--- Name before not-canonical.
-abbrev pub NameBeforeNotCanonical : Type 0
-NameBeforeNotCanonical =
+-- Unknown name at a product.
+abbrev pub UnknownNameAtAProduct : Type 0
+UnknownNameAtAProduct =
     told_of (under (codes "A") text_A ∷ []) (codes "Z")
     (codes "%sig Z = { %include A. d : a = g nope. }.")
     ≡ RefusedAt 1 34 Rule.UnknownName (codes "d" ∷ [])
@@ -58,7 +58,7 @@ abbrev pub ApplicationAtAKindWithADomain : Type 0
 ApplicationAtAKindWithADomain =
     told_of (under (codes "A") text_A ∷ []) (codes "Z")
     (codes "%sig Z = { %include A. q : a -> a -> type. d : a -> type = q c. }.")
-    ≡ RefusedAt 1 60 Rule.NotCanonical (codes "d" ∷ [])
+    ≡ TheoryOf 8
 
 -- Lambda at type.
 abbrev pub LambdaAtType : Type 0

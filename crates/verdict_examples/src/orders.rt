@@ -2,7 +2,7 @@
 //! Each function here does nothing, and its contract is proved by computing.
 
 ghost use Rattle.verdict_examples.specs.LinkOrder.{UnknownTargetBeforeOverlap, TargetBehindASharedStructure, StructureOfAnAssignedConstant, OverlapBeforeWords, SharedByALinkFromATheoryThatIncludesTheDomain, SharedByALinkFromATheoryThatTheDomainIncludes, CoveringLinkFromATheoryThatIsNotIncluded, CoveringLinkIntoAnIncludedTheory, RowThroughAnInclusion, SecondWordBad, EndsOfARowOfTwo, WordWithoutStructure, DefinitionClashInAStructure, SharedStructureWithAnotherDefinition, DuplicateBeforeTheModuleTest, StructureNamedAsAConstant, ConstantNamedAsAStructure, UnknownDomainOfAStructure, BothEndsUnknown, CodomainUnknown, CycleAtAnEndOfAView, CycleAtTheFirstOfBothEnds, CycleAtAWordOfASharedStructure, CycleAtACoveringWord, OwnNameAloneIsADependency, OwnWordIsNone, CoveringsBeforeValues, FirstPassBeforeCoverings, ValuesInTheOrderOfConstants, ValueDoesNotSeeItsStructure, MissingAssignmentBeforeALaterValue, IdentityOfOneTheoryAndALinkOfAnother, IdentityTheSecondOfTwoLinksDiffers, IdentityOnOneThenTwoLinksOfWhichOneDiffers, LateTheoryIsNotCoveredEarlyCoveringsDisagree, AssignedValueUnderTheTranslatedClass, IdentityIsGivenUpWhereALinkCovers, CycleAtTheDomainOfAStructureBeforeItsWords, TwoLinksDifferFromTheIdentity};
-ghost use Rattle.verdict_examples.specs.TermOrder.{CycleBeforeWrongName, ArgumentsBeforeNotCanonical, NameBeforeNotCanonical, ValueOfAnotherLevel, LambdaAsAHead, LambdaAtAnAtomicFamilyBeforeItsDomain, OrderInARowOfBackArrows, ApplicationAtAKindWithADomain, LambdaAtType, LevelBeforeArguments, WrongNameBeforeDeclarations, SecondInclusion, AnnotationBeforeTheBody};
+ghost use Rattle.verdict_examples.specs.TermOrder.{CycleBeforeWrongName, ArgumentsBeforeTheClassifier, UnknownNameAtAProduct, ValueOfAnotherLevel, LambdaAsAHead, LambdaAtAnAtomicFamilyBeforeItsDomain, OrderInARowOfBackArrows, ApplicationAtAKindWithADomain, LambdaAtType, LevelBeforeArguments, WrongNameBeforeDeclarations, SecondInclusion, AnnotationBeforeTheBody};
 
 /// Structures and views.
 pub fn links()
@@ -50,8 +50,8 @@ pub fn links()
 /// Declarations, names and expressions.
 pub fn declarations()
     ensures cycle_before_wrong_name { CycleBeforeWrongName }
-    ensures arguments_before_not_canonical { ArgumentsBeforeNotCanonical }
-    ensures name_before_not_canonical { NameBeforeNotCanonical }
+    ensures arguments_before_the_classifier { ArgumentsBeforeTheClassifier }
+    ensures unknown_name_at_a_product { UnknownNameAtAProduct }
     ensures value_of_another_level { ValueOfAnotherLevel }
     ensures lambda_as_a_head { LambdaAsAHead }
     ensures lambda_at_an_atomic_family_before_its_domain { LambdaAtAnAtomicFamilyBeforeItsDomain }

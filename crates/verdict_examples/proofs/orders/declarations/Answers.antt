@@ -1,14 +1,14 @@
-use Rattle.verdict_examples.proofs.TermsComputed.{cycle_before_wrong_name, arguments_before_not_canonical, name_before_not_canonical, value_of_another_level, lambda_as_a_head, lambda_at_an_atomic_family_before_its_domain, order_in_a_row_of_back_arrows, application_at_a_kind_with_a_domain, lambda_at_type, level_before_arguments, wrong_name_before_declarations, second_inclusion, annotation_before_the_body}
+use Rattle.verdict_examples.proofs.TermsComputed.{cycle_before_wrong_name, arguments_before_the_classifier, unknown_name_at_a_product, value_of_another_level, lambda_as_a_head, lambda_at_an_atomic_family_before_its_domain, order_in_a_row_of_back_arrows, application_at_a_kind_with_a_domain, lambda_at_type, level_before_arguments, wrong_name_before_declarations, second_inclusion, annotation_before_the_body}
 use Rattle.verdict_examples.proofs.orders.declarations.Goals as goal
 
 pub returns-clause-cycle_before_wrong_name : goal.returns-clause-cycle_before_wrong_name
 returns-clause-cycle_before_wrong_name c = cycle_before_wrong_name
 
-pub returns-clause-arguments_before_not_canonical : goal.returns-clause-arguments_before_not_canonical
-returns-clause-arguments_before_not_canonical c = arguments_before_not_canonical
+pub returns-clause-arguments_before_the_classifier : goal.returns-clause-arguments_before_the_classifier
+returns-clause-arguments_before_the_classifier c = arguments_before_the_classifier
 
-pub returns-clause-name_before_not_canonical : goal.returns-clause-name_before_not_canonical
-returns-clause-name_before_not_canonical c = name_before_not_canonical
+pub returns-clause-unknown_name_at_a_product : goal.returns-clause-unknown_name_at_a_product
+returns-clause-unknown_name_at_a_product c = unknown_name_at_a_product
 
 pub returns-clause-value_of_another_level : goal.returns-clause-value_of_another_level
 returns-clause-value_of_another_level c = value_of_another_level
