@@ -1,6 +1,7 @@
 pub mod Below
 pub mod Heads
 pub mod Translation
+pub mod FunctionFamilies
 pub mod Unmapped
 pub mod AtomicFamilies
 pub mod ProperValues

@@ -1,0 +1,12 @@
+pub mod ReplacedForms
+pub mod CarriedObjects
+pub mod PartialFamilies
+pub mod CarriedFamilies
+pub mod ErasedTerms
+pub mod CarriedTyping
+pub mod TypedImages
+pub mod AtomicObjects
+pub mod AtomicImages
+pub mod Laws
+pub mod Computed
+pub mod TypedExamples
