@@ -1,0 +1,10 @@
+mod Fronts
+mod Gates
+mod LastGates
+mod Damage
+mod TornWrites
+mod Appending
+mod CutShort
+mod Moments
+mod FilesComputed
+mod OneForm

@@ -1,0 +1,5 @@
+pub mod RecordLaws
+pub mod SavedFileLaws
+pub mod DiskLaws
+pub mod AppendLaws
+pub mod Examples

@@ -1,0 +1,4 @@
+pub mod Records
+pub mod SavedFiles
+pub mod Disks
+pub mod Appends
