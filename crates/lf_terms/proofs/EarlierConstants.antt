@@ -1,6 +1,6 @@
 -- The constants of a map differ, so each of them is new behind those before it.
-use Rattle.std.proofs.Common.{◌≡◌, ℕ, zero, suc, Bool, true, false, cond, ◌||◌, List, [], ◌∷◌, map, take, Some, None, is_some, Result, Err, refl, sym, ap, ◌∙◌, subst, true≢false}
-use Rattle.std.specs.Prelude.{◌↔◌, slice_get, IfErr, IsErrOf, IsSome, ⊤}
+use Rattle.std.proofs.Common.{◌≡◌, ℕ, zero, suc, Bool, true, false, cond, ◌||◌, List, [], ◌∷◌, map, take, Some, None, refl, sym, ap, ◌∙◌, subst}
+use Rattle.std.specs.Prelude.{slice_get}
 use Rattle.std.specs.List.{list_any, AllByRecursion, IsDistinct}
 use Rattle.std.specs.Option.{option_map}
 use Rattle.std.proofs.lemmas.List.{take-map}
@@ -11,9 +11,7 @@ use Rattle.lf_meaning.specs.Signatures.{same_constant}
 use Rattle.base_types.specs.declared.qname.QName.{QName}
 use Rattle.term_trees.specs.declared.flat_decl.Image.{Image}
 use Rattle.term_trees.specs.Readings.{read_constant, read_map}
-use Rattle.lf_terms.specs.Tables.{heads_of, image_of, pair_handed_back, HasDistinctHeads}
-use Rattle.lf_terms.specs.declared.head_map.MapFault.{MapFault}
-use Rattle.lf_terms.specs.declared.head_map.MapFault.TheVariants.{Twice}
+use Rattle.lf_terms.specs.Tables.{heads_of, image_of, HasDistinctHeads}
 use Rattle.lf_terms.proofs.SameName.{same_constant_equiv}
 
 -- What all have, the one at an index has.
@@ -59,10 +57,3 @@ new_behind es fs i pair distinct same here =
 pub new_behind_copies : (es fs : List (QName × Image)) (i : ℕ) (pair : QName × Image) → HasDistinctHeads es → read_map fs ≡ take i (read_map es) → slice_get es i ≡ Some pair → image_of fs pair.0 ≡ None
 new_behind_copies es fs i pair distinct same =
     new_behind es fs i pair distinct (ap (map (λ (m : Mapping). m.name)) same ∙ sym (take-map (λ (m : Mapping). m.name) i (read_map es)))
-
--- A constant without an image is not refused as one that has an image.
-pub never_twice : (es : List (QName × Image)) (name : QName) (image : Image) (result : Result ⊤ MapFault) (other : QName) (given : Image) → result ≡ Err (Twice other given)
-    → IfErr result (λ fault. pair_handed_back fault ≡ (name, image)) → (IsErrOf result (Twice name image) ↔ IsSome (image_of es name)) → image_of es name ≡ None → ⊥
-never_twice es name image result other given is back twice new =
-    let b : (other, given) ≡ (name, image) = subst (λ r. IfErr r (λ fault. pair_handed_back fault ≡ (name, image))) is back in
-    true≢false (sym (twice.0 (is ∙ ap (λ (p : QName × Image). Err (Twice p.0 p.1)) b)) ∙ ap is_some new)

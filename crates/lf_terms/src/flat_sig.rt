@@ -95,14 +95,14 @@ impl FlatSig {
         if self.get(&decl.name).is_some() {
             return Err(PushFault::Twice(decl));
         }
-        match self.append(decl) {
+        match self.push_new(decl) {
             Ok(()) => Ok(()),
             Err(decl) => Err(PushFault::Memory(decl)),
         }
     }
 
-    /// Adds a declaration of a new name at the end, or hands it back for want of memory.
-    fn append(&mut self, decl: FlatDecl) -> Result<(), FlatDecl>
+    /// Adds a declaration of a new name at the end, or hands it back for want of memory. It hashes the name once.
+    pub fn push_new(&mut self, decl: FlatDecl) -> Result<(), FlatDecl>
         requires { declared self.old decl.name ≡ None }
         ensures ok { OnOk result (self.new ≡ self.old ++ decl ∷ []) }
         ensures err { OnErr result (self.new ≡ self.old) }

@@ -94,8 +94,22 @@ impl HeadMap {
         if self.get(&name).is_some() {
             return Err(MapFault::Twice(name, image));
         }
+        match self.append(name, image) {
+            Ok(()) => Ok(()),
+            Err((name, image)) => Err(MapFault::Memory(name, image)),
+        }
+    }
+
+    /// Adds a constant that has no image yet, with its image, at the end, or hands both back for want of memory. It hashes the name
+    /// once.
+    fn append(&mut self, name: QName, image: Image) -> Result<(), (QName, Image)>
+        requires { image_of self.old name ≡ None }
+        ensures ok { OnOk result (self.new ≡ self.old ++ (name, image) ∷ []) }
+        ensures err { OnErr result (self.new ≡ self.old) }
+        ensures back { IfErr result (λ back. back ≡ (name, image)) }
+    {
         let Some(count) = self.count.checked_add(1) else {
-            return Err(MapFault::Memory(name, image));
+            return Err((name, image));
         };
         match self.own.insert(name, image) {
             Ok(previous) => {
@@ -103,7 +117,7 @@ impl HeadMap {
                 self.count = count;
                 Ok(())
             }
-            Err(failed) => Err(MapFault::Memory(failed.value.0, failed.value.1)),
+            Err(failed) => Err(failed.value),
         }
     }
 
@@ -113,14 +127,12 @@ impl HeadMap {
         ensures ok { OnOk result (self.new ≡ self.old ++ (name, image) ∷ []) }
         ensures err { OnErr result (self.new ≡ self.old) }
     {
-        match self.push(name, image) {
+        match self.append(name, image) {
             Ok(()) => Ok(()),
-            Err(MapFault::Memory(name, image)) => {
-                drop(name);
-                drop(image);
+            Err(back) => {
+                drop(back);
                 Err(Memory)
             }
-            Err(MapFault::Twice(..)) => unreachable!(),
         }
     }
 

@@ -1,5 +1,5 @@
 //! The verdicts that are known of modules, by name.
-ghost use Rattle.std.specs.Prelude.{◌≡◌, ◌↔◌, ◌∷◌, ◌++◌, [], length, IfErr, IsErrOf, IsSome, OnErr, OnOk};
+ghost use Rattle.std.specs.Prelude.{◌≡◌, ◌↔◌, ◌∷◌, ◌++◌, [], length, IfErr, IsErrOf, IsSome, None, OnErr, OnOk};
 ghost use Rattle.std.specs.Option.{option_copied, option_map};
 ghost use Rattle.name_meaning.specs.Rows.{row_of};
 ghost use Rattle.library_meaning.specs.Faces.{theory_of, view_of};
@@ -8,7 +8,7 @@ ghost use Rattle.mmt_interface.specs.declared.faces.FaceFault.TheVariants.{Twice
 
 use crate::{Interface, TheoryFace, Verdict, ViewFace};
 use indexmap::IndexMap;
-use lf_terms::Name;
+use lf_terms::{Memory, Name};
 use std::alloc::Global;
 use std::marker::Model;
 
@@ -51,6 +51,13 @@ impl Faces {
         }
     }
 
+    /// Makes room for so many more names, so that their table grows at once. It may find no memory.
+    pub fn reserve(&mut self, additional: usize) -> Result<(), Memory>
+        ensures { self.new ≡ self.old }
+    {
+        Ok(self.verdicts.reserve(additional)?)
+    }
+
     /// Adds a name with its verdict at the end, or hands both back: `Twice` exactly where the name has a verdict
     /// already, `Memory` for want of memory.
     pub fn push(&mut self, name: Name, verdict: Verdict) -> Result<(), FaceFault>
@@ -62,12 +69,26 @@ impl Faces {
         if self.verdicts.contains_key(&name) {
             return Err(FaceFault::Twice(name, verdict));
         }
+        match self.push_new(name, verdict) {
+            Ok(()) => Ok(()),
+            Err((name, verdict)) => Err(FaceFault::Memory(name, verdict)),
+        }
+    }
+
+    /// Adds a name that has no verdict yet, with its verdict, at the end, or hands both back for want of memory. It hashes the name
+    /// once.
+    pub fn push_new(&mut self, name: Name, verdict: Verdict) -> Result<(), (Name, Verdict)>
+        requires { row_of self.old name ≡ None }
+        ensures ok { OnOk result (self.new ≡ self.old ++ (name, verdict) ∷ []) }
+        ensures err { OnErr result (self.new ≡ self.old) }
+        ensures back { IfErr result (λ back. back ≡ (name, verdict)) }
+    {
         match self.verdicts.insert(name, verdict) {
             Ok(previous) => {
                 drop(previous);
                 Ok(())
             }
-            Err(failed) => Err(FaceFault::Memory(failed.value.0, failed.value.1)),
+            Err(failed) => Err(failed.value),
         }
     }
 

@@ -11,7 +11,7 @@ ghost use Rattle.lf_meaning.specs.Signatures.{declaration_of};
 ghost use Rattle.link_laws.proofs.Onces.{Once};
 ghost use Rattle.struct_flatten.specs.Steps.{induced_into};
 
-use lf_terms::{Class, FlatDecl, FlatSig, Image, Memory, Name, Path, PushFault, QName, Value};
+use lf_terms::{Class, FlatDecl, FlatSig, Image, Memory, Name, Path, QName, Value};
 use mmt_interface::{Faces, StructFace};
 use morphism::induced_constant;
 use std::alloc::Global;
@@ -174,12 +174,11 @@ fn add(own: &mut FlatSig, decl: FlatDecl) -> Result<(), Memory>
     ensures ok { OnOk result (read_signature own.new ≡ read_signature own.old ++ read_declaration decl ∷ []) }
     ensures front { take (length own.old) own.new ≡ own.old }
 {
-    match own.push(decl) {
+    match own.push_new(decl) {
         Ok(()) => Ok(()),
-        Err(PushFault::Memory(decl)) => {
-            drop(decl);
+        Err(back) => {
+            drop(back);
             Err(Memory)
         }
-        Err(PushFault::Twice(_)) => unreachable!(),
     }
 }

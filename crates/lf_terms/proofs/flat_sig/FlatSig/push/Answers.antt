@@ -1,4 +1,4 @@
-use Rattle.std.proofs.Common.{◌≡◌, Bool, true, false, List, Option, None, Bor, is_some, refl, sym, ap, ◌∙◌}
+use Rattle.std.proofs.Common.{◌≡◌, Bool, true, false, List, Option, Bor, is_some, refl, sym, ap, ◌∙◌}
 use Rattle.std.specs.Option.{option_copied}
 use Rattle.base_types.specs.declared.qname.QName.{QName}
 use Rattle.term_trees.specs.declared.flat_decl.FlatDecl.{FlatDecl}
@@ -15,8 +15,8 @@ returns-then-is_some-clause-twice c =
     let there : is_some (declared c.args.self.now c.args.decl.name) ≡ true = looked_up c.args.self.now c.args.decl.name c.get.result c.is_some.result true c.get.ensures.declaration c.is_some.ensures c.if-is_some.true in
     (λ _. there, λ _. refl)
 
-pub append-requires : goal.append-requires
-append-requires c =
+pub push_new-requires : goal.push_new-requires
+push_new-requires c =
     none_of (declared c.args.self.now c.args.decl.name) (looked_up c.args.self.now c.args.decl.name c.get.result c.is_some.result false c.get.ensures.declaration c.is_some.ensures c.if-is_some.false)
 
 pub returns-in-Ok-clause-twice : goal.returns-in-Ok-clause-twice

@@ -1,10 +1,10 @@
-use Rattle.std.proofs.Common.{◌≡◌, ◌∷◌, ◌++◌, [], List, sym, subst}
+use Rattle.std.proofs.Common.{◌∷◌, ◌++◌, [], List, sym, subst}
 use Rattle.lf_terms.specs.declared.flat_sig.ByPath.{ByPath}
 use Rattle.lf_terms.specs.Tables.{FindsPaths}
 use Rattle.lf_terms.proofs.OneTheory.{one_grows}
 use Rattle.lf_terms.proofs.FlatTables.{one_way}
 use Rattle.term_trees.specs.declared.flat_decl.FlatDecl.{FlatDecl}
-use Rattle.lf_terms.proofs.flat_sig.FlatSig.append.Goals as goal
+use Rattle.lf_terms.proofs.flat_sig.FlatSig.push_new.Goals as goal
 
 pub insert-requires : goal.insert-requires
 insert-requires c = rw c.self.view_is c.requires
