@@ -27,7 +27,7 @@ use Rattle.print_laws.proofs.WellWritten.{AreWrittenDecls, IsWrittenModule, IsWr
 use Rattle.print_laws.proofs.Writable.{IsWritable}
 use Rattle.run_meaning.specs.Generator.{draw_below, module_name, module_text, parent_lines, parent_of, upper_bits}
 use Rattle.script_reader.proofs.GeneratedNames.{name_is_identifier}
-use Rattle.board_front.proofs.Subject.{names_in}
+use Rattle.twelf_reader.specs.Dependencies.{names_in}
 
 -- ---- the module that a generated text spells
 

@@ -101,13 +101,6 @@ next_absent rows place row before table here so_far =
     (λ e. true≢false (sym (member_among (take place (row_names rows)) row.0 (present_names place rows row.0 (among_member (row_names (present_rows (take place rows))) row.0 e)))
     ∙ fresh_at (row_names rows) place row.0 (ascending_distinct (row_names rows) table) (slice_get-map (λ (r : Name × Option Verdict). r.0) rows place ∙ ap (option_map (λ (r : Name × Option Verdict). r.0)) here)))
 
--- A name that is not there is not refused.
-pub never_twice : (rows : Rows Verdict) (name : Name) (verdict : Verdict) (result : Result ⊤ FaceFault) (n : Name) (v : Verdict) → result ≡ Err (Twice n v) → IfErr result (λ fault. handed_back fault ≡ (name, verdict))
-    → (IsErrOf result (Twice name verdict) ↔ IsSome (row_of rows name)) → is_among (row_names rows) name ≡ false → ⊥
-never_twice rows name verdict result n v is back twice new =
-    let b : (n, v) ≡ (name, verdict) = subst (λ r. IfErr r (λ fault. handed_back fault ≡ (name, verdict))) is back in
-    true≢false (sym (twice.0 (is ∙ ap (λ (p : Name × Verdict). Err (Twice p.0 p.1)) b)) ∙ row_among rows name ∙ new)
-
 told_if : (a b : Bool) (o : Option verdicts.Verdict) → is_some o ≡ b → known_or_absent (option_map known_by (cond a (cond b o None) None)) ≡ cond a (known_if o) IsAbsent
 told_if false b o h = refl
 told_if true true None h = refl

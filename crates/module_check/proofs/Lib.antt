@@ -2,7 +2,7 @@ pub mod Crossing
 pub mod AnsweredFaces
 pub mod Judged
 pub mod FirstAmong
-pub mod NamesLeft
+pub mod TextNames
 pub mod Cyclic
 pub mod LibraryGraph
 pub mod FromTexts

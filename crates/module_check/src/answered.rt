@@ -6,7 +6,7 @@ ghost use Rattle.name_meaning.specs.Rows.{row_names, row_of};
 ghost use Rattle.module_check.specs.PresentRows.{present_row, present_rows};
 
 use lf_terms::{Memory, Name};
-use mmt_interface::{FaceFault, Faces, Verdict};
+use mmt_interface::{Faces, Verdict};
 use module_graph::Answers;
 use std::alloc::Global;
 
@@ -15,6 +15,7 @@ pub(crate) fn faces_of(alloc: Global, answers: &Answers<Verdict>) -> Result<Face
     ensures { IfOk result (λ faces. faces ≡ present_rows answers.now) }
 {
     let mut faces = Faces::new(alloc);
+    faces.reserve(answers.len())?;
     for place in 0..answers.len() {
         if let Some((name, verdict)) = answers.at(place) {
             add_present(alloc, &mut faces, name, verdict)?;
@@ -64,13 +65,11 @@ pub(crate) fn add(faces: &mut Faces, name: Name, verdict: Verdict) -> Result<(),
     requires { is_among (row_names faces.old) name ≡ false }
     ensures { OnOk result (faces.new ≡ faces.old ++ (name, verdict) ∷ []) }
 {
-    match faces.push(name, verdict) {
+    match faces.push_new(name, verdict) {
         Ok(()) => Ok(()),
-        Err(FaceFault::Memory(name, verdict)) => {
-            drop(name);
-            drop(verdict);
+        Err(back) => {
+            drop(back);
             Err(Memory)
         }
-        Err(FaceFault::Twice(_, _)) => unreachable!(),
     }
 }

@@ -3,23 +3,20 @@ ghost use Rattle.std.specs.Prelude.{◌≡◌, ◌≤◌, length, IfOk};
 ghost use Rattle.name_meaning.specs.Limits.{text_limit};
 ghost use Rattle.text_meaning.specs.Dependencies as meaning;
 ghost use Rattle.text_meaning.specs.Reading.{Answer};
-ghost use Rattle.mmt_syntax.specs.Readings as syntax;
 ghost use Rattle.twelf_expressions.specs.Going.{Fails};
-ghost use Rattle.module_check.specs.Names.{names_in};
+ghost use Rattle.twelf_reader.specs.Dependencies.{names_in};
 
-use crate::reading::read;
 use lf_terms::{Memory, Name, Names};
-use mmt_syntax::{Module, deps};
 use std::alloc::Global;
-use twelf_reader::ReadFault;
+use twelf_reader::{ReadFault, read_dependencies};
 
 /// The names on which a text depends, in the order of the text, with repeats. A text that does not read has none.
 pub(crate) fn dependencies(alloc: Global, name: &Name, text: &[u8]) -> Result<Names, Memory>
     requires { length text.now ≤ text_limit }
     ensures { IfOk result (λ names. names ≡ meaning.dependencies name.now text.now) }
 {
-    match read(alloc, text) {
-        Ok(module) => names_of(alloc, &module),
+    match read_dependencies(alloc, text) {
+        Ok(names) => Ok(names),
         Err(fault) => no_names(alloc, fault),
     }
 }
@@ -34,15 +31,4 @@ fn no_names(alloc: Global, fault: ReadFault) -> Result<Names, Memory>
         ReadFault::Unsupported { .. } => Ok(Names::new(alloc)),
         ReadFault::Memory => Err(Memory),
     }
-}
-
-/// The names on which a module depends.
-fn names_of(alloc: Global, module: &Module) -> Result<Names, Memory>
-    ensures { IfOk result (λ names. names ≡ names_in (meaning.module_dependencies (syntax.read_module «module».now))) }
-{
-    let mut names = Names::new(alloc);
-    for (_, name) in deps(module) {
-        names.add(name.copy(alloc)?)?;
-    }
-    Ok(names)
 }

@@ -3,3 +3,4 @@ pub mod SignCases
 pub mod Lexemes
 pub mod Moves
 pub mod Frames
+pub mod Outlines

@@ -3,3 +3,4 @@ pub mod Signs
 pub mod Left
 pub mod Going
 pub mod Frames
+pub mod Outlines

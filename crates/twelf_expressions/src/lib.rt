@@ -8,6 +8,8 @@ mod fault;
 mod frame;
 mod level;
 mod opening;
+mod outline;
+mod passing;
 mod reader;
 mod refusing;
 mod taking;

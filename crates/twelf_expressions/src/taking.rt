@@ -3,8 +3,9 @@ ghost use Rattle.std.specs.Prelude.{◌≡◌, ◌∷◌, ◌<◌, ◌≤◌, �
 ghost use Rattle.text_meaning.specs.Tokens as tokens;
 ghost use Rattle.text_meaning.specs.Tokens.{Mark, EndSign, ident, sign};
 ghost use Rattle.text_meaning.specs.Cut.{Ending};
-ghost use Rattle.text_meaning.specs.Parsing.{as_written};
-ghost use Rattle.twelf_lexer.specs.Lexemes.{mark_of};
+ghost use Rattle.text_meaning.specs.Parsing.{Simple, as_written};
+ghost use Rattle.twelf_lexer.specs.Lexemes.{is_last, mark_of};
+ghost use Rattle.text_meaning.specs.Trees as trees;
 ghost use Rattle.text_meaning.specs.Trees.{first_name};
 ghost use Rattle.mmt_syntax.specs.Readings.{read_span, read_written};
 ghost use Rattle.twelf_expressions.specs.Signs.{is_name, is_path, is_plain, is_sign};
@@ -29,6 +30,7 @@ impl<'a> Reader<'a> {
             text,
             next: lexeme_at(text, 0),
             frames: Vec::new(alloc),
+            brackets: Vec::new(alloc),
         }
     }
 
@@ -90,6 +92,33 @@ impl<'a> Reader<'a> {
                 true
             }
         }
+    }
+
+    /// Passes over the next token, behind which there is more.
+    pub(crate) fn skip(&mut self)
+        requires { is_last (sign_ahead self.old) ≡ false }
+        ensures passes { left self.old ≡ next_token (left self.old) ∷ left self.new }
+        ensures less { length (left self.new) < length (left self.old) }
+    {
+        self.next = lexeme_at(self.text, self.next.span.to as usize);
+    }
+
+    /// Passes over the next token, which is an identifier.
+    pub fn skip_path(&mut self)
+        requires { is_path (next_kind (left self.old)) ≡ true }
+        ensures passes { (word : trees.Written) × (left self.old ≡ ident word.span word.path ∷ left self.new) }
+        ensures less { length (left self.new) < length (left self.old) }
+    {
+        self.skip();
+    }
+
+    /// Passes over the next token, which is an identifier of one name.
+    pub fn skip_name(&mut self)
+        requires { is_name (next_kind (left self.old)) ≡ true }
+        ensures passes { (word : Simple) × (left self.old ≡ ident word.at (word.name ∷ []) ∷ left self.new) }
+        ensures less { length (left self.new) < length (left self.old) }
+    {
+        self.skip();
     }
 
     /// Takes the next token, which is an identifier.

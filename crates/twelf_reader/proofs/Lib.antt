@@ -3,3 +3,4 @@ pub mod Endings
 pub mod Readings
 pub mod Dividing
 pub mod Divided
+pub mod AddedNames

@@ -12,7 +12,7 @@ use Rattle.twelf_expressions.specs.declared.fault.ReadFault.{ReadFault}
 use Rattle.twelf_expressions.specs.declared.fault.ReadFault.TheVariants as faults
 
 -- a text that is not UTF-8
-no_text_fails : (target : Target) (text : List ℕ) (f : ReadFault) → IsNoText text f → Fails f (read target text)
+pub no_text_fails : (target : Target) (text : List ℕ) (f : ReadFault) → IsNoText text f → Fails f (read target text)
 no_text_fails target text (faults.Syntax at) h = sym ((one_reading target text).only (Syntax at) (NotUtf8 at, h, refl))
 no_text_fails target text _ h = absurd h
 
@@ -21,7 +21,7 @@ no_text_goes target text r f next e h = stopped r f next e refl (no_text_fails t
 
 -- ---- the clauses of the two calls
 
-fails_reads : (target : Target) (text : List ℕ) (f : ReadFault) → Fails f (read target text) → IsFaultOf target text f
+pub fails_reads : (target : Target) (text : List ℕ) (f : ReadFault) → Fails f (read target text) → IsFaultOf target text f
 fails_reads target text (faults.Syntax at) h = subst (Reads target text) h (one_reading target text).is_read
 fails_reads target text (faults.TooDeep at) h = subst (Reads target text) h (one_reading target text).is_read
 fails_reads target text (faults.Unsupported at) h = subst (Reads target text) h (one_reading target text).is_read

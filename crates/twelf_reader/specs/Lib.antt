@@ -2,3 +2,4 @@
 pub mod Items
 pub mod Answers
 pub mod Division
+pub mod Dependencies

@@ -1,7 +1,8 @@
-use Rattle.std.proofs.Common.{Err, ap, ◌∙◌}
-use Rattle.module_check.proofs.AnsweredFaces.{never_twice}
+use Rattle.std.proofs.Common.{◌∙◌}
+use Rattle.name_meaning.specs.Rows.{row_of}
+use Rattle.list_laws.proofs.Options.{none_of}
+use Rattle.name_laws.proofs.Rows.{row_among}
 use Rattle.module_check.proofs.answered.add.Goals as goal
 
-pub unreachable-requires : goal.unreachable-requires
-unreachable-requires c =
-    never_twice c.args.faces.now c.args.name c.args.verdict c.push.result c.in-Err-Twice.field-0-0 c.in-Err-Twice.field-0-1 (c.in-Err-Twice.is ∙ ap Err c.in-Err-Twice.field-0-is) c.push.ensures.back c.push.ensures.twice c.requires
+pub push_new-requires : goal.push_new-requires
+push_new-requires c = none_of (row_of c.args.faces.now c.args.name) (row_among c.args.faces.now c.args.name ∙ c.requires)

@@ -1,5 +1,5 @@
 use Rattle.std.proofs.Common.{◌∙◌, inl, inr}
-use Rattle.module_check.proofs.NamesLeft.{no_names}
+use Rattle.module_check.proofs.TextNames.{no_names}
 use Rattle.module_check.proofs.dependencies.no_names.Goals as goal
 
 pub returns-in-Syntax : goal.returns-in-Syntax

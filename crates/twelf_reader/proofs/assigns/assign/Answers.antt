@@ -1,13 +1,10 @@
-use Rattle.std.proofs.Common.{◌≡◌, ◌++◌, List, [], ◌∷◌, false, refl, ◌∙◌}
+use Rattle.std.proofs.Common.{◌++◌, List, [], ◌∷◌, refl, ◌∙◌}
 use Rattle.text_meaning.specs.Tokens.{AssignSign}
-use Rattle.text_meaning.specs.Trees.{Assign, Written, IncludeAssign, StructAssign}
-use Rattle.text_meaning.specs.Parsing.{AtAssign, Expect, ExpectPath, InStruct, InView, Owner, at_morph, close_owner, is_refused}
+use Rattle.text_meaning.specs.Trees.{Written, IncludeAssign, StructAssign}
+use Rattle.text_meaning.specs.Parsing.{AtAssign, Expect, ExpectPath, at_morph, close_owner}
 use Rattle.twelf_expressions.proofs.Moves.{stopped, took}
+use Rattle.twelf_reader.proofs.AddedNames.{owner_goes}
 use Rattle.twelf_reader.proofs.assigns.assign.Goals as goal
-
-owner_goes : (o : Owner) (xs : List Assign) → is_refused (close_owner o xs) ≡ false
-owner_goes (InStruct x ds y z) xs = refl
-owner_goes (InView x y z) xs = refl
 
 pub returns-in_err-morph-in-Percent-Include-clause-goes : goal.returns-in_err-morph-in-Percent-Include-clause-goes
 returns-in_err-morph-in-Percent-Include-clause-goes c = λ o xs.
