@@ -2,3 +2,5 @@ mod GroundedNames
 mod Firsts
 mod Reached
 mod Peeled
+pub mod MergeSteps
+pub mod PartsOfReach

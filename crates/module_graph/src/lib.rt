@@ -4,6 +4,7 @@
 mod answers;
 mod graph;
 mod grounding;
+mod merging;
 mod reaching;
 mod subject;
 mod ungrounded;
@@ -11,6 +12,7 @@ mod ungrounded;
 pub use answers::Answers;
 pub use graph::Graph;
 pub use grounding::grounded;
+pub use merging::{merged, with_one};
 pub use reaching::{any_reaches, reach};
 pub use subject::Subject;
 pub use ungrounded::first_ungrounded;

@@ -33,10 +33,9 @@ use Rattle.verdict_board.specs.declared.stage.Stage.{Stage}
 use Rattle.verdict_board.specs.declared.stage.Stage.TheVariants.{Waiting, Claimed, Standing, Cyclic}
 use Rattle.verdict_board.specs.Entries.{entry}
 use Rattle.verdict_board.specs.Stages.{stage_after, HasSortedInputs, IsCurrent, IsWaiting, IsStage, AreStages}
-use Rattle.verdict_board.specs.Searching.{AreNew}
+use Rattle.verdict_board.specs.Searching.{AreKept}
 use Rattle.verdict_board.specs.Keeping.{IsKept, HasRoom}
 use Rattle.verdict_board.proofs.Currents.{current_more, current_less, claim_more, current_grounded, current_reach, current_stands_not, one_current}
-use Rattle.verdict_board.proofs.Parking.{all_kept, names_long}
 use Rattle.verdict_board.proofs.Reports.{ungrounded_not}
 use Rattle.verdict_board.proofs.Rooms.{closed_more, opened_same}
 use Rattle.verdict_board.proofs.Calls.{legal_with}
@@ -140,14 +139,15 @@ module _ {Answer Meaning : Type 0} (subject : Subject Meaning) (meaning : Answer
 
 -- ---- the tables
 
-module _ {Answer Meaning : Type 0} (subject : Subject Meaning) (meaning : Answer → Meaning) (H : History) (log : Log) (graph : Graph) (stages : Rows (Stage Answer)) (closed : Bool) (opened entries installed : ℕ) {candidates : Candidates}
-    (k : IsKept subject meaning H log graph stages closed opened entries installed candidates) (edit : Edit) (pass version made : ℕ) where
-  pub kept_edit : (new_log : Log) (new_graph : Graph) (new_stages : Rows (Stage Answer)) (new_candidates : Candidates) → AreNew (length new_graph) new_candidates → pass ≡ 0 → edit_reply H edit ≡ Made made → version ≡ suc (version_after H) → new_log ≡ log ++ edit ∷ []
+module _ {Answer Meaning : Type 0} (subject : Subject Meaning) (meaning : Answer → Meaning) (H : History) (log : Log) (graph : Graph) (stages : Rows (Stage Answer)) (closed : Bool) (opened entries installed : ℕ) {candidates : Candidates} {rings : Bool}
+    (k : IsKept subject meaning H log graph stages closed opened entries installed candidates rings) (edit : Edit) (pass version made : ℕ) where
+  pub kept_edit : (new_log : Log) (new_graph : Graph) (new_stages : Rows (Stage Answer)) (new_candidates : Candidates) (new_rings : Bool) → AreKept new_stages new_graph new_candidates
+      → (new_rings ≡ false → (name : Name) → is_ungrounded subject.dependencies (edited (library_after H) edit) name ≡ false) → pass ≡ 0 → edit_reply H edit ≡ Made made → version ≡ suc (version_after H) → new_log ≡ log ++ edit ∷ []
       → HoldsDependencies new_graph subject.dependencies (edited (library_after H) edit)
       → AreStages subject meaning (H ++ entry pass version (EditMade edit) ∷ []) new_stages → entries < 2 ^ 62 → opened < 2 ^ 62
-      → IsKept subject meaning (H ++ entry pass version (EditMade edit) ∷ []) new_log new_graph new_stages closed opened (entries + 1) installed new_candidates
+      → IsKept subject meaning (H ++ entry pass version (EditMade edit) ∷ []) new_log new_graph new_stages closed opened (entries + 1) installed new_candidates new_rings
   unfolding event_of may_call
-  kept_edit new_log new_graph new_stages new_candidates new front answer v logged holds staged few less = record {
+  kept_edit new_log new_graph new_stages new_candidates new_rings kept sound front answer v logged holds staged few less = record {
     legal = legal_with subject.dependencies H pass (EditCall edit) (EditMade edit) version (ap (edit_event edit) answer) v k.legal (eq-eqb pass 0 front);
     logged = logged ∙ ap (λ (log : Log). log ++ edit ∷ []) k.logged ∙ sym (log_some H e edit refl);
     holds = subst (HoldsDependencies new_graph subject.dependencies) (sym (library_edited H edit pass version)) holds;
@@ -157,18 +157,12 @@ module _ {Answer Meaning : Type 0} (subject : Subject Meaning) (meaning : Answer
     counted = let a = length-append H (e ∷ []) in let b = k.counted in omega (arith, a, b);
     installed_all = let a = installs_last H e in let b = k.installed_all in omega (arith, a, b);
     room = room closed;
-    candidates_all = all_kept new_stages new_graph (λ list. list.items) (length new_graph) new_candidates.candidate new_candidates.parked.items
-        (ap is_ascending staged.names ∙ library_ascending (log_of (H ++ e ∷ []))) same long new;
+    candidates_all = kept;
+    sound = λ r name. ap (λ library. is_ungrounded subject.dependencies library name) (library_edited H edit pass version) ∙ sound r name;
   }
     where
       e : Entry
       e = entry pass version (EditMade edit)
-
-      same : row_names new_stages ≡ row_names new_graph
-      same = staged.names ∙ ap names_of (library_edited H edit pass version) ∙ sym holds.names
-
-      long : length new_graph ≡ length new_stages
-      long = sym (names_long new_graph) ∙ ap length (sym same) ∙ names_long new_stages
 
       room : (b : Bool) → HasRoom b opened (entries + 1)
       room true = omega (arith, few, less)

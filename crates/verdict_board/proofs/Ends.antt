@@ -86,8 +86,8 @@ module _ {Answer Meaning : Type 0} (subject : Subject Meaning) (meaning : Answer
 
 -- ---- the counts of a board
 
-module _ {Answer Meaning : Type 0} (subject : Subject Meaning) (meaning : Answer → Meaning) (H : History) (log : Log) (graph : Graph) (stages : Rows (Stage Answer)) (closed : Bool) (opened entries installed : ℕ) {candidates : Candidates}
-    (k : IsKept subject meaning H log graph stages closed opened entries installed candidates) where
+module _ {Answer Meaning : Type 0} (subject : Subject Meaning) (meaning : Answer → Meaning) (H : History) (log : Log) (graph : Graph) (stages : Rows (Stage Answer)) (closed : Bool) (opened entries installed : ℕ) {candidates : Candidates} {rings : Bool}
+    (k : IsKept subject meaning H log graph stages closed opened entries installed candidates rings) where
   pub entries_fit : 0 < opened → entries + 1 < 2 ^ 64
   entries_fit o = by closed k.room
     where

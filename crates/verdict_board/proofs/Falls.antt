@@ -17,7 +17,7 @@ use Rattle.verdict_board.specs.declared.change.Change.TheVariants.{InPlace, Anew
 use Rattle.verdict_board.specs.declared.stage.Stage.{Stage}
 use Rattle.verdict_board.specs.declared.stage.Stage.TheVariants.{Waiting, Claimed, Standing, Cyclic}
 use Rattle.verdict_board.specs.Stages.{falls, fallen, stage_after, HaveSortedInputs, IsStage, AreStages, after_edit_of}
-use Rattle.verdict_board.specs.Tables.{stages_with, stages_in_place, stages_changed, IsChange}
+use Rattle.verdict_board.specs.Tables.{stages_with, stages_in_place, stages_changed, AreTables, IsChange}
 use Rattle.verdict_board.proofs.Edits.{library_edited, grounded_after, new_after, sorted_inputs}
 use Rattle.verdict_board.proofs.Parking.{named_at}
 use Rattle.verdict_board.proofs.Reports.{absent_row}
@@ -175,4 +175,11 @@ module _ {Answer Meaning : Type 0} (subject : Subject Meaning) (meaning : Answer
 
   pub changed_staged : (edit : Edit) (change : Change Answer) → IsChange subject meaning H edit change → AreStages subject meaning (after_edit_of H edit) (stages_changed change edit stages)
   changed_staged edit (InPlace names) c = fallen_staged edit c.0
-  changed_staged edit (Anew graph next) c = c.1
+  changed_staged edit (Anew graph next rings) c = c.1
+
+  pub changed_tables : (edit : Edit) (change : Change Answer) → IsChange subject meaning H edit change → AreTables change
+  changed_tables edit (InPlace names) c = tt
+  changed_tables edit (Anew graph next rings) c = (
+    ap is_ascending c.1.names ∙ library_ascending (log_of (after_edit_of H edit)),
+    c.1.names ∙ ap names_of (library_edited H edit 0 (suc (version_after H))) ∙ sym c.0.names,
+  )

@@ -1,17 +1,17 @@
 -- The job that a claim hands out.
-use Rattle.std.proofs.Common.{◌≡◌, ℕ, true, false, List, [], ◌∷◌, length, Option, Some, None, option_and_then, is_some, refl, sym, ap, ◌∙◌, subst, true≢false}
+use Rattle.std.proofs.Common.{◌≡◌, ℕ, Bool, true, false, not, ◌||◌, List, [], ◌∷◌, length, Option, Some, None, option_and_then, is_some, refl, sym, ap, ◌∙◌, subst, true≢false}
 use Rattle.std.proofs.lemmas.Bool.{or_right}
 use Rattle.name_meaning.specs.Names.{Name, Text, same_name}
 use Rattle.edit_log_meaning.specs.Log.{text_of, is_present}
 use Rattle.edit_log_laws.proofs.Libraries.{library_ascending}
-use Rattle.module_graph_meaning.specs.Walks.{Dependencies, is_grounded, is_ungrounded}
+use Rattle.module_graph_meaning.specs.Walks.{Dependencies, direct, is_grounded, is_ungrounded}
 use Rattle.module_graph_meaning.specs.Reach.{reach}
 use Rattle.module_graph_meaning.specs.Subject.{Subject, answers_of}
-use Rattle.list_laws.proofs.Members.{Member}
+use Rattle.list_laws.proofs.Members.{Member, all_at}
 use Rattle.board_meaning.specs.Events.{History, log_of, library_after}
 use Rattle.board_meaning.specs.Claims.{Input, input_names, inputs_after}
 use Rattle.board_meaning.specs.Standing.{stands}
-use Rattle.board_meaning.specs.Ready.{least_ready}
+use Rattle.board_meaning.specs.Ready.{dependencies_stand, least_ready}
 use Rattle.board_meaning.specs.Machine.{Job, job_after, claim_reply, is_known}
 use Rattle.board_meaning.specs.Legal.{IsLegal}
 use Rattle.board_laws.proofs.Legality.{least_is_ready}
@@ -19,6 +19,7 @@ use Rattle.board_laws.proofs.Standings.{ready_parts}
 use Rattle.board_laws.proofs.Resting.{ready_rests}
 use Rattle.module_graph.specs.Subjects.{IsGiven, read_answers}
 use Rattle.verdict_board.specs.Readings.{read_job, inputs_of_names}
+use Rattle.verdict_board.specs.Gathering.{DoRest}
 use Rattle.verdict_board.proofs.Jobs.{job_after_from}
 use Rattle.verdict_board.proofs.Transitions.{present_of}
 
@@ -40,6 +41,12 @@ module _ {Meaning : Type 0} (subject : Subject Meaning) (H : History) (l : IsLeg
   least_known names e other m s p =
       or_right (is_ungrounded D (library_after H) other) (stands D H other)
       (ready_rests D H l n other (least_is_ready D H n least) (subst (Member other) e m) s p)
+
+  pub least_rests : DoRest D H (direct D (library_after H) n)
+  unfolding dependencies_stand
+  least_rests d m p =
+      sym (ap (λ (b : Bool). not b || stands D H d) p)
+      ∙ all_at (λ (other : Name). not (is_present (library_after H) other) || stands D H other) (direct D (library_after H) n) d ((ready_parts D H n (least_is_ready D H n least)).rests) m
 
   pub text_not_missing : None ≡ text_of (library_after H) n → ⊥
   text_not_missing h = true≢false (sym least_present ∙ ap is_some (sym h))

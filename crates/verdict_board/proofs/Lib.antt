@@ -18,3 +18,5 @@ pub mod Tables
 pub mod Falls
 pub mod Pendings
 pub mod Marks
+pub mod Joins
+pub mod Gathers

@@ -2,12 +2,12 @@
 use Rattle.std.proofs.Common.{◌≡◌, ℕ, zero, suc, ◌<◌, ◌≤◌, Bool, true, false, cond, not, List, [], ◌∷◌, ◌++◌, get_or, length, replicate, set, slice_get, take, option_map, Some, None, is_some, ◌⊎◌, inl, inr, ⊎_elim, refl, sym, ap, ◌∙◌, subst, true≢false, arith}
 use Rattle.std.proofs.lemmas.List.{length-map, length-replicate, length-take}
 use Rattle.std.proofs.lemmas.Option.{slice_get-get_or, slice_get-map, same_Some}
-use Rattle.name_meaning.specs.Names.{Name, same_name, is_ascending}
+use Rattle.name_meaning.specs.Names.{Name, same_name, is_ascending, with_name}
 use Rattle.name_meaning.specs.Rows.{Rows, row_names, row_of, with_row, IsTable, IsGap}
 use Rattle.name_laws.proofs.Order.{same_sound, with_present, among_member}
 use Rattle.name_laws.proofs.Rows.{row_with, names_with_row, row_among, row_absent, gap_absent, table_with, row_at}
 use Rattle.module_graph_meaning.specs.Graphs.{Graph}
-use Rattle.list_laws.proofs.Members.{Member, in_append, append_left, append_right}
+use Rattle.list_laws.proofs.Members.{Member, in_append, append_left, append_right, place_member}
 use Rattle.list_laws.proofs.Places.{place_within, take_more, get_take, length_take}
 use Rattle.std.proofs.Math.ListN.{length-set}
 use Rattle.verdict_board.specs.declared.stage.Stage.{Stage}
@@ -217,6 +217,75 @@ module _ {Answer W : Type 0} (stages : Rows (Stage Answer)) (graph : Graph) (ite
     -- the list of those that are parked is as it was, though written anew
     pub parked_same : (at : ℕ) (old new : W) → slice_get parked at ≡ Some old → items new ≡ items old → AreCandidates stages graph items candidate (set parked at new)
     parked_same at old new h e = parked_more at old new h (λ place m. subst (Member place) (sym e) m) (λ place m. k.within at place old h (subst (Member place) e m))
+
+    -- none is parked at a module that has a standing verdict
+    pub parked_none : (at : ℕ) (n : Name) (new : W) → slice_get (row_names stages) at ≡ Some n → lacks_verdict (row_of stages n) ≡ false → items new ≡ [] → AreCandidates stages graph items candidate (set parked at new)
+    parked_none at n new named stands e = record {
+      table = k.table;
+      names = k.names;
+      each_candidate = k.each_candidate;
+      each_parked = length-set parked at new ∙ k.each_parked;
+      within = λ other place list g m.
+          ⊎_elim (λ q. absurd (subst (Member place) (ap items q.1 ∙ e) m)) (λ q. k.within other place list q m) (set_found parked at new other list g);
+      closed = λ place name g f. ⊎_elim (λ w. inl w) (λ p. inr (still place name p)) (k.closed place name g f);
+    }
+      where
+        still : (place : ℕ) (name : Name) → IsParked stages graph items parked place name → IsParked stages graph items (set parked at new) place name
+        still place name p = record {
+          other = p.other;
+          blocked = p.blocked;
+          at = p.at;
+          named = p.named;
+          list = p.list;
+          lists = ⊎_elim
+              (λ (same : p.at ≡ at).
+              let one : p.other ≡ n = same_Some _ _ (sym p.named ∙ ap (slice_get (row_names stages)) same ∙ named) in
+              absurd (true≢false (sym p.blocked.lacks ∙ ap (λ (z : Name). lacks_verdict (row_of stages z)) one ∙ stands)))
+              (λ q. q) (set_left parked at new p.at p.list p.lists);
+          waits = p.waits;
+        }
+
+    -- a module has other direct dependencies, and is a candidate
+    pub wired : (n : Name) (dependencies : List Name) (place : ℕ) → slice_get (row_names stages) place ≡ Some n → AreCandidates stages (with_row n dependencies graph) items (set candidate place true) parked
+    wired n dependencies place named = record {
+      table = k.table;
+      names = names_same;
+      each_candidate = length-set candidate place true ∙ k.each_candidate;
+      each_parked = k.each_parked;
+      within = k.within;
+      closed = λ other name h f.
+          let before : slice_get candidate other ≡ Some false = ⊎_elim (λ q. absurd (true≢false (sym q.1))) (λ q. q) (set_found candidate place true other false f) in
+          ⊎_elim (λ w. inl w) (λ p. inr (still other name h f p)) (k.closed other name h before);
+    }
+      where
+        names_same : row_names stages ≡ row_names (with_row n dependencies graph)
+        names_same =
+            sym (with_present n (row_names stages) k.table (place_member (row_names stages) place n named)) ∙ ap (with_name n) k.names ∙ sym (names_with_row n dependencies graph)
+
+        -- another module has the direct dependencies that it had
+        row_left : (other : ℕ) (name : Name) → slice_get (row_names stages) other ≡ Some name → slice_get (set candidate place true) other ≡ Some false → (b : Bool) → same_name name n ≡ b
+            → cond b (Some dependencies) (row_of graph name) ≡ row_of graph name
+        row_left other name h f true q =
+            let here : place ≡ other = one_place (row_names stages) place other n k.table named (h ∙ ap Some (same_sound name n q)) in
+            absurd (true≢false (sym (set_value candidate place true false (ap (slice_get (set candidate place true)) here ∙ f))))
+        row_left other name h f false q = refl
+
+        still : (other : ℕ) (name : Name) → slice_get (row_names stages) other ≡ Some name → slice_get (set candidate place true) other ≡ Some false → IsParked stages graph items parked other name
+            → IsParked stages (with_row n dependencies graph) items parked other name
+        still other name h f p = record {
+          other = p.other;
+          blocked = record {
+            dependencies = p.blocked.dependencies;
+            row = row_with n dependencies graph name ∙ row_left other name h f (same_name name n) refl ∙ p.blocked.row;
+            depends = p.blocked.depends;
+            lacks = p.blocked.lacks;
+          };
+          at = p.at;
+          named = p.named;
+          list = p.list;
+          lists = p.lists;
+          waits = p.waits;
+        }
 
     -- a module is parked
     pub parked_one : (place at : ℕ) (m : Name) (dependencies : List Name) (old new : W) → place < length stages → slice_get graph place ≡ Some (m, dependencies) → IsLacking stages dependencies at

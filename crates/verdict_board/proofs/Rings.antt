@@ -1,15 +1,14 @@
 -- Edits after which no module is ungrounded.
-use Rattle.std.proofs.Common.{◌≡◌, ℕ, suc, ◌<◌, ◌≤◌, true, false, not, List, [], ◌∷◌, length, slice_get, None, Some, cond, is_some, ◌&&◌, ◌⊎◌, inl, ⊎_elim, refl, sym, ap, ◌∙◌, subst, true≢false, arith}
+use Rattle.std.proofs.Common.{◌≡◌, ℕ, suc, true, false, not, List, [], ◌∷◌, length, take, slice_get, None, Some, cond, is_some, nat_lt, ◌&&◌, ⊎_elim, refl, sym, ap, ◌∙◌, subst, true≢false, arith, ltb-false}
 use Rattle.std.specs.List.{list_any}
-use Rattle.std.proofs.lemmas.List.{length-map}
 use Rattle.std.proofs.lemmas.Option.{same_Some}
 use Rattle.std.proofs.lemmas.Bool.{false_from_ne_true}
 use Rattle.name_meaning.specs.Names.{Name, Text, same_name, is_among}
-use Rattle.name_meaning.specs.Rows.{Rows, row_names, row_of, IsTable}
+use Rattle.name_meaning.specs.Rows.{row_of}
 use Rattle.name_laws.proofs.Order.{among_member, member_among, same_sound, same_itself}
-use Rattle.name_laws.proofs.Rows.{place_of_member, row_at, row_with}
-use Rattle.list_laws.proofs.Members.{Member, any_not}
-use Rattle.list_laws.proofs.Places.{place_within}
+use Rattle.name_laws.proofs.Rows.{row_with}
+use Rattle.list_laws.proofs.Members.{Member, any_not, in_append}
+use Rattle.list_laws.proofs.Places.{take_more}
 use Rattle.edit_log_meaning.specs.Log.{Edit, Put, Drop, Library, edited, edited_name, text_of, is_present}
 use Rattle.edit_log_laws.specs.LogLaws.{left_by}
 use Rattle.edit_log_laws.proofs.Libraries.{text_edited}
@@ -19,18 +18,8 @@ use Rattle.module_graph_meaning.specs.Graphs.{Graph, HoldsDependencies, graph_re
 use Rattle.module_graph_laws.proofs.Agreement.{direct_same}
 use Rattle.module_graph_laws.proofs.Graphs.{left_ungrounded, graph_reaches, edited_holds}
 use Rattle.module_graph_laws.proofs.Reaching.{reach_closed, reach_first}
-use Rattle.module_graph_laws.proofs.Walking.{present_in, ungrounded_dependency}
-use Rattle.module_graph_meaning.specs.Subject.{Subject}
-use Rattle.board_meaning.specs.Events.{History, library_after}
-use Rattle.board_meaning.specs.Legal.{IsLegal}
-use Rattle.board_laws.proofs.Standings.{standing_grounded}
-use Rattle.verdict_board.specs.declared.stage.Stage.{Stage}
-use Rattle.verdict_board.specs.declared.stage.Stage.TheVariants.{Waiting, Claimed, Standing, Cyclic}
-use Rattle.verdict_board.specs.Stages.{is_cyclic, IsStage, AreStages}
-use Rattle.verdict_board.proofs.Currents.{current_grounded}
+use Rattle.module_graph_laws.proofs.Walking.{ungrounded_dependency}
 use Rattle.verdict_board.proofs.EditSteps.{ungrounded_present}
-use Rattle.verdict_board.proofs.Parking.{named_at}
-use Rattle.verdict_board.proofs.Reports.{grounded_not}
 
 -- ---- no module was ungrounded before the edit
 
@@ -91,9 +80,21 @@ none_dropped D L n sound =
     none_but_edited D L (Drop n) sound (false_from_ne_true (is_ungrounded D (edited L (Drop n)) n) (λ u.
     true≢false (sym (ungrounded_present D (edited L (Drop n)) n u) ∙ ap is_some (text_edited L (Drop n) n ∙ ap (λ b. cond b None (text_of L n)) (same_itself n)))))
 
+-- what is told of several names by a walk over the graph
+pub none_reaches : (D : Dependencies) (L : Library) (graph : Graph) → HoldsDependencies graph D L → (n : Name) (names : List Name) → list_any (λ from. is_among (graph_reach graph from) n) names ≡ false
+    → (d : Name) → Member d names → is_among (reach D L d) n ≡ false
+none_reaches D L graph holds n names h d m = ap (λ reached. is_among reached n) (sym (graph_reaches graph D L holds d)) ∙ any_not (λ from. is_among (graph_reach graph from) n) names d h m
+
+-- of one more name
+pub apart_more : (D : Dependencies) (L : Library) (n : Name) (names : List Name) (i : ℕ) (from : Name) → slice_get names i ≡ Some from → ((d : Name) → Member d (take i names) → is_among (reach D L d) n ≡ false)
+    → is_among (reach D L from) n ≡ false → (d : Name) → Member d (take (suc i) names) → is_among (reach D L d) n ≡ false
+apart_more D L n names i from here so_far h d m =
+    ⊎_elim (λ q. so_far d q) (λ q. ⊎_elim (λ e. ap (λ z. is_among (reach D L z) n) e ∙ h) (λ none. absurd none) q)
+    (in_append (take i names) (from ∷ []) d (subst (Member d) (take_more names i from here) m))
+
 -- no module is ungrounded after a text is put under a name that none of its direct dependencies reaches
 pub none_put : (D : Dependencies) (L : Library) (n : Name) (t : Text) (graph : Graph) → HoldsDependencies graph D L → ((x : Name) → is_ungrounded D L x ≡ false)
-    → list_any (λ from. is_among (graph_reach graph from) n) (D n t) ≡ false → (x : Name) → is_ungrounded D (edited L (Put n t)) x ≡ false
+    → ((d : Name) → Member d (D n t) → is_among (reach D L d) n ≡ false) → (x : Name) → is_ungrounded D (edited L (Put n t)) x ≡ false
 none_put D L n t graph holds sound h = none_apart D L (Put n t) sound apart
   where
     put : direct D (edited L (Put n t)) n ≡ D n t
@@ -103,50 +104,13 @@ none_put D L n t graph holds sound h = none_apart D L (Put n t) sound apart
         same_Some _ _ (sym (after.rows n present) ∙ row_with n (D n t) graph n ∙ ap (λ b. cond b (Some (D n t)) (row_of graph n)) (same_itself n))
 
     apart : (d : Name) → Member d (direct D (edited L (Put n t)) n) → is_among (reach D L d) n ≡ false
-    apart d m = ap (λ names. is_among names n) (sym (graph_reaches graph D L holds d)) ∙ any_not (λ from. is_among (graph_reach graph from) n) (D n t) d h (subst (Member d) put m)
+    apart d m = h d (subst (Member d) put m)
 
--- where none is ungrounded, none is listed
-pub none_listed : (D : Dependencies) (L : Library) → ((x : Name) → is_ungrounded D L x ≡ false) → [] ≡ ungrounded_names D L
-unfolding is_ungrounded
-none_listed D L sound = by (ungrounded_names D L) sound
+-- where none is listed, none is ungrounded
+pub listed_none : (D : Dependencies) (L : Library) (names : List Name) → names ≡ ungrounded_names D L → (count : ℕ) → count ≡ length names → nat_lt 0 count ≡ false → (x : Name) → is_ungrounded D L x ≡ false
+unfolding is_ungrounded is_among
+listed_none D L names e count long none x = ap (λ z. is_among z x) (sym e) ∙ by names (ap (nat_lt 0) (sym long) ∙ none)
   where
-    by : (names : List Name) → ((x : Name) → is_among names x ≡ false) → [] ≡ names
+    by : (names : List Name) → nat_lt 0 (length names) ≡ false → is_among names x ≡ false
     by [] h = refl
-    by (x ∷ names) h = absurd (true≢false (sym (member_among (x ∷ names) x (inl refl)) ∙ h x))
-
--- ---- the stages tell whether a module is ungrounded
-
-module _ {Answer Meaning : Type 0} (subject : Subject Meaning) (meaning : Answer → Meaning) (H : History) (l : IsLegal subject.dependencies H) (stages : Rows (Stage Answer)) (k : AreStages subject meaning H stages) where
-  abbrev D : Dependencies
-  D = subject.dependencies
-
-  abbrev L : Library
-  L = library_after H
-
-  -- no module of the first places is ungrounded
-  abbrev pub NoneUngrounded : ℕ → Type 0
-  NoneUngrounded i = (j : ℕ) (n : Name) → j < i → slice_get (row_names stages) j ≡ Some n → is_ungrounded D L n ≡ false
-
-  not_cyclic : (n : Name) (stage : Stage Answer) → IsStage subject meaning H n stage → is_cyclic stage ≡ false → is_ungrounded D L n ≡ false
-  not_cyclic n Waiting s h = grounded_not D L n s.grounded
-  not_cyclic n (Claimed c inputs) s h = grounded_not D L n (current_grounded D H l n c s.current)
-  not_cyclic n (Standing a inputs) s h = grounded_not D L n (standing_grounded D H l n s.standing)
-  not_cyclic n (Cyclic a) s h = absurd (true≢false h)
-
-  pub ungrounded_next : (i : ℕ) (n : Name) (stage : Stage Answer) → IsTable stages → slice_get stages i ≡ Some (n, stage) → is_cyclic stage ≡ false → NoneUngrounded i → NoneUngrounded (suc i)
-  ungrounded_next i n stage t h c f j m w g =
-      ⊎_elim (λ less. f j m less g)
-      (λ same. let e : n ≡ m = same_Some _ _ (sym (named_at stages i n stage h) ∙ ap (slice_get (row_names stages)) (sym same) ∙ g) in
-      subst (λ z. is_ungrounded D L z ≡ false) e (not_cyclic n stage (k.staged n stage (row_at n stage stages i t h)) c))
-      (order j i w)
-    where
-      order : (a b : ℕ) → a < suc b → (a < b) ⊎ (a ≡ b)
-      order a b w = grind arith
-
-  pub none_ungrounded : (i : ℕ) → length stages ≤ i → NoneUngrounded i → (n : Name) → is_ungrounded D L n ≡ false
-  none_ungrounded i past f n =
-      false_from_ne_true (is_ungrounded D L n) (λ u.
-      let q = place_of_member (row_names stages) n (subst (Member n) (sym k.names) (present_in D L n (ungrounded_present D L n u))) in
-      let w = place_within (row_names stages) q.0 n q.1 in
-      let e = length-map stages (λ (r : Name × Stage Answer). r.0) in
-      true≢false (sym u ∙ f q.0 n (omega (arith, w, e, past)) q.1))
+    by (y ∷ names) h = let none = ltb-false 0 (length (y ∷ names)) h in absurd (omega (arith, none))

@@ -1,14 +1,14 @@
 -- The tables that an edit changes in place.
-use Rattle.std.proofs.Common.{◌≡◌, suc, ◌≤◌, Bool, true, false, not, List, [], ◌∷◌, length, filter, Some, None, is_some, cond, inl, inr, refl, sym, ap, ◌∙◌, subst, true≢false, arith}
-use Rattle.std.proofs.lemmas.List.{length-map}
+use Rattle.std.proofs.Common.{◌≡◌, ℕ, suc, ◌≤◌, Bool, true, false, not, List, [], ◌∷◌, length, filter, Some, None, is_some, cond, inl, inr, refl, sym, ap, ◌∙◌, subst, true≢false, arith}
 use Rattle.std.proofs.lemmas.Option.{same_Some}
 use Rattle.name_meaning.specs.Names.{Name, same_name, comes_before, is_among, is_ascending, with_name}
 use Rattle.name_meaning.specs.Rows.{Rows, row_names, row_of, with_row, without_row, IsTable}
 use Rattle.name_laws.proofs.Order.{among_member, member_among, same_itself, same_sound, with_present}
 use Rattle.name_laws.proofs.Rows.{row_with, row_without, names_with_row, row_among, without_absent}
 use Rattle.list_laws.proofs.Members.{Member}
-use Rattle.edit_log_meaning.specs.Log.{Edit, Put, Drop, Library, Module, edited, names_of, without_module}
+use Rattle.edit_log_meaning.specs.Log.{Edit, Put, Drop, Library, edited, names_of, without_module}
 use Rattle.edit_log_laws.proofs.Libraries.{names_with}
+use Rattle.module_graph_meaning.specs.Walks.{is_ungrounded}
 use Rattle.module_graph_meaning.specs.Graphs.{Graph, HoldsDependencies}
 use Rattle.module_graph_meaning.specs.Subject.{Subject}
 use Rattle.module_graph_laws.proofs.Graphs.{edited_holds}
@@ -19,7 +19,10 @@ use Rattle.verdict_board.specs.declared.change.Change.TheVariants.{InPlace, Anew
 use Rattle.verdict_board.specs.declared.stage.Stage.{Stage}
 use Rattle.verdict_board.specs.declared.stage.Stage.TheVariants.{Waiting}
 use Rattle.verdict_board.specs.Stages.{HasSortedInputs, HaveSortedInputs}
-use Rattle.verdict_board.specs.Tables.{stages_with, graph_changed, graph_in_place, AreDependencies, IsChange}
+use Rattle.verdict_board.specs.Tables.{stages_with, graph_changed, graph_in_place, rings_in, AreDependencies, IsChange}
+use Rattle.verdict_board.specs.Searching.{AreKept, AreNew}
+use Rattle.verdict_board.specs.declared.candidates.Candidates.{Candidates}
+use Rattle.verdict_board.proofs.Parking.{all_kept, names_long}
 
 -- ---- names
 
@@ -77,19 +80,28 @@ with_few n (name ∷ names) = by (same_name n name) (comes_before n name) (with_
     by false true h = omega (arith, h)
     by false false h = omega (arith, h)
 
-edited_few : (L : Library) (edit : Edit) → length (names_of (edited L edit)) ≤ suc (length (names_of L))
-edited_few L (Put n t) = subst (λ names. length names ≤ suc (length (names_of L))) (sym (names_with n t L)) (with_few n (names_of L))
-edited_few L (Drop n) =
-    let w = filter_within (λ (x : Name). not (same_name n x)) (names_of L) in
-    subst (λ names. length names ≤ suc (length (names_of L))) (sym (names_without_module n L)) (omega (arith, w))
+module _ {A : Type 0} (n : Name) (rows : Rows A) where
+  pub with_row_few : (v : A) → length (with_row n v rows) ≤ suc (length rows)
+  with_row_few v =
+      let after = names_long (with_row n v rows) in
+      let names = ap length (names_with_row n v rows) in
+      let before = names_long rows in
+      let few = with_few n (row_names rows) in
+      omega (arith, after, names, before, few)
 
-pub graph_few : (L : Library) (edit : Edit) (graph : Graph) → row_names graph ≡ names_of (edited L edit) → length graph ≤ suc (length L)
-graph_few L edit graph h =
-    let few = edited_few L edit in
-    let rows = length-map graph (λ (row : Name × List Name). row.0) in
-    let names = ap length h in
-    let before = length-map L (λ (own : Module). own.name) in
-    omega (arith, few, rows, names, before)
+  pub without_row_few : length (without_row n rows) ≤ length rows
+  unfolding without_row
+  without_row_few = filter_within (λ (row : Name × A). not (same_name n row.0)) rows
+
+-- ---- candidates that are new
+
+pub new_kept : {Answer : Type 0} (stages : Rows (Stage Answer)) (graph : Graph) (count : ℕ) (candidates : Candidates) → IsTable stages → row_names stages ≡ row_names graph → count ≡ length graph → AreNew count candidates
+    → AreKept stages graph candidates
+new_kept stages graph count candidates t names long new =
+    let rows = names_long stages in
+    let others = names_long graph in
+    let same = ap length names in
+    all_kept stages graph (λ list. list.items) count candidates.candidate candidates.parked.items t names (omega (arith, rows, others, same, long)) new
 
 -- ---- a row that is added, and taken back
 
@@ -143,4 +155,9 @@ module _ {Answer Meaning : Type 0} (subject : Subject Meaning) (meaning : Answer
 
   pub changed_holds : (edit : Edit) (change : Change Answer) → IsChange subject meaning H edit change → HoldsDependencies (graph_changed change edit graph) subject.dependencies (edited (library_after H) edit)
   changed_holds edit (InPlace names) c = in_place_holds edit names c.1
-  changed_holds edit (Anew next stages) c = c.0
+  changed_holds edit (Anew next stages rings) c = c.0
+
+  -- where there are no rings, no module is ungrounded
+  pub changed_sound : (edit : Edit) (change : Change Answer) → IsChange subject meaning H edit change → rings_in change ≡ false → (n : Name) → is_ungrounded subject.dependencies (edited (library_after H) edit) n ≡ false
+  changed_sound edit (InPlace names) c h = c.0
+  changed_sound edit (Anew next stages rings) c h = c.2 h

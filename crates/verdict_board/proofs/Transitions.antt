@@ -3,11 +3,11 @@ use Rattle.std.proofs.Common.{◌≡◌, ℕ, ◌+◌, ◌-◌, ◌<◌, ◌^◌
 use Rattle.std.proofs.Math.Bool.{or-false}
 use Rattle.std.proofs.lemmas.Bool.{and_parts, and_from, false_from_ne_true, or_right}
 use Rattle.std.proofs.lemmas.Option.{same_Some}
-use Rattle.name_meaning.specs.Names.{Name, same_name, is_ascending}
+use Rattle.name_meaning.specs.Names.{Name, same_name, is_among, is_ascending}
 use Rattle.name_meaning.specs.Rows.{Rows, row_of, with_row}
 use Rattle.name_laws.proofs.Order.{same_itself}
 use Rattle.edit_log_meaning.specs.Log.{Log, Library, library_of, is_present}
-use Rattle.module_graph_meaning.specs.Walks.{Dependencies, is_grounded, is_ungrounded}
+use Rattle.module_graph_meaning.specs.Walks.{Dependencies, is_grounded, is_ungrounded, ungrounded_names, walking}
 use Rattle.module_graph_meaning.specs.Reach.{reach}
 use Rattle.module_graph_meaning.specs.Graphs.{Graph, HoldsDependencies}
 use Rattle.module_graph_meaning.specs.Subject.{Subject}
@@ -40,8 +40,8 @@ pub present_of : (D : Dependencies) (L : Library) (n : Name) → is_grounded D L
 present_of D L n h = (and_parts (is_present L n) (not (is_ungrounded D L n)) h).0
 
 module _ {Answer Meaning : Type 0} (subject : Subject Meaning) (meaning : Answer → Meaning) where
-  pub kept_new : (candidates : Candidates) → AreNew 0 candidates → IsKept {Answer = Answer} subject meaning [] [] [] [] false 0 0 0 candidates
-  unfolding log_of library_of row_of is_closed installed_claims claims_from is_ascending
+  pub kept_new : (candidates : Candidates) → AreNew 0 candidates → IsKept {Answer = Answer} subject meaning [] [] [] [] false 0 0 0 candidates false
+  unfolding log_of library_of row_of is_closed installed_claims claims_from is_ascending is_ungrounded ungrounded_names walking is_among
   kept_new candidates new = record {
     legal = legal_empty subject.dependencies;
     logged = refl;
@@ -53,9 +53,10 @@ module _ {Answer Meaning : Type 0} (subject : Subject Meaning) (meaning : Answer
     installed_all = refl;
     room = omega arith;
     candidates_all = all_kept {Answer = Answer} [] [] (λ list. list.items) 0 candidates.candidate candidates.parked.items refl refl refl new;
+    sound = λ r n. refl;
   }
 
-  module _ (H : History) (log : Log) (graph : Graph) (stages : Rows (Stage Answer)) (closed : Bool) (opened entries installed : ℕ) {candidates : Candidates} (k : IsKept subject meaning H log graph stages closed opened entries installed candidates) (pass version : ℕ) (v : version ≡ version_after H) where
+  module _ (H : History) (log : Log) (graph : Graph) (stages : Rows (Stage Answer)) (closed : Bool) (opened entries installed : ℕ) {candidates : Candidates} {rings : Bool} (k : IsKept subject meaning H log graph stages closed opened entries installed candidates rings) (pass version : ℕ) (v : version ≡ version_after H) where
     abbrev D : Dependencies
     D = subject.dependencies
 
@@ -78,9 +79,12 @@ module _ {Answer Meaning : Type 0} (subject : Subject Meaning) (meaning : Answer
         let c = k.installed_all in
         omega (arith, a, b, c)
 
+    sound_on : (event : Event) → edit_in (entry pass version event) ≡ None → rings ≡ false → (n : Name) → is_ungrounded D (library_after (H ++ entry pass version event ∷ [])) n ≡ false
+    sound_on event g r n = ap (λ library. is_ungrounded D library n) (same_library H (entry pass version event) g) ∙ k.sound r n
+
     -- ---- close
 
-    pub kept_close : closed ≡ false → pass ≡ 0 → IsKept subject meaning (H ++ entry pass version Close ∷ []) log graph stages true opened (entries + 1) installed candidates
+    pub kept_close : closed ≡ false → pass ≡ 0 → IsKept subject meaning (H ++ entry pass version Close ∷ []) log graph stages true opened (entries + 1) installed candidates rings
     unfolding event_of may_call
     kept_close unclosed front = record {
       legal = legal_with D H pass CloseCall Close version (ap (λ (b : Bool). cond b None (Some Close)) (sym k.closed_is ∙ unclosed)) v k.legal (eq-eqb pass 0 front);
@@ -94,12 +98,13 @@ module _ {Answer Meaning : Type 0} (subject : Subject Meaning) (meaning : Answer
       installed_all = installed_on Close refl;
       room = let room : HasRoom false opened entries = subst (λ (b : Bool). HasRoom b opened entries) unclosed k.room in omega (arith, room);
       candidates_all = k.candidates_all;
+      sound = sound_on Close refl;
     }
 
     -- ---- claim
 
     pub kept_claim : (n : Name) (names : List Name) → least_ready D H ≡ Some n → names ≡ reach D (library_after H) n → entries < 2 ^ 62 → opened < 2 ^ 62
-        → IsKept subject meaning (H ++ entry pass version (Claim n) ∷ []) log graph (with_row n (Claimed entries names) stages) closed (opened + 1) (entries + 1) installed candidates
+        → IsKept subject meaning (H ++ entry pass version (Claim n) ∷ []) log graph (with_row n (Claimed entries names) stages) closed (opened + 1) (entries + 1) installed candidates rings
     unfolding event_of may_call
     kept_claim n names least reached few less = record {
       legal = legal_with D H pass ClaimCall (Claim n) version (ap (option_map Claim) least) v k.legal refl;
@@ -121,6 +126,7 @@ module _ {Answer Meaning : Type 0} (subject : Subject Meaning) (meaning : Answer
       installed_all = installed_on (Claim n) refl;
       room = room_more closed;
       candidates_all = put_claimed stages graph (λ list. list.items) candidates.candidate candidates.parked.items k.candidates_all n (Claimed entries names) (staged_present subject meaning H k.legal stages k.staged n ∙ present) refl refl;
+      sound = sound_on (Claim n) refl;
     }
       where
         present : is_present (library_after H) n ≡ true
@@ -160,7 +166,7 @@ module _ {Answer Meaning : Type 0} (subject : Subject Meaning) (meaning : Answer
 
       pub kept_install : (names : List Name) (answer : Answer) (found : Candidates) → AreKept (with_row n (Standing answer names) stages) graph found → install_reply D H c ≡ IsInstalled → names ≡ reach D (library_after (take c H)) n
           → subject.answer (library_after H) n ≡ Some (meaning answer)
-          → IsKept subject meaning (H ++ entry pass version (Install c) ∷ []) log graph (with_row n (Standing answer names) stages) closed (opened - 1) (entries + 1) (installed + 1) found
+          → IsKept subject meaning (H ++ entry pass version (Install c) ∷ []) log graph (with_row n (Standing answer names) stages) closed (opened - 1) (entries + 1) (installed + 1) found rings
       unfolding event_of
       kept_install names answer found kept r reached a = record {
         legal = legal_with D H pass (InstallCall c) (Install c) version (ap (λ z. Some (install_event c z)) r) v k.legal may_install;
@@ -182,6 +188,7 @@ module _ {Answer Meaning : Type 0} (subject : Subject Meaning) (meaning : Answer
         installed_all = let i = installs_last H e in let j = k.installed_all in omega (arith, i, j);
         room = room_less closed k.room;
         candidates_all = kept;
+        sound = sound_on (Install c) refl;
       }
         where
           e : Entry
@@ -203,7 +210,7 @@ module _ {Answer Meaning : Type 0} (subject : Subject Meaning) (meaning : Answer
               true≢false (sym (same_itself n) ∙ ap (λ (z : Name). same_name z n) same ∙ q))
 
       pub kept_stale : (name : Name) (newer : ℕ) → install_reply D H c ≡ IsStale name newer
-          → IsKept subject meaning (H ++ entry pass version (Stale c name newer) ∷ []) log graph stages closed (opened - 1) (entries + 1) installed candidates
+          → IsKept subject meaning (H ++ entry pass version (Stale c name newer) ∷ []) log graph stages closed (opened - 1) (entries + 1) installed candidates rings
       unfolding event_of
       kept_stale name newer r = record {
         legal = legal_with D H pass (InstallCall c) (Stale c name newer) version (ap (λ z. Some (install_event c z)) r) v k.legal may_install;
@@ -219,6 +226,7 @@ module _ {Answer Meaning : Type 0} (subject : Subject Meaning) (meaning : Answer
         installed_all = installed_on (Stale c name newer) refl;
         room = room_less closed k.room;
         candidates_all = k.candidates_all;
+        sound = sound_on (Stale c name newer) refl;
       }
         where
           clash : IsInstalled ≡ IsStale name newer → ⊥
@@ -230,7 +238,7 @@ module _ {Answer Meaning : Type 0} (subject : Subject Meaning) (meaning : Answer
 
       -- a release of a claim that is current
       pub kept_release_current : (found : Candidates) → AreKept (with_row n Waiting stages) graph found → IsCurrent D H n c
-          → IsKept subject meaning (H ++ entry pass version (Release c) ∷ []) log graph (with_row n Waiting stages) closed (opened - 1) (entries + 1) installed found
+          → IsKept subject meaning (H ++ entry pass version (Release c) ∷ []) log graph (with_row n Waiting stages) closed (opened - 1) (entries + 1) installed found rings
       unfolding event_of
       kept_release_current found kept current = record {
         legal = legal_with D H pass (ReleaseCall c) (Release c) version refl v k.legal may_release;
@@ -254,6 +262,7 @@ module _ {Answer Meaning : Type 0} (subject : Subject Meaning) (meaning : Answer
         installed_all = installed_on (Release c) refl;
         room = room_less closed k.room;
         candidates_all = kept;
+        sound = sound_on (Release c) refl;
       }
         where
           e : Entry
@@ -264,7 +273,7 @@ module _ {Answer Meaning : Type 0} (subject : Subject Meaning) (meaning : Answer
 
       -- a release of one that is not
       pub kept_release : (IsCurrent D H n c → ⊥)
-          → IsKept subject meaning (H ++ entry pass version (Release c) ∷ []) log graph stages closed (opened - 1) (entries + 1) installed candidates
+          → IsKept subject meaning (H ++ entry pass version (Release c) ∷ []) log graph stages closed (opened - 1) (entries + 1) installed candidates rings
       unfolding event_of
       kept_release not_current = record {
         legal = legal_with D H pass (ReleaseCall c) (Release c) version refl v k.legal may_release;
@@ -280,6 +289,7 @@ module _ {Answer Meaning : Type 0} (subject : Subject Meaning) (meaning : Answer
         installed_all = installed_on (Release c) refl;
         room = room_less closed k.room;
         candidates_all = k.candidates_all;
+        sound = sound_on (Release c) refl;
       }
         where
           other : (m : Name) (d : ℕ) → IsCurrent D H m d → d ≡ c → ⊥

@@ -10,3 +10,4 @@ pub mod FirstPending
 pub mod ReadBefore
 pub mod Marks
 pub mod Tables
+pub mod Gathering

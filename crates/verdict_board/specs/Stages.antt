@@ -27,13 +27,6 @@ is_waiting (Claimed claim inputs) = false
 is_waiting (Standing answer inputs) = false
 is_waiting (Cyclic answer) = false
 
--- It is ungrounded.
-abbrev pub is_cyclic : {Answer : Type 0} → Stage Answer → Bool
-is_cyclic Waiting = false
-is_cyclic (Claimed claim inputs) = false
-is_cyclic (Standing answer inputs) = false
-is_cyclic (Cyclic answer) = true
-
 -- The current claim, if there is one.
 abbrev pub claim_in : {Answer : Type 0} → Stage Answer → Option ℕ
 claim_in Waiting = None

@@ -27,6 +27,8 @@ pub struct Board<S: Subject> {
     /// How each module of the library stands.
     pub(crate) stages: NameTable<Stage<S::Answer>>,
     pub(crate) closed: bool,
+    /// Where it is false, no module is ungrounded.
+    pub(crate) rings: bool,
     /// At least how many claims are open.
     pub(crate) opened: u64,
     pub(crate) entries: u64,
@@ -46,7 +48,7 @@ impl<S: Subject> Model for Board<S> {
 
     ghost view = { λ b. b.history.entries };
 
-    ghost invariant = { λ b. IsKept S.subject S.meaning b.history.entries b.log b.graph b.stages b.closed b.opened b.entries b.installed b.candidates };
+    ghost invariant = { λ b. IsKept S.subject S.meaning b.history.entries b.log b.graph b.stages b.closed b.opened b.entries b.installed b.candidates b.rings };
 }
 
 impl<S: Subject> Board<S> {
@@ -60,6 +62,7 @@ impl<S: Subject> Board<S> {
             graph: Graph::new(alloc),
             stages: NameTable::new(alloc),
             closed: false,
+            rings: false,
             opened: 0,
             entries: 0,
             installed: 0,

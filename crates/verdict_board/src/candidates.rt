@@ -1,11 +1,12 @@
 //! Which modules may be ready: a claim looks at no others.
-ghost use Rattle.std.specs.Prelude.{◌≡◌, ◌+◌, ◌<◌, ◌≤◌, ℕ, true, false, length, slice_get, is_some, IfOk, MatchBool, MatchOption, Some};
+ghost use Rattle.std.specs.Prelude.{◌≡◌, ◌+◌, ◌<◌, ◌≤◌, ℕ, true, false, List, length, slice_get, is_some, IfOk, MatchBool, MatchOption, Some};
+ghost use Rattle.name_meaning.specs.Names.{Name};
 ghost use Rattle.name_meaning.specs.Rows.{row_names, row_of, with_row, IsTable};
 ghost use Rattle.list_laws.proofs.Members.{Member};
 ghost use Rattle.verdict_board.specs.declared.stage.Stage.TheVariants.{Waiting};
 ghost use Rattle.verdict_board.specs.Stages.{is_waiting};
 ghost use Rattle.verdict_board.specs.PlaceSets.{NoneBefore};
-ghost use Rattle.verdict_board.specs.Readiness.{IsFirstReady, IsLacking, IsReadyAt, IsUnreadyAt, NoneIsReady, NoneLacks};
+ghost use Rattle.verdict_board.specs.Readiness.{lacks_verdict, IsFirstReady, IsLacking, IsReadyAt, IsUnreadyAt, NoneIsReady, NoneLacks};
 ghost use Rattle.verdict_board.specs.Searching.{AreKept, AreNew};
 
 use crate::place_set::PlaceSet;
@@ -29,7 +30,7 @@ impl Candidates {
     pub fn new(alloc: Global, count: usize) -> Result<Candidates, Memory>
         ensures { IfOk result (λ candidates. AreNew count candidates) }
     {
-        let mut parked = Vec::new(alloc);
+        let mut parked = Vec::with_capacity(alloc, count)?;
         for _ in 0..count {
             parked.push(Vec::new(alloc))?;
         }
@@ -140,7 +141,7 @@ fn first_lacking<A: Drop>(stages: &NameTable<Stage<A>>, names: &Names) -> Option
     None
 }
 
-/// Gives a module a standing verdict. The modules that are parked at it are candidates again.
+/// Gives a module a standing verdict. The modules that are parked at it are candidates again, and parked no longer.
 pub fn stand<A: Drop>(
     stages: &mut NameTable<Stage<A>>,
     candidates: &mut Candidates,
@@ -149,6 +150,7 @@ pub fn stand<A: Drop>(
 )
     requires there { is_some (row_of stages.old name.now) ≡ true }
     requires waits_not { is_waiting stage ≡ false }
+    requires stands { lacks_verdict (Some stage) ≡ false }
     requires kept { (graph : Graph) × AreKept stages.old graph candidates.old }
     ensures stages { stages.new ≡ with_row name.now stage stages.old }
     ensures kept { (graph : Graph) → AreKept stages.old graph candidates.old → AreKept stages.new graph candidates.new }
@@ -156,6 +158,7 @@ pub fn stand<A: Drop>(
     let place = place_of(stages, name);
     stages.replace(name, stage);
     candidates.candidate.insert_all(&candidates.parked[place]);
+    candidates.parked[place].clear();
 }
 
 /// Has a module wait for a claim. It is a candidate again.
@@ -166,7 +169,32 @@ pub fn wait<A: Drop>(stages: &mut NameTable<Stage<A>>, candidates: &mut Candidat
     ensures kept { (graph : Graph) → AreKept stages.old graph candidates.old → AreKept stages.new graph candidates.new }
 {
     let place = place_of(stages, name);
+    wait_at(stages, candidates, name, place);
+}
+
+/// Has the module at a place wait for a claim. It is a candidate again.
+pub fn wait_at<A: Drop>(
+    stages: &mut NameTable<Stage<A>>,
+    candidates: &mut Candidates,
+    name: &Name,
+    place: usize,
+)
+    requires named { slice_get (row_names stages.old) place ≡ Some name.now }
+    requires kept { (graph : Graph) × AreKept stages.old graph candidates.old }
+    ensures stages { stages.new ≡ with_row name.now Waiting stages.old }
+    ensures kept { (graph : Graph) → AreKept stages.old graph candidates.old → AreKept stages.new graph candidates.new }
+{
     stages.replace(name, Stage::Waiting);
+    candidates.candidate.insert(place);
+}
+
+/// Has a module be a candidate whose direct dependencies are others than they were.
+pub fn renew<A: Drop>(stages: &NameTable<Stage<A>>, candidates: &mut Candidates, name: &Name)
+    requires there { is_some (row_of stages.now name.now) ≡ true }
+    requires kept { (graph : Graph) × AreKept stages.now graph candidates.old }
+    ensures { (graph : Graph) → AreKept stages.now graph candidates.old → (dependencies : List Name) → AreKept stages.now (with_row name.now dependencies graph) candidates.new }
+{
+    let place = place_of(stages, name);
     candidates.candidate.insert(place);
 }
 

@@ -8,12 +8,11 @@ ghost use Rattle.module_graph.specs.Subjects.{IsGiven};
 ghost use Rattle.verdict_board.specs.Readings.{read_inputs, read_job, inputs_of_names};
 
 use crate::candidates::first_ready;
-use crate::marked_names::MarkedNames;
 use crate::stage::Stage;
 use crate::trail::noted;
 use crate::{Board, Event, Input, Inputs, Job};
 use lf_terms::{Memory, Name, Names};
-use module_graph::{Subject, reach};
+use module_graph::Subject;
 use std::alloc::Global;
 
 /// A board with so many entries, or so many open claims, takes no further entries: the counts stay within their type.
@@ -36,7 +35,7 @@ impl<S: Subject> Board<S> {
         if self.entries >= MOST || self.opened >= MOST {
             return Err(Memory);
         }
-        let names = MarkedNames::new(alloc, reach(alloc, &self.graph, &name)?)?;
+        let names = self.reach_of(alloc, &name)?;
         let inputs = self.inputs(alloc, names.get())?;
         let answers = self.answers_among(alloc, &name, names.get())?;
         let Some(text) = self.log.share_text(&name)? else {

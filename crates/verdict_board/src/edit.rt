@@ -1,5 +1,5 @@
 //! Edits of the library.
-ghost use Rattle.std.specs.Prelude.{◌≡◌, ◌≤◌, ◌∷◌, suc, ◌++◌, [], not, true, false, length, filter, IfOk, IfSome, OnErr, OnOk};
+ghost use Rattle.std.specs.Prelude.{◌≡◌, ◌≤◌, ◌∷◌, ◌++◌, [], not, true, false, length, filter, IfOk, IfSome, OnErr, OnOk};
 ghost use Rattle.std.specs.Option.{option_copied};
 ghost use Rattle.name_meaning.specs.Names.{Name, is_among, is_ascending};
 ghost use Rattle.name_meaning.specs.Limits.{text_limit};
@@ -7,21 +7,22 @@ ghost use Rattle.name_meaning.specs.Rows.{row_names};
 ghost use Rattle.edit_log_meaning.specs.Log.{edited, text_of};
 ghost use Rattle.edit_log_meaning.specs.Append.{is_short};
 ghost use Rattle.edit_log_laws.specs.LogLaws.{left_by};
+ghost use Rattle.list_laws.proofs.Members.{Member};
 ghost use Rattle.module_graph_meaning.specs.Graphs.{HoldsDependencies};
+ghost use Rattle.module_graph_meaning.specs.Reach.{reach};
 ghost use Rattle.module_graph_meaning.specs.Walks.{is_grounded, is_ungrounded, ungrounded_names};
 ghost use Rattle.board_meaning.specs.Events.{library_after};
 ghost use Rattle.board_meaning.specs.Machine.{edit_reply, EditCall, after_call};
 ghost use Rattle.edit_log.specs.Readings.{read_edit, IsAnswer};
 ghost use Rattle.verdict_board.specs.Entries.{entry, read_event};
 ghost use Rattle.verdict_board.specs.ReadBefore.{AreReadBefore};
-ghost use Rattle.verdict_board.specs.Searching.{AreNew};
 ghost use Rattle.verdict_board.specs.Stages.{IsStage, AreStages, after_edit_of};
 ghost use Rattle.verdict_board.specs.Tables.{AreDependencies, IsChange};
 ghost use Rattle.board_meaning.specs.Events as board;
 
-use crate::candidates::Candidates;
 use crate::change::{Change, make_edit};
 use crate::claim::MOST;
+use crate::marked_names::bit_of;
 use crate::search::contains;
 use crate::stage::{Stage, after_edit};
 use crate::trail::{Trail, noted};
@@ -36,8 +37,6 @@ use std::alloc::Global;
 #[derive(Drop)]
 struct Next<A> {
     change: Change<A>,
-    /// At least as many as there are modules after the edit.
-    candidates: Candidates,
     history: Trail,
 }
 
@@ -78,18 +77,20 @@ impl<S: Subject> Board<S> {
         }
         let next = self.next(alloc, pass, version, &edit, known)?;
         let how = next.change;
+        let rings = how.rings();
         match make_edit(
             alloc,
             &mut self.log,
             &mut self.graph,
             &mut self.stages,
+            &mut self.candidates,
             how,
             edit,
         ) {
             Ok(_) => {}
             Err(fault) => return Err(fault),
         }
-        self.candidates = next.candidates.first(self.graph.len());
+        self.rings = rings;
         self.history = next.history;
         self.entries += 1;
         Ok(answer)
@@ -107,18 +108,12 @@ impl<S: Subject> Board<S> {
         requires short { is_short (read_edit edit.now) ≡ true }
         requires known { AreReadBefore S.subject.dependencies (read_edit edit.now) known }
         ensures change { IfOk result (λ next. IsChange S.subject S.meaning self.now (read_edit edit.now) next.change) }
-        ensures candidates { IfOk result (λ next. AreNew (suc (length (library_after self.now))) next.candidates) }
         ensures history { IfOk result (λ next. next.history.entries ≡ self.now ++ entry pass version (board.EditMade (read_edit edit.now)) ∷ []) }
     {
         let dependencies = self.dependencies_put(alloc, edit, known)?;
         let history = noted_edit(&self.history, alloc, pass, version, edit)?;
-        let candidates = Candidates::new(alloc, self.graph.len() + 1)?;
         let change = self.change(alloc, edit, dependencies)?;
-        Ok(Next {
-            change,
-            candidates,
-            history,
-        })
+        Ok(Next { change, history })
     }
 
     /// The dependencies of the text that an edit puts, which may be known; none where it drops a module.
@@ -156,8 +151,14 @@ impl<S: Subject> Board<S> {
             return Ok(Change::InPlace { dependencies });
         }
         let graph = self.graph_after(alloc, edit, dependencies)?;
-        let stages = self.stages_after(alloc, edit, &graph)?;
-        Ok(Change::Anew { graph, stages })
+        let bad = self.ungrounded_after(alloc, edit, &graph)?;
+        let stages = self.stages_after(alloc, edit, &graph, &bad)?;
+        let rings = bad.len() > 0;
+        Ok(Change::Anew {
+            graph,
+            stages,
+            rings,
+        })
     }
 
     /// The dependencies of the modules after an edit, where these are the dependencies of the text that it puts.
@@ -193,24 +194,33 @@ impl<S: Subject> Board<S> {
         }
     }
 
-    /// How each module stands after an edit that leaves this graph, made anew beside what there is.
+    /// The names that are ungrounded after an edit that leaves this graph.
+    fn ungrounded_after(&self, alloc: Global, edit: &Edit, graph: &Graph) -> Result<Names, Memory>
+        requires { HoldsDependencies graph.now S.subject.dependencies (edited (library_after self.now) (read_edit edit.now)) }
+        ensures { IfOk result (λ bad. bad ≡ ungrounded_names S.subject.dependencies (library_after (after_edit_of self.now (read_edit edit.now)))) }
+    {
+        let known = grounded(alloc, graph)?;
+        others(alloc, graph, &known)
+    }
+
+    /// How each module stands after an edit that leaves this graph with these ungrounded names, made anew beside what there is.
     fn stages_after(
         &self,
         alloc: Global,
         edit: &Edit,
         graph: &Graph,
+        bad: &Names,
     ) -> Result<NameTable<Stage<S::Answer>>, Memory>
         requires short { is_short (read_edit edit.now) ≡ true }
         requires holds { HoldsDependencies graph.now S.subject.dependencies (edited (library_after self.now) (read_edit edit.now)) }
+        requires others { bad.now ≡ ungrounded_names S.subject.dependencies (library_after (after_edit_of self.now (read_edit edit.now))) }
         ensures { IfOk result (λ stages. AreStages S.subject S.meaning (after_edit_of self.now (read_edit edit.now)) stages) }
     {
-        let known = grounded(alloc, graph)?;
-        let bad = others(alloc, graph, &known)?;
         let mut stages = NameTable::new(alloc);
         for place in 0..graph.len() {
             let name = graph.name_at(place);
-            let stage = if contains(&bad, name) {
-                self.ring_stage(alloc, name, edit, &bad)?
+            let stage = if contains(bad, name) {
+                self.ring_stage(alloc, name, edit, bad)?
             } else {
                 self.grounded_stage(name, edit)?
             };
@@ -233,25 +243,30 @@ impl<S: Subject> Board<S> {
         requires { AreDependencies S.subject.dependencies (read_edit edit.now) dependencies.now }
         ensures { IfOk result (λ may. may ≡ false → (name : Name) → is_ungrounded S.subject.dependencies (edited (library_after self.now) (read_edit edit.now)) name ≡ false) }
     {
-        if self.has_ring() {
+        if self.rings {
             return Ok(true);
         }
         match edit {
-            Edit::Put { name, .. } => any_reaches(alloc, &self.graph, dependencies, name),
+            Edit::Put { name, .. } => self.may_reach(alloc, dependencies, name),
             Edit::Drop { .. } => Ok(false),
         }
     }
 
-    /// Whether a module is ungrounded.
-    fn has_ring(&self) -> bool
-        ensures { result ≡ false → (name : Name) → is_ungrounded S.subject.dependencies (library_after self.now) name ≡ false }
+    /// Whether one of these names reaches a name, or may. It is told by what is kept with their verdicts, and where one of them has none by
+    /// a walk over the graph.
+    fn may_reach(&self, alloc: Global, names: &Names, name: &Name) -> Result<bool, Memory>
+        ensures { IfOk result (λ may. may ≡ false → (from : Name) → Member from names.now → is_among (reach S.subject.dependencies (library_after self.now) from) name.now ≡ false) }
     {
-        for place in 0..self.stages.len() {
-            if self.stages.row_at(place).1.is_cyclic() {
-                return true;
+        let bit = bit_of(name);
+        for from in names.as_slice() {
+            let Some(found) = self.reaches(from, name, bit) else {
+                return any_reaches(alloc, &self.graph, names, name);
+            };
+            if found {
+                return Ok(true);
             }
         }
-        false
+        Ok(false)
     }
 
     /// How a module stands after an edit, where it is grounded then.

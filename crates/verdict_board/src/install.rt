@@ -28,6 +28,10 @@ impl<S: Subject> Board<S> {
         ensures reply { read_installed result ≡ install_reply S.subject.dependencies self.old job.claim }
         ensures history { self.new ≡ after_call S.subject.dependencies self.old pass (InstallCall job.claim) }
     {
+        if self.is_current(&job.name, job.claim) {
+            self.end_installed(pass, job, verdict);
+            return Installed::Installed;
+        }
         match self.first_changed(job.inputs()) {
             Some((place, newer)) => self.end_stale(pass, job, place, newer),
             None => {

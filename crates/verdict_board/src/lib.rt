@@ -7,6 +7,7 @@ mod change;
 mod claim;
 mod edit;
 mod event;
+mod gathering;
 mod inputs;
 mod install;
 mod job;

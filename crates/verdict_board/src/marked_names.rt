@@ -1,11 +1,13 @@
 //! Names among which most others are found to be missing without a look at them.
-ghost use Rattle.std.specs.Prelude.{◌≡◌, ◌<◌, true, IfOk};
-ghost use Rattle.name_meaning.specs.Names.{Name, is_among, is_ascending};
+ghost use Rattle.std.specs.Prelude.{◌≡◌, ◌<◌, ◌∷◌, [], true, IfOk};
+ghost use Rattle.name_meaning.specs.Names.{Name, is_among, is_ascending, with_name};
 ghost use Rattle.list_laws.proofs.Members.{Member};
+ghost use Rattle.module_graph.specs.Merging.{IsMerge};
 ghost use Rattle.verdict_board.specs.Marks.{bit_of, AreMarked};
 
 use crate::search::contains;
 use lf_terms::{Arc, Memory, Name, Names};
+use module_graph::{merged, with_one};
 use std::alloc::Global;
 use std::marker::Model;
 
@@ -37,6 +39,42 @@ impl MarkedNames {
             names: Arc::new(alloc, names)?,
             marks,
         })
+    }
+
+    /// One name, with its bit.
+    pub fn one(alloc: Global, name: &Name) -> Result<MarkedNames, Memory>
+        ensures { IfOk result (λ marked. marked ≡ name.now ∷ []) }
+    {
+        let mut names = Vec::with_capacity(alloc, 1)?;
+        names.push(name.copy(alloc)?)?;
+        MarkedNames::new(alloc, Names::from_vec(names))
+    }
+
+    /// These names, which stand in byte order, and others, with the bits of both.
+    pub fn merged(&self, alloc: Global, other: &MarkedNames) -> Result<MarkedNames, Memory>
+        requires own { is_ascending self.now ≡ true }
+        requires other { is_ascending other.now ≡ true }
+        ensures { IfOk result (λ marked. IsMerge self.now other.now marked) }
+    {
+        let names = merged(alloc, self.names.get(), other.names.get())?;
+        Ok(MarkedNames {
+            names: Arc::new(alloc, names)?,
+            marks: self.marks | other.marks,
+        })
+    }
+
+    /// These names, which stand in byte order, with one more at its place. Where it is one of them they are shared.
+    pub fn with(&self, alloc: Global, name: &Name) -> Result<MarkedNames, Memory>
+        requires { is_ascending self.now ≡ true }
+        ensures { IfOk result (λ marked. marked ≡ with_name name.now self.now) }
+    {
+        match with_one(alloc, self.names.get(), name)? {
+            Some(names) => Ok(MarkedNames {
+                names: Arc::new(alloc, names)?,
+                marks: self.marks | 1 << bit_of(name),
+            }),
+            None => self.share(),
+        }
     }
 
     /// The names.

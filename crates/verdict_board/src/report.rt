@@ -1,7 +1,8 @@
 //! What is told of verdicts.
 ghost use Rattle.std.specs.Prelude.{◌≡◌, true, false, Some, IfOk, OnErr};
-ghost use Rattle.std.specs.Option.{option_map};
+ghost use Rattle.std.specs.Option.{option_copied, option_map};
 ghost use Rattle.name_meaning.specs.Names.{Name, same_name};
+ghost use Rattle.name_meaning.specs.Rows.{row_of};
 ghost use Rattle.edit_log_meaning.specs.Log.{is_present};
 ghost use Rattle.module_graph_meaning.specs.Reach.{reach};
 ghost use Rattle.module_graph_meaning.specs.Subject.{present_answer, answers_of};
@@ -12,9 +13,11 @@ ghost use Rattle.board_meaning.specs.Points.{is_verdict};
 ghost use Rattle.module_graph.specs.Subjects.{read_answers};
 ghost use Rattle.verdict_board.specs.Readings.{read_told};
 
+use crate::stage::Stage;
 use crate::{Board, Told};
 use lf_terms::{Memory, Name, Names};
 use module_graph::{Answers, Subject};
+use name_table::NameTable;
 use std::alloc::Global;
 
 impl<S: Subject> Board<S> {
@@ -64,11 +67,12 @@ impl<S: Subject> Board<S> {
         ensures { IfOk result (λ answers. read_answers S.meaning answers ≡ answers_of S.subject (library_after self.now) name.now) }
     {
         let mut answers = Answers::new(alloc);
+        let mut near = 0;
         for other in reached.as_slice() {
             if name == other {
                 continue;
             }
-            let answer = self.answer_of(other)?;
+            let answer = self.answer_of(other, &mut near)?;
             match answers.push(other.copy(alloc)?, answer) {
                 Ok(()) => {}
                 Err(_) => return Err(Memory),
@@ -77,17 +81,45 @@ impl<S: Subject> Board<S> {
         Ok(answers)
     }
 
-    /// The answer of a name, where it may be told if the name is present; none of an absent name.
-    fn answer_of(&self, name: &Name) -> Result<Option<S::Answer>, Memory>
+    /// The answer of a name, where it may be told if the name is present; none of an absent name. It is looked for at a place first,
+    /// which is then the one behind it.
+    fn answer_of(&self, name: &Name, near: &mut usize) -> Result<Option<S::Answer>, Memory>
         requires { is_present (library_after self.now) name.now ≡ true → is_known S.subject.dependencies self.now name.now ≡ true }
         ensures { IfOk result (λ answer. option_map S.meaning answer ≡ present_answer S.subject (library_after self.now) name.now) }
     {
-        let Some(stage) = self.stages.get(name) else {
+        let Some(stage) = stage_near(&self.stages, name, near) else {
             return Ok(None);
         };
         match stage.answer() {
             Some(answer) => Ok(Some(S::share(answer)?)),
             None => Ok(None),
         }
+    }
+}
+
+/// How a module stands. It is looked for at a place first, which is then the one behind it: for names in byte order that lie close the
+/// table is not searched.
+fn stage_near<'a, A: Drop>(
+    stages: &'a NameTable<Stage<A>>,
+    name: &Name,
+    near: &mut usize,
+) -> Option<&'a Stage<A>>
+    ensures { option_copied result ≡ row_of stages.now name.now }
+{
+    let count = stages.len();
+    let place = *near;
+    if place < count {
+        let (other, stage) = stages.row_at(place);
+        if other == name {
+            *near = place + 1;
+            return Some(stage);
+        }
+    }
+    match stages.place(name) {
+        Ok(found) => {
+            *near = found + 1;
+            Some(stages.row_at(found).1)
+        }
+        Err(_) => None,
     }
 }

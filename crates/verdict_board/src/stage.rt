@@ -3,7 +3,7 @@ ghost use Rattle.std.specs.Prelude.{◌≡◌, IfOk};
 ghost use Rattle.std.specs.Option.{option_copied};
 ghost use Rattle.name_meaning.specs.Names.{is_ascending, is_among};
 ghost use Rattle.verdict_board.specs.Marks.{bit_of};
-ghost use Rattle.verdict_board.specs.Stages.{answer_in, claim_in, falls, is_cyclic, is_waiting, standing_in, stage_after, HasSortedInputs};
+ghost use Rattle.verdict_board.specs.Stages.{answer_in, claim_in, falls, is_waiting, standing_in, stage_after, HasSortedInputs};
 
 use crate::marked_names::{MarkedNames, bit_of};
 use lf_terms::{Memory, Name, Names};
@@ -40,13 +40,6 @@ impl<A> Stage<A> {
         matches!(self, Stage::Waiting)
     }
 
-    /// Whether it is ungrounded.
-    pub fn is_cyclic(&self) -> bool
-        ensures { result ≡ is_cyclic self.now }
-    {
-        matches!(self, Stage::Cyclic { .. })
-    }
-
     /// Whether it does not stay after an edit of a name, the place of whose bit is given, if the module is grounded then.
     pub fn falls(&self, edited: &Name, bit: u32) -> bool
         requires sorted { HasSortedInputs self.now }
@@ -78,6 +71,16 @@ impl<A> Stage<A> {
     {
         match self {
             Stage::Standing { inputs, .. } => Some(inputs.get()),
+            Stage::Waiting | Stage::Claimed { .. } | Stage::Cyclic { .. } => None,
+        }
+    }
+
+    /// The same with their bits.
+    pub fn reached(&self) -> Option<&MarkedNames>
+        ensures { option_copied result ≡ standing_in self.now }
+    {
+        match self {
+            Stage::Standing { inputs, .. } => Some(inputs),
             Stage::Waiting | Stage::Claimed { .. } | Stage::Cyclic { .. } => None,
         }
     }

@@ -1,13 +1,8 @@
-use Rattle.std.proofs.Common.{Some, ◌+◌, ◌*◌, ◌%◌, ◌^◌, ◌<◌, ◌≡◌, ℕ, suc, take, bit_or, sym, ap, ◌∙◌, arith, subst}
-use Rattle.std.proofs.Math.Pow.{pow-lt}
+use Rattle.std.proofs.Common.{Some, ◌+◌, ◌*◌, ◌%◌, ◌^◌, ◌≡◌, suc, take, bit_or, sym, ap, ◌∙◌, arith, subst}
 use Rattle.std.proofs.lemmas.Option.{slice_get-get_or}
 use Rattle.verdict_board.specs.Marks.{AreMarked}
-use Rattle.verdict_board.proofs.Marks.{marked_next}
+use Rattle.verdict_board.proofs.Marks.{marked_next, power}
 use Rattle.verdict_board.proofs.marked_names.marks_of.Goals as goal
-
--- a power below the type's bound is shifted whole
-power : (i : ℕ) → i < 64 → (1 * 2 ^ i) % 18446744073709551616 ≡ 2 ^ i
-power i h = let p : 2 ^ i < 18446744073709551616 = pow-lt h in omega (arith, p)
 
 pub loop-name-preserved : goal.loop-name-preserved
 loop-name-preserved c =

@@ -12,6 +12,7 @@ stand-requires g c =
           c.job.inside.name c.job.inside.claim (here_at g.S.Subject.subject g.S.Subject.meaning c.self.inside.history.entries c.args.self.now c.self.view_is c.args.pass _ c.args.job c.job.view_is c.requires.job)
           (here_reply g.S.Subject.subject g.S.Subject.meaning c.self.inside.history.entries c.args.self.now c.self.view_is c.args.pass _ c.args.job c.job.view_is c.requires.job c.requires.unchanged);
       waits_not = refl;
+      stands = refl;
       kept = (c.self.inside.graph, c.self.invariant.candidates_all);
     }
 

@@ -9,27 +9,15 @@ use Rattle.board_meaning.specs.Events.{log_of, library_after, version_after}
 use Rattle.edit_log.specs.Readings.{read_edit}
 use Rattle.verdict_board.specs.Stages.{IsStage, after_edit_of}
 use Rattle.verdict_board.proofs.Edits.{library_edited}
-use Rattle.verdict_board.proofs.EditSteps.{known_sorted, bad_listed, bad_sorted, at_bad, at_rest, row_last, names_more, more_table}
+use Rattle.verdict_board.proofs.EditSteps.{bad_sorted, at_bad, at_rest, row_last, names_more, more_table}
 use Rattle.verdict_board.proofs.board.Board.stages_after.Goals as goal
 use Rattle.verdict_board.proofs.board.Board.stages_after.Goals.{then-contains+in_ok-stage, else-contains+in_ok-stage-2}
 
-pub others-requires : goal.others-requires
-others-requires g c =
-    let lib = library_edited c.args.self.now (read_edit c.args.edit.now) 0 (suc (version_after c.args.self.now)) in
-    let D = g.S.Subject.subject.dependencies in
-    let holds : HoldsDependencies c.args.graph.now D (library_after (after_edit_of c.args.self.now (read_edit c.args.edit.now))) = subst (HoldsDependencies c.args.graph.now D) (sym lib) c.requires.holds in
-    let t = library_ascending (log_of (after_edit_of c.args.self.now (read_edit c.args.edit.now))) in
-    known_sorted c.args.graph.now g.S.Subject.subject.dependencies (library_after (after_edit_of c.args.self.now (read_edit c.args.edit.now))) holds t c.in_ok-known.known c.in_ok-known.ensures
-
 pub contains-requires : goal.contains-requires
 contains-requires g c =
-    let lib = library_edited c.args.self.now (read_edit c.args.edit.now) 0 (suc (version_after c.args.self.now)) in
     let D = g.S.Subject.subject.dependencies in
     let after = library_after (after_edit_of c.args.self.now (read_edit c.args.edit.now)) in
-    let holds : HoldsDependencies c.args.graph.now D after = subst (HoldsDependencies c.args.graph.now D) (sym lib) c.requires.holds in
-    let t = library_ascending (log_of (after_edit_of c.args.self.now (read_edit c.args.edit.now))) in
-    let listed = bad_listed c.args.graph.now D after holds t c.in_ok-known.known c.in_ok-known.ensures c.in_ok-bad.bad c.in_ok-bad.ensures in
-    bad_sorted D after c.in_ok-bad.bad listed t
+    bad_sorted D after c.args.bad.now c.requires.others (library_ascending (log_of (after_edit_of c.args.self.now (read_edit c.args.edit.now))))
 
 pub loop-place-init : goal.loop-place-init
 unfolding row_of
@@ -42,29 +30,17 @@ grounded_stage-requires-after_bounds g c κs b =
     let D = g.S.Subject.subject.dependencies in
     let after = library_after (after_edit_of c.args.self.now (read_edit c.args.edit.now)) in
     let holds : HoldsDependencies c.args.graph.now D after = subst (HoldsDependencies c.args.graph.now D) (sym lib) c.requires.holds in
-    let t = library_ascending (log_of (after_edit_of c.args.self.now (read_edit c.args.edit.now))) in
-    let listed = bad_listed c.args.graph.now D after holds t c.in_ok-known.known c.in_ok-known.ensures c.in_ok-bad.bad c.in_ok-bad.ensures in
-    at_rest D after c.in_ok-bad.bad listed c.args.graph.now holds c.loop-place.place c.name_at-name.result.now c.contains.result c.name_at-name.ensures c.contains.ensures c.if-contains.false
+    at_rest D after c.args.bad.now c.requires.others c.args.graph.now holds c.loop-place.place c.name_at-name.result.now c.contains.result c.name_at-name.ensures c.contains.ensures c.if-contains.false
 
 pub ring_stage-requires-clause-ungrounded : goal.ring_stage-requires-clause-ungrounded
 ring_stage-requires-clause-ungrounded g c κs b =
-    let lib = library_edited c.args.self.now (read_edit c.args.edit.now) 0 (suc (version_after c.args.self.now)) in
     let D = g.S.Subject.subject.dependencies in
     let after = library_after (after_edit_of c.args.self.now (read_edit c.args.edit.now)) in
-    let holds : HoldsDependencies c.args.graph.now D after = subst (HoldsDependencies c.args.graph.now D) (sym lib) c.requires.holds in
-    let t = library_ascending (log_of (after_edit_of c.args.self.now (read_edit c.args.edit.now))) in
-    let listed = bad_listed c.args.graph.now D after holds t c.in_ok-known.known c.in_ok-known.ensures c.in_ok-bad.bad c.in_ok-bad.ensures in
-    at_bad D after c.in_ok-bad.bad listed c.name_at-name.result.now c.contains.result c.contains.ensures ∙ c.if-contains.true
+    at_bad D after c.args.bad.now c.requires.others c.name_at-name.result.now c.contains.result c.contains.ensures ∙ c.if-contains.true
 
 pub ring_stage-requires-clause-others : goal.ring_stage-requires-clause-others
 ring_stage-requires-clause-others g c κs b =
-    let lib = library_edited c.args.self.now (read_edit c.args.edit.now) 0 (suc (version_after c.args.self.now)) in
-    let D = g.S.Subject.subject.dependencies in
-    let after = library_after (after_edit_of c.args.self.now (read_edit c.args.edit.now)) in
-    let holds : HoldsDependencies c.args.graph.now D after = subst (HoldsDependencies c.args.graph.now D) (sym lib) c.requires.holds in
-    let t = library_ascending (log_of (after_edit_of c.args.self.now (read_edit c.args.edit.now))) in
-    let listed = bad_listed c.args.graph.now D after holds t c.in_ok-known.known c.in_ok-known.ensures c.in_ok-bad.bad c.in_ok-bad.ensures in
-    listed
+    c.requires.others
 
 pub push-requires : goal.push-requires
 push-requires g c =

@@ -4,7 +4,7 @@ use Rattle.verdict_board.proofs.Parking.{all_new}
 use Rattle.verdict_board.proofs.candidates.Candidates.new.Goals as goal
 
 pub loop-init : goal.loop-init
-loop-init c = subst (λ lists. AreEmpty (λ list. list.items) lists 0) (sym c.new-parked.ensures.items) (none_empty (λ list. list.items))
+loop-init c = subst (λ lists. AreEmpty (λ list. list.items) lists 0) (sym c.in_ok-parked.ensures.items) (none_empty (λ list. list.items))
 
 pub loop-preserved : goal.loop-preserved
 loop-preserved c =
