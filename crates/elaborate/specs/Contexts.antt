@@ -11,7 +11,7 @@ use Rattle.elaborate_meaning.specs.NameHeads.{Level, level_of, same_level}
 use Rattle.answer_meaning.specs.Answers.{◌>>=◌}
 use Rattle.translation_meaning.specs.Heads.{Head}
 use Rattle.term_trees.specs.Readings.{read_declaration, read_family}
-use Rattle.names.specs.Readings.{read_locals, read_scope}
+use Rattle.names.specs.Readings.{read_locals, read_tabled}
 use Rattle.names.specs.declared.scope.Found.{Found}
 use Rattle.names.specs.declared.scope.Found.TheVariants as found
 use Rattle.elaborate.specs.declared.context.Context.{Context}
@@ -28,7 +28,7 @@ abbrev pub variables_in : Variables → Locals
 variables_in = fold-Variables Locals variables_layer
 
 abbrev pub scope_of : Context → resolution.Scope
-scope_of context = read_scope context.scope.now
+scope_of context = read_tabled context.scope.now
 
 abbrev pub locals_of : Context → Locals
 locals_of context = variables_in context.variables

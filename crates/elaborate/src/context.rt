@@ -8,7 +8,7 @@ ghost use Rattle.elaborate_meaning.specs.NameHeads as meant;
 ghost use Rattle.elaborate_meaning.specs.Values.{resolved_declaration};
 ghost use Rattle.term_trees.specs.Readings.{read_declaration, read_family};
 ghost use Rattle.mmt_syntax.specs.Readings.{read_span};
-ghost use Rattle.names.specs.Readings.{read_locals, read_resolved, read_scope};
+ghost use Rattle.names.specs.Readings.{read_locals, read_resolved, read_tabled};
 ghost use Rattle.elaborate.specs.Contexts.{is_named_by, levelled, locals_of, read_found, resolved_answer, scope_of, variables_in};
 ghost use Rattle.elaborate.specs.HeadStates.{read_level};
 ghost use Rattle.elaborate.specs.Answers.{Begins, Expands};
@@ -20,7 +20,7 @@ use crate::lent::Lent;
 use lf_terms::{Class, Fam, FlatDecl, Memory, Name, Path, Span, shift_fam};
 use mmt_interface::Rule;
 use mmt_syntax::Binder;
-use names::{Found, ResolveFault, Scope, Vars, resolve};
+use names::{Found, ResolveFault, TabledScope, Vars, resolve_tabled};
 use std::alloc::Global;
 
 /// Variables that are given, and behind them those of the binders that were passed. A binder takes no memory; a look-up
@@ -38,7 +38,7 @@ pub(crate) enum Variables<'a> {
 /// A scope and variables.
 #[derive(Clone, Copy)]
 pub(crate) struct Context<'a> {
-    scope: &'a Scope<'a>,
+    scope: &'a TabledScope<'a>,
     variables: Variables<'a>,
 }
 
@@ -47,14 +47,14 @@ impl<'a> Variables<'a> {
     /// names among the given variables and in the scope.
     fn resolve(
         &self,
-        scope: &'a Scope<'a>,
+        scope: &'a TabledScope<'a>,
         span: Span,
         written: &Path,
     ) -> Result<Found<'a>, ElabFault>
-        ensures { Expands read_found result (resolved_answer (read_span span) (resolution.resolve (read_scope scope.now) (variables_of (variables_in self.now)) written.now)) }
+        ensures { Expands read_found result (resolved_answer (read_span span) (resolution.resolve (read_tabled scope.now) (variables_of (variables_in self.now)) written.now)) }
     {
         match self {
-            Variables::Given(given) => found(span, resolve(scope, given.get(), written)),
+            Variables::Given(given) => { found(span, resolve_tabled(scope, given.get(), written)) },
             Variables::Bound { name, outer, .. } => {
                 if is_named(*name, written) {
                     return Ok(Found::Var(0));
@@ -125,8 +125,8 @@ fn innermost(vars: &[(Binder, Fam)], index: usize) -> Option<&(Binder, Fam)>
 
 impl<'a> Context<'a> {
     /// The scope with the given variables. More than an index can name are want of memory.
-    pub(crate) fn new(scope: &'a Scope<'a>, vars: &'a Vars) -> Result<Context<'a>, Memory>
-        ensures scope { IfOk result (λ context. scope_of context ≡ read_scope scope.now) }
+    pub(crate) fn new(scope: &'a TabledScope<'a>, vars: &'a Vars) -> Result<Context<'a>, Memory>
+        ensures scope { IfOk result (λ context. scope_of context ≡ read_tabled scope.now) }
         ensures locals { IfOk result (λ context. locals_of context ≡ read_locals vars.now) }
     {
         let given = GivenVariables::new(vars)?;

@@ -14,5 +14,7 @@ mod outcomes;
 mod terms;
 mod values;
 
-pub use calls::{elab_class, elab_fam, elab_kind, elab_obj, elab_value};
+pub use calls::{
+    elab_class, elab_class_tabled, elab_fam, elab_kind, elab_obj, elab_value, elab_value_tabled,
+};
 pub use fault::ElabFault;

@@ -1,2 +1,3 @@
 mod Adding
+mod FirstInclusion
 pub mod NewNames

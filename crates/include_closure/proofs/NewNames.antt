@@ -1,8 +1,7 @@
 -- Declarations, and own parts of theories, that are added to others whose names differ from theirs.
-use Rattle.std.proofs.Common.{◌≡◌, ℕ, suc, ◌+◌, ◌<◌, List, [], ◌∷◌, ◌++◌, take, drop, length, slice_get, get_or, append_assoc, Option, Some, None, is_some, Result, Err, inl, refl, sym, ap, ◌∙◌, subst, true≢false}
-use Rattle.std.specs.Prelude.{◌↔◌, IfErr, IsErrOf, IsSome, ⊤}
+use Rattle.std.proofs.Common.{◌≡◌, ℕ, suc, ◌+◌, ◌<◌, List, [], ◌∷◌, ◌++◌, take, drop, length, slice_get, get_or, append_assoc, Option, Some, None, is_some, inl, refl, sym, ap, ◌∙◌, subst}
 use Rattle.std.proofs.lemmas.List.{append-nil, take_more}
-use Rattle.list_laws.proofs.Options.{some_mapped}
+use Rattle.list_laws.proofs.Options.{none_of, some_mapped}
 use Rattle.list_laws.proofs.Places.{split_at, take_drop}
 use Rattle.name_meaning.specs.Names.{Name}
 use Rattle.lf_meaning.specs.Signatures.{Declaration, Signature, declaration_of}
@@ -11,9 +10,7 @@ use Rattle.library_meaning.specs.Coherence.{IsCoherent}
 use Rattle.link_laws.proofs.Onces.{Once, declaration_member, once_apart, once_left, parts_joined}
 use Rattle.term_trees.specs.declared.flat_decl.FlatDecl.{FlatDecl}
 use Rattle.term_trees.specs.Readings.{read_constant, read_declaration, read_signature}
-use Rattle.lf_terms.specs.Tables.{declared, handed_back}
-use Rattle.lf_terms.specs.declared.flat_sig.PushFault.{PushFault}
-use Rattle.lf_terms.specs.declared.flat_sig.PushFault.TheVariants.{Twice}
+use Rattle.lf_terms.specs.Tables.{declared}
 use Rattle.lf_terms.proofs.Lookup.{declared_read}
 
 -- The last of declarations of different names is new behind the others.
@@ -33,12 +30,10 @@ next_new front own i d here once =
     ap (λ z. front ++ z) (split_at own i d here) ∙ sym (append_assoc front (take i own) (d ∷ rest)) ∙ sym (append_assoc before (d ∷ []) rest) in
     last_new before d (once_left (before ++ d ∷ []) rest (subst Once whole once))
 
--- A declaration of a new name is not refused.
-pub never_twice : (own : List FlatDecl) (decl : FlatDecl) (result : Result ⊤ PushFault) (other : FlatDecl) → result ≡ Err (Twice other) → IfErr result (λ fault. handed_back fault ≡ decl)
-    → (IsErrOf result (Twice decl) ↔ IsSome (declared own decl.name)) → declaration_of (read_signature own) (read_constant decl.name) ≡ None → ⊥
-never_twice own decl result other is back twice new =
-    let b : other ≡ decl = subst (λ r. IfErr r (λ fault. handed_back fault ≡ decl)) is back in
-    true≢false (sym (twice.0 (is ∙ ap (λ d. Err (Twice d)) b)) ∙ sym (some_mapped read_declaration (declared own decl.name)) ∙ ap is_some (declared_read own decl.name ∙ new))
+-- A name that is new among what declarations mean is new among them.
+pub new_declared : (own : List FlatDecl) (decl : FlatDecl) → declaration_of (read_signature own) (read_constant decl.name) ≡ None → declared own decl.name ≡ None
+new_declared own decl new =
+    none_of (declared own decl.name) (sym (some_mapped read_declaration (declared own decl.name)) ∙ ap is_some (declared_read own decl.name ∙ new))
 
 -- The own part of the next of some theories has new names, where no name of all their own parts comes twice.
 pub next_part : (environment : Environment) → IsCoherent environment → (names : List Name) (i : ℕ) (name : Name) → i < length names → name ≡ get_or names i name → Once (own_parts environment names)

@@ -8,7 +8,7 @@ ghost use Rattle.link_laws.proofs.Onces.{Once};
 ghost use Rattle.mmt_interface.specs.CoherentFaces.{AreCoherent};
 ghost use Rattle.mmt_interface.specs.Readings.{environment_of};
 
-use lf_terms::{FlatDecl, FlatSig, Memory, Name, PushFault};
+use lf_terms::{FlatDecl, FlatSig, Memory, Name};
 use mmt_interface::Faces;
 use std::alloc::Global;
 
@@ -63,12 +63,11 @@ fn push_copy(alloc: Global, signature: &mut FlatSig, decl: &FlatDecl) -> Result<
     requires { declaration_of (read_signature signature.old) (read_declaration decl.now).name ≡ None }
     ensures { OnOk result (read_signature signature.new ≡ read_signature signature.old ++ read_declaration decl.now ∷ []) }
 {
-    match signature.push(decl.copy(alloc)?) {
+    match signature.push_new(decl.copy(alloc)?) {
         Ok(()) => Ok(()),
-        Err(PushFault::Memory(copied)) => {
-            drop(copied);
+        Err(back) => {
+            drop(back);
             Err(Memory)
         }
-        Err(PushFault::Twice(_)) => unreachable!(),
     }
 }

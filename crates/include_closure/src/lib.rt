@@ -5,6 +5,8 @@
 mod additions;
 mod closure;
 mod flattening;
+mod inclusions;
 
 pub use closure::{add, sees};
 pub use flattening::flat_of;
+pub use inclusions::Inclusions;

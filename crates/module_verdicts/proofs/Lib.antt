@@ -1,4 +1,5 @@
 pub mod NamesUsed
 pub mod Built
 pub mod Declared
+pub mod DueTables
 pub mod WholeModules

@@ -4,6 +4,7 @@
 
 mod constants;
 mod declarations;
+mod due_table;
 mod fault;
 mod known;
 mod modules;

@@ -1,4 +1,6 @@
 mod Included
+mod IncludedNames
+mod IncludedPlaces
 mod Qualified
 mod Resolved
 mod Variables

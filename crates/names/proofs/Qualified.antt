@@ -1,9 +1,8 @@
 -- Paths with an included theory in front.
 use Rattle.std.proofs.Common.{◌≡◌, ◌-◌, ◌≤◌, take, Bool, cond, [], ◌∷◌, drop, length, get_or, None, refl, sym, ap, ◌∙◌, arith}
-use Rattle.std.specs.List.{list_any}
 use Rattle.std.proofs.Math.Seq.{take-length}
-use Rattle.name_meaning.specs.Names.{Name, Path, same_name}
-use Rattle.name_laws.proofs.Contained.{contained_among}
+use Rattle.name_meaning.specs.Names.{Name, Path}
+use Rattle.library_meaning.specs.Closure.{sees}
 use Rattle.library_meaning.specs.Faces.{own_part}
 use Rattle.library_meaning.specs.Resolution.{Scope, own_at, qualified, qualified_in}
 
@@ -20,6 +19,5 @@ module _ (scope : Scope) where
   front_read (first ∷ rest) theory h e = ap (λ n. qualified_in scope n rest) (sym e)
 
   -- the theory is included, or it is not
-  pub if_seen : (theory : Name) (rest : Path) (b : Bool) → list_any (λ (m : Name). same_name m theory) scope.includes ≡ b
-      → qualified_in scope theory rest ≡ cond b (own_at (own_part scope.environment theory) rest) None
-  if_seen theory rest b h = ap (λ c. cond c (own_at (own_part scope.environment theory) rest) None) (sym (contained_among scope.includes theory) ∙ h)
+  pub if_seen : (theory : Name) (rest : Path) (b : Bool) → b ≡ sees scope.includes theory → qualified_in scope theory rest ≡ cond b (own_at (own_part scope.environment theory) rest) None
+  if_seen theory rest b h = ap (λ c. cond c (own_at (own_part scope.environment theory) rest) None) (sym h)

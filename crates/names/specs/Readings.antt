@@ -1,20 +1,20 @@
 -- What the values of this crate stand for: scopes, variables, and what is found.
+pub use Rattle.names.specs.Scopes.{read_scope}
 use Rattle.std.specs.Prelude.{List, map, reverse, Result, Ok, Err}
-use Rattle.term_trees.specs.Readings.{read_family, read_declaration, read_signature}
+use Rattle.term_trees.specs.Readings.{read_family, read_declaration}
 use Rattle.term_trees.specs.declared.fam.Fam.{Fam}
 use Rattle.library_meaning.specs.Resolution as resolution
 use Rattle.elaborate_meaning.specs.Locals.{Local, Locals, variables_of}
 use Rattle.mmt_syntax.specs.Readings.{read_binder}
 use Rattle.mmt_syntax.specs.declared.expr.Binder.{Binder}
-use Rattle.mmt_interface.specs.Readings.{environment_of}
-use Rattle.names.specs.declared.scope.Scope.{Scope}
+use Rattle.names.specs.declared.tabled_scope.TabledScope.{TabledScope}
 use Rattle.names.specs.declared.scope.Found.{Found}
 use Rattle.names.specs.declared.scope.Found.TheVariants.{Var, Decl}
 use Rattle.names.specs.declared.scope.ResolveFault.{ResolveFault}
 use Rattle.names.specs.declared.scope.ResolveFault.TheVariants.{Unknown, Ambiguous}
 
-abbrev pub read_scope : Scope → resolution.Scope
-read_scope s = record { own = read_signature s.own.now; includes = s.includes.now; environment = environment_of s.faces.now }
+abbrev pub read_tabled : TabledScope → resolution.Scope
+read_tabled s = read_scope s.scope
 
 abbrev pub read_local : Binder × Fam → Local
 read_local v = record { name = read_binder v.0; family = read_family v.1 }

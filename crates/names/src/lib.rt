@@ -3,8 +3,12 @@
 
 mod bound;
 mod constants;
+mod included_table;
 mod resolution;
 mod scope;
+mod tabled_scope;
 
-pub use resolution::resolve;
+pub use included_table::IncludedTable;
+pub use resolution::{resolve, resolve_tabled};
 pub use scope::{Found, ResolveFault, Scope, Vars};
+pub use tabled_scope::TabledScope;

@@ -18,7 +18,7 @@ pub returns-clause-answer : goal.returns-clause-answer
 returns-clause-answer c =
     let scope = read_scope c.args.scope.now in
     let locals = c.in_ok-new.ensures.locals ∙ ap read_locals c.new-no_vars.ensures in
-    let same = ap₂ (λ s l. class_answer s l (read_expr c.args.expr.now)) c.in_ok-new.ensures.scope locals ∙ class_alone scope (read_expr c.args.expr.now) in
+    let same = ap₂ (λ s l. class_answer s l (read_expr c.args.expr.now)) (c.in_ok-new.ensures.scope ∙ c.new-tabled.ensures) locals ∙ class_alone scope (read_expr c.args.expr.now) in
     let answered = subst (Expands read_class c.class.result) same c.class.ensures in
     answered
 
@@ -26,7 +26,7 @@ pub returns-clause-stands : goal.returns-clause-stands
 returns-clause-stands c =
     let scope = read_scope c.args.scope.now in
     let locals = c.in_ok-new.ensures.locals ∙ ap read_locals c.new-no_vars.ensures in
-    let same = ap₂ (λ s l. class_answer s l (read_expr c.args.expr.now)) c.in_ok-new.ensures.scope locals ∙ class_alone scope (read_expr c.args.expr.now) in
+    let same = ap₂ (λ s l. class_answer s l (read_expr c.args.expr.now)) (c.in_ok-new.ensures.scope ∙ c.new-tabled.ensures) locals ∙ class_alone scope (read_expr c.args.expr.now) in
     let answered = subst (Expands read_class c.class.result) same c.class.ensures in
     stands_by read_class (StandsClass scope (read_expr c.args.expr.now)) (expand_class scope (read_expr c.args.expr.now)) (class_sound scope (read_expr c.args.expr.now)) c.class.result answered
 
@@ -34,7 +34,7 @@ pub returns-clause-only : goal.returns-clause-only
 returns-clause-only c =
     let scope = read_scope c.args.scope.now in
     let locals = c.in_ok-new.ensures.locals ∙ ap read_locals c.new-no_vars.ensures in
-    let same = ap₂ (λ s l. class_answer s l (read_expr c.args.expr.now)) c.in_ok-new.ensures.scope locals ∙ class_alone scope (read_expr c.args.expr.now) in
+    let same = ap₂ (λ s l. class_answer s l (read_expr c.args.expr.now)) (c.in_ok-new.ensures.scope ∙ c.new-tabled.ensures) locals ∙ class_alone scope (read_expr c.args.expr.now) in
     let answered = subst (Expands read_class c.class.result) same c.class.ensures in
     only_by read_class (StandsClass scope (read_expr c.args.expr.now)) (expand_class scope (read_expr c.args.expr.now)) (class_complete scope (read_expr c.args.expr.now)) c.class.result answered
 
@@ -43,7 +43,7 @@ returns-clause-typed c =
     let scope = read_scope c.args.scope.now in
     let expression = read_expr c.args.expr.now in
     let locals = c.in_ok-new.ensures.locals ∙ ap read_locals c.new-no_vars.ensures in
-    let same = ap₂ (λ s l. class_answer s l expression) c.in_ok-new.ensures.scope locals ∙ class_alone scope expression in
+    let same = ap₂ (λ s l. class_answer s l expression) (c.in_ok-new.ensures.scope ∙ c.new-tabled.ensures) locals ∙ class_alone scope expression in
     let answered = subst (Expands read_class c.class.result) same c.class.ensures in
     stands_by read_class (λ class. IsTypedScope scope → IsClass (scope_signature scope) class) (expand_class scope expression)
     (λ class is typed. standing_class_is_class scope expression class typed (class_sound scope expression class is)) c.class.result answered

@@ -1,4 +1,4 @@
-use Rattle.std.proofs.Common.{ap₂, subst}
+use Rattle.std.proofs.Common.{ap₂, subst, ◌∙◌}
 use Rattle.lf_meaning.specs.Judgements.{Checks, IsContext, IsFamily}
 use Rattle.elaborate_meaning.specs.Expansion.{expand_object}
 use Rattle.elaborate_meaning.specs.Locals.{context_of}
@@ -18,12 +18,12 @@ use Rattle.elaborate.proofs.calls.elab_obj.Goals as goal
 pub returns-clause-stands : goal.returns-clause-stands
 returns-clause-stands c =
     stands_by read_object (StandsObject (read_scope c.args.scope.now) (read_locals c.args.vars.now) (read_expr c.args.expr.now) (read_family c.args.fam.now)) (expand_object (read_scope c.args.scope.now) (read_locals c.args.vars.now) (read_expr c.args.expr.now) (read_family c.args.fam.now)) (object_sound (read_expr c.args.expr.now) (read_scope c.args.scope.now) (read_locals c.args.vars.now) (read_family c.args.fam.now)) c.object.result
-    (subst (Expands read_object c.object.result) (ap₂ (λ s l. expand_object s l (read_expr c.args.expr.now) (read_family c.args.fam.now)) c.in_ok-new.ensures.scope c.in_ok-new.ensures.locals) c.object.ensures)
+    (subst (Expands read_object c.object.result) (ap₂ (λ s l. expand_object s l (read_expr c.args.expr.now) (read_family c.args.fam.now)) (c.in_ok-new.ensures.scope ∙ c.new-tabled.ensures) c.in_ok-new.ensures.locals) c.object.ensures)
 
 pub returns-clause-only : goal.returns-clause-only
 returns-clause-only c =
     only_by read_object (StandsObject (read_scope c.args.scope.now) (read_locals c.args.vars.now) (read_expr c.args.expr.now) (read_family c.args.fam.now)) (expand_object (read_scope c.args.scope.now) (read_locals c.args.vars.now) (read_expr c.args.expr.now) (read_family c.args.fam.now)) (object_complete (read_expr c.args.expr.now) (read_scope c.args.scope.now) (read_locals c.args.vars.now) (read_family c.args.fam.now)) c.object.result
-    (subst (Expands read_object c.object.result) (ap₂ (λ s l. expand_object s l (read_expr c.args.expr.now) (read_family c.args.fam.now)) c.in_ok-new.ensures.scope c.in_ok-new.ensures.locals) c.object.ensures)
+    (subst (Expands read_object c.object.result) (ap₂ (λ s l. expand_object s l (read_expr c.args.expr.now) (read_family c.args.fam.now)) (c.in_ok-new.ensures.scope ∙ c.new-tabled.ensures) c.in_ok-new.ensures.locals) c.object.ensures)
 
 pub returns-clause-typed : goal.returns-clause-typed
 returns-clause-typed c =
@@ -35,4 +35,4 @@ returns-clause-typed c =
     let context = context_of locals in
     stands_by read_object (λ object. IsTypedScope scope → IsContext signature context → IsFamily signature context family → Checks signature context object family) (expand_object scope locals expression family)
     (λ object answered typed within is_family. standing_object_checks scope locals expression family object typed within is_family (object_sound expression scope locals family object answered)) c.object.result
-    (subst (Expands read_object c.object.result) (ap₂ (λ s l. expand_object s l expression family) c.in_ok-new.ensures.scope c.in_ok-new.ensures.locals) c.object.ensures)
+    (subst (Expands read_object c.object.result) (ap₂ (λ s l. expand_object s l expression family) (c.in_ok-new.ensures.scope ∙ c.new-tabled.ensures) c.in_ok-new.ensures.locals) c.object.ensures)

@@ -11,7 +11,7 @@ use Rattle.module_verdicts.proofs.Built.{named_here}
 use Rattle.module_verdicts.proofs.declarations.declare_constant.Goals as goal
 
 pub unused_test-requires : goal.unused_test-requires
-unused_test-requires c = named_here c.args.faces.now c.args.here.now c.requires
+unused_test-requires c = named_here c.args.faces.now c.args.here.now c.requires.here
 
 pub add-requires : goal.add-requires
 add-requires c =
@@ -19,4 +19,4 @@ add-requires c =
     let name = read_written c.args.name.now in
     let named = constant_named _ here.name name (read_expr c.args.class.now) (option_map read_expr c.args.value.now) (read_declaration c.in_ok-decl.decl) c.in_ok-decl.ensures in
     ap (declaration_of (read_signature here.own)) named
-    ∙ unused_declared here (first_name name.path) (named_here c.args.faces.now here c.requires) (not_used (read_theory here) name c.in_ok-unused_test.ensures)
+    ∙ unused_declared here (first_name name.path) (named_here c.args.faces.now here c.requires.here) (not_used (read_theory here) name c.in_ok-unused_test.ensures)
