@@ -1,4 +1,3 @@
 mod AssignmentsLeft
-mod FirstNames
-mod FreeTargets
+mod MarkedTargets
 mod SharedStructures

@@ -67,7 +67,7 @@ fn read_all<'a>(
 {
     for assign in assigns {
         given.push(read_assign(alloc, setting, targets, assign)?)?;
-        targets.add(alloc, assign)?;
+        targets.add(assign)?;
     }
     Ok(())
 }

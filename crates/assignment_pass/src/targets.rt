@@ -11,20 +11,20 @@ ghost use Rattle.mmt_syntax.specs.Readings.{read_assign};
 ghost use Rattle.mmt_interface.specs.Readings.{environment_of};
 ghost use Rattle.link_setting.specs.Below.Readings.{read_link};
 ghost use Rattle.link_setting.specs.Readings.{read_setting};
-ghost use Rattle.assignment_pass.specs.Steps.{AreTabled, earlier_targets};
+ghost use Rattle.assignment_pass.specs.Steps.{AreTabled, earlier_targets, is_end};
 
 use indexmap::IndexSet;
-use lf_terms::{FlatSig, Memory, Name, Path};
-use link_setting::{Link, Setting, structures_link};
+use lf_terms::{FlatSig, Memory, Path};
+use link_setting::{Link, PathTree, Setting, structures_link};
 use mmt_syntax::Assign;
 use std::alloc::Global;
 
-/// The targets of the assignments so far, in order, and their first names: a path that begins with another name overlaps
-/// none of them.
+/// The targets of the assignments so far, in order, and a tree of them in which the places of whole targets are marked.
 #[derive(Drop)]
 pub(crate) struct Targets<'a> {
     paths: Vec<&'a Path>,
-    firsts: IndexSet<Name>,
+    tree: PathTree<'a>,
+    ends: IndexSet<usize>,
 }
 
 impl<'a> Targets<'a> {
@@ -34,68 +34,57 @@ impl<'a> Targets<'a> {
     {
         Targets {
             paths: Vec::new(alloc),
-            firsts: IndexSet::new(alloc),
+            tree: PathTree::new(alloc),
+            ends: IndexSet::new(alloc),
         }
     }
 
     /// Adds the target of an assignment, if it has one.
-    pub(crate) fn add(&mut self, alloc: Global, assign: &'a Assign) -> Result<(), Memory>
+    pub(crate) fn add(&mut self, assign: &'a Assign) -> Result<(), Memory>
         ensures targets { OnOk result (earlier_targets self.new ≡ passes.with_target (earlier_targets self.old) (read_assign assign.now)) }
         ensures tabled { OnOk result (AreTabled self.old → AreTabled self.new) }
     {
         match assign {
             Assign::Include(_) => Ok(()),
-            Assign::Struct { target, .. } => self.add_path(alloc, &target.path),
-            Assign::Const { target, .. } => self.add_path(alloc, &target.path),
+            Assign::Struct { target, .. } => self.add_path(&target.path),
+            Assign::Const { target, .. } => self.add_path(&target.path),
         }
     }
 
-    fn add_path(&mut self, alloc: Global, path: &'a Path) -> Result<(), Memory>
+    fn add_path(&mut self, path: &'a Path) -> Result<(), Memory>
         ensures targets { OnOk result (earlier_targets self.new ≡ path.now ∷ earlier_targets self.old) }
         ensures tabled { OnOk result (AreTabled self.old → AreTabled self.new) }
     {
-        let first = path.as_slice()[0].copy(alloc)?;
-        self.firsts.insert(first)?;
+        let place = self.tree.add(path)?;
+        self.ends.insert(place)?;
         self.paths.push(path)?;
         Ok(())
     }
 
-    /// Whether no target overlaps the path. Targets are gone through only where one of them has the path's first name.
+    /// Whether no target overlaps the path. Time grows with the path alone.
     pub(crate) fn are_apart_from(&self, path: &Path) -> bool
         requires { AreTabled self.now }
         ensures { result ≡ passes.is_free (earlier_targets self.now) path.now }
     {
-        match path.as_slice() {
-            [first, ..] if !self.firsts.contains(first) => true,
-            _ => self.none_overlaps(path),
-        }
-    }
-
-    fn none_overlaps(&self, path: &Path) -> bool
-        ensures { result ≡ passes.is_free (earlier_targets self.now) path.now }
-    {
-        for earlier in self.paths.as_slice() {
-            if overlap(path, earlier) {
+        let mut at = Some(0);
+        for name in path.as_slice() {
+            if self.has_end(at) {
                 return false;
             }
+            at = self.tree.next(at, name);
         }
-        true
+        at.is_none()
     }
-}
 
-/// Whether one of the two is a beginning of the other.
-fn overlap(path: &Path, other: &Path) -> bool
-    ensures { result ≡ passes.overlap path.now other.now }
-{
-    is_beginning(path.as_slice(), other.as_slice())
-        || is_beginning(other.as_slice(), path.as_slice())
-}
-
-/// Whether the first path is a beginning of the second, or equal to it.
-fn is_beginning(path: &[Name], other: &[Name]) -> bool
-    ensures { result ≡ passes.is_beginning path.now other.now }
-{
-    other.starts_with(path)
+    /// Whether there is a place, and a whole target leads to it.
+    fn has_end(&self, at: Option<usize>) -> bool
+        ensures { result ≡ is_end self.now at }
+    {
+        match at {
+            Some(place) => self.ends.contains(&place),
+            None => false,
+        }
+    }
 }
 
 /// Whether the domain has an own constant at a path.

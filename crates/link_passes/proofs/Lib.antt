@@ -1,5 +1,8 @@
 pub mod Below
 mod Reaching
+mod FirstNumbers
+mod NumberedTargets
+mod PathsReached
 mod Imaging
 mod SharedParts
 mod Spans

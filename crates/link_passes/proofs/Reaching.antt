@@ -1,12 +1,12 @@
 -- Which assignment reaches a constant: beginnings and rests of paths.
-use Rattle.std.proofs.Common.{◌≡◌, ◌≢◌, ℕ, ◌+◌, ◌-◌, ◌<◌, ◌≤◌, Bool, true, false, List, [], ◌∷◌, ◌++◌, map, take, drop, length, get_or, Option, Some, None, ◌&&◌, refl, sym, ap, ◌∙◌, arith}
-use Rattle.std.proofs.lemmas.List.{drop_more, drop_all, take_all}
+use Rattle.std.proofs.Common.{◌≡◌, ◌≢◌, ◌-◌, ◌<◌, ◌≤◌, Bool, true, false, List, [], ◌∷◌, ◌++◌, take, drop, length, get_or, Option, Some, None, ◌&&◌, refl, sym, ap, ◌∙◌, arith}
+use Rattle.std.proofs.lemmas.List.{take_all}
 use lib.Pointwise.{pointwise}
 use Rattle.name_meaning.specs.Names.{Name, Path, same_name}
 use Rattle.name_laws.proofs.Order.{same_itself, same_sound}
 use Rattle.name_laws.proofs.Contained.{same_other_way}
 use Rattle.link_meaning.specs.Assignments.{Assigned, Covering, Sharing, Giving, is_beginning}
-use Rattle.link_meaning.specs.Passes.{ByNone, rest_behind, reached_by, equal_paths}
+use Rattle.link_meaning.specs.Passes.{rest_behind, reached_by, equal_paths}
 use Rattle.link_passes.specs.Reaching.{reached_through}
 
 -- Two paths are equal where each is a beginning of the other.
@@ -73,13 +73,3 @@ unfolding reached_by
 reached_next (Covering first by) assigned path = refl
 reached_next (Sharing target structure first by) assigned path = refl
 reached_next (Giving target value) assigned path = refl
-
--- Each of what is left, and nothing where none is left.
-pub reached_at : {A : Type 0} (read : A → Assigned) (items : List A) (i : ℕ) (item : A) (path : Path) → i < length items → item ≡ get_or items i item
-    → reached_by (map read (drop i items)) path ≡ reached_through (read item) path (reached_by (map read (drop (i + 1) items)) path)
-reached_at read items i item path within here =
-    ap (λ left. reached_by (map read left) path) (drop_more items i item within ∙ ap (λ x. x ∷ drop (i + 1) items) (sym here)) ∙ reached_next (read item) (map read (drop (i + 1) items)) path
-
-pub reached_nowhere : {A : Type 0} (read : A → Assigned) (items : List A) (i : ℕ) (path : Path) → length items ≤ i → reached_by (map read (drop i items)) path ≡ ByNone
-unfolding reached_by
-reached_nowhere read items i path past = ap (λ left. reached_by (map read left) path) (drop_all i items past)

@@ -1,7 +1,7 @@
 -- Images for what is translated where shared structures are compared, and for what comes next.
 use Rattle.std.proofs.lemmas.Option.{same_Some}
 use Rattle.std.proofs.lemmas.List.{map-append}
-use Rattle.std.proofs.Common.{◌≡◌, Bool, true, false, cond, append_assoc, append-nil, List, [], ◌∷◌, ◌++◌, Option, Some, None, Ok, inl, inr, refl, sym, ap, ◌∙◌, subst}
+use Rattle.std.proofs.Common.{◌≡◌, Bool, true, false, cond, append_assoc, append-nil, List, [], ◌∷◌, ◌++◌, Option, Some, None, Ok, inl, inr, refl, sym, ap, ◌∙◌}
 use Rattle.list_laws.proofs.Answers.{came_by, ok_same}
 use Rattle.list_laws.proofs.Lists.{map_last}
 use Rattle.list_laws.proofs.Members.{Member}

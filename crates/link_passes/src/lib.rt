@@ -8,6 +8,7 @@ mod labels;
 mod passes;
 mod reached;
 mod sharing;
+mod targets;
 mod translated;
 mod values;
 

@@ -1,13 +1,17 @@
 //! Which assignment reaches an own constant of the domain.
-ghost use Rattle.std.specs.Prelude.{◌≡◌};
+ghost use Rattle.std.specs.Prelude.{◌≡◌, ◌<◌, IfOk, Some, length, slice_get};
 ghost use Rattle.std.specs.Option.{option_map};
+ghost use Rattle.link_meaning.specs.Assignments as links;
 ghost use Rattle.link_meaning.specs.Passes as passes;
 ghost use Rattle.link_setting.specs.Readings.{read_all_assigned, read_assigned};
 ghost use Rattle.link_passes.specs.Reaching.{read_rest, or_reached, reached_through};
+ghost use Rattle.link_passes.specs.Targets.{AreNumbered};
 
-use lf_terms::{Name, Path, Span};
+use crate::targets::Targets;
+use lf_terms::{Memory, Name, Path, Span};
 use link_setting::{Assigned, Link};
 use mmt_syntax::Expr;
+use std::alloc::Global;
 
 /// A path that is not empty, in its parts.
 #[derive(Clone, Copy)]
@@ -33,16 +37,46 @@ pub(crate) enum Reached<'a> {
     },
 }
 
-/// The first assignment that reaches the path. None where there is none.
-pub(crate) fn reached_by<'a>(assigned: &'a [Assigned<'a>], path: &'a Path) -> Option<Reached<'a>>
+/// The targets of these assignments, in a table that is made once for a link. It may find no memory.
+pub(crate) fn targets_of<'a>(
+    alloc: Global,
+    assigned: &[Assigned<'a>],
+) -> Result<Targets<'a>, Memory>
+    ensures { IfOk result (λ targets. AreNumbered targets (read_all_assigned assigned.now)) }
+{
+    let mut targets = Targets::new(alloc);
+    for (number, item) in assigned.iter().enumerate() {
+        targets.add(item, number)?;
+    }
+    Ok(targets)
+}
+
+/// The first assignment that reaches the path, by the table of their targets. None where there is none. Time grows with the
+/// path alone.
+pub(crate) fn reached_by<'a>(
+    targets: &Targets<'_>,
+    assigned: &'a [Assigned<'a>],
+    path: &'a Path,
+) -> Option<Reached<'a>>
+    requires { AreNumbered targets.now (read_all_assigned assigned.now) }
     ensures { or_reached result passes.ByNone ≡ passes.reached_by (read_all_assigned assigned.now) path.now }
 {
-    for item in assigned {
-        if let Some(reached) = reached_through_one(item, path) {
-            return Some(reached);
-        }
+    match targets.first(path) {
+        Some(number) => reached_at(assigned, number, path),
+        None => None,
     }
-    None
+}
+
+/// The assignment with a number, if it reaches the path.
+fn reached_at<'a>(
+    assigned: &'a [Assigned<'a>],
+    number: usize,
+    path: &'a Path,
+) -> Option<Reached<'a>>
+    requires { number < length assigned.now }
+    ensures { (item : links.Assigned) (otherwise : passes.Reached) → slice_get (read_all_assigned assigned.now) number ≡ Some item → or_reached result otherwise ≡ reached_through item path.now otherwise }
+{
+    reached_through_one(&assigned[number], path)
 }
 
 /// The assignment, if it reaches the path.

@@ -2,3 +2,4 @@ pub mod Below
 pub mod Readings
 pub mod Answers
 pub mod Labels
+pub mod PathTrees

@@ -3,6 +3,7 @@
 
 mod assigned;
 mod fault;
+mod path_tree;
 mod refusals;
 mod setting;
 
@@ -10,5 +11,6 @@ pub use assigned::Assigned;
 pub use fault::LinkFault;
 pub use morphism_words::{Link, MorphFault, includes, meaning, sees, structures_link};
 pub use names::Scope;
+pub use path_tree::PathTree;
 pub use refusals::{broken, demand, label_along};
 pub use setting::Setting;

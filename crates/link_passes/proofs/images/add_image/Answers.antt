@@ -7,4 +7,4 @@ use Rattle.link_passes.proofs.images.add_image.Goals as goal
 
 pub push_new-requires : goal.push_new-requires
 push_new-requires c =
-    new_in_table c.args.along.now c.in-Ok.name (ap (λ (n : QName). image_of (read_map c.args.along.now) (read_constant n)) c.in-Ok.ensures ∙ c.requires.fresh)
+    new_in_table c.args.along.now c.in-Ok.name (ap (λ (n : QName). image_of (read_map c.args.along.now) (read_constant n)) c.in-Ok.ensures ∙ c.requires.next.fresh)

@@ -59,8 +59,8 @@ returns c =
     let past : length own ≤ c.loop-index.index = omega (arith, length-map c.args.own.now read_declaration, c.len-index-end.ensures.len) in
     sym c.loop-index.invariant.left ∙ no_more (read_setting c.args.setting.now) (read_all_assigned c.args.assigned.now) (read_map c.loop-index.along) _ (drop_all c.loop-index.index own past)
 
-pub add_image-requires : goal.add_image-requires
-add_image-requires c =
+pub add_image-requires-clause-next : goal.add_image-requires-clause-next
+add_image-requires-clause-next c =
     let own = read_signature c.args.own.now in
     let i = c.loop-index.index in
     let d = read_declaration c.in-Some.decl.now in

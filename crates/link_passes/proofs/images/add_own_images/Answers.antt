@@ -8,10 +8,10 @@ use Rattle.link_setting.specs.Readings.{read_setting}
 use Rattle.link_passes.proofs.Imaging.{own_are_own}
 use Rattle.link_passes.proofs.images.add_own_images.Goals as goal
 
-pub add_images-requires-clause-own : goal.add_images-requires-clause-own
-add_images-requires-clause-own c = own_are_own (read_setting c.args.setting.now) c.requires.settled (read_theory c.in-Some.face.now) c.in-Some.ensures.meaning
+pub add_images-added-requires-clause-own : goal.add_images-added-requires-clause-own
+add_images-added-requires-clause-own c = own_are_own (read_setting c.args.setting.now) c.requires.settled (read_theory c.in-Some.face.now) c.in-Some.ensures.meaning
 
-pub add_images-requires-clause-before : goal.add_images-requires-clause-before
-add_images-requires-clause-before c =
+pub add_images-added-requires-clause-before : goal.add_images-added-requires-clause-before
+add_images-added-requires-clause-before c =
     subst (λ along. StandsBefore (read_map along) (read_signature c.in-Some.face.now.own)) (sym c.in_ok-reserve-in-Some.ensures)
     (subst (λ (z : Signature). StandsBefore (read_map c.args.along.now) z) (ap own_of (sym c.in-Some.ensures.meaning)) c.requires.before)
