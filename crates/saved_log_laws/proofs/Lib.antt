@@ -1,10 +1,10 @@
-mod Fronts
-mod Gates
-mod LastGates
-mod Damage
-mod TornWrites
-mod Appending
-mod CutShort
-mod Moments
+pub mod Fronts
+pub mod Gates
+pub mod LastGates
+pub mod Damage
+pub mod TornWrites
+pub mod Appending
+pub mod CutShort
+pub mod Moments
 mod FilesComputed
-mod OneForm
+pub mod OneForm

@@ -1,0 +1,8 @@
+use Rattle.saved_log.specs.MemDisks.{Other}
+use Rattle.saved_log.proofs.MemCalls.{after_noted, reads_other}
+use Rattle.saved_log.proofs.mem_disk.MemDiskDisk.open.Goals as goal
+
+pub returns-clause-reads : goal.returns-clause-reads
+returns-clause-reads c = λ told.
+    let after = after_noted Other c.args.self.now c.next.new.self c.note_other.new.self 0 32 c.in_ok-next.ensures.after c.note_other.ensures in
+    reads_other c.args.self.now c.note_other.new.self after.0 after.1
