@@ -4,3 +4,10 @@ pub mod Derivations
 pub mod DerivedTyping
 pub mod WrittenCertificates
 pub mod Computed
+pub mod SplitWords
+pub mod NumberedLines
+pub mod ConstantWords
+pub mod TextRows
+pub mod PlainWords
+pub mod WrittenTexts
+pub mod TextsComputed

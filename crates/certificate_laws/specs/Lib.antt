@@ -1,3 +1,5 @@
 pub mod StepLaws
 pub mod CertificateLaws
 pub mod Examples
+pub mod TextLaws
+pub mod TextExamples

@@ -6,3 +6,4 @@
 pub mod certificate_theorems;
 pub mod examples;
 pub mod step_theorems;
+pub mod text_theorems;

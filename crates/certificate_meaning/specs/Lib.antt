@@ -1,3 +1,4 @@
 pub mod Statements
 pub mod Steps
 pub mod Certificates
+pub mod Texts
