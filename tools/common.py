@@ -66,6 +66,11 @@ class Words:
             return runnable(pathlib.Path(named))
         return built_program()
 
+    def before(self):
+        """The other program of `--before FILE`, or None."""
+        named = self.options.get("--before")
+        return runnable(pathlib.Path(named)) if named else None
+
 
 def runnable(path):
     if not path.is_file() or not os.access(path, os.X_OK):

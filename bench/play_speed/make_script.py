@@ -21,7 +21,22 @@ towers   NUMBER theories, each of which has a structure of the last
 copied   NUMBER copies of a small hierarchy of algebras, each with a view into a theory of its own, and a check
 algebras NUMBER copies, at most 315, of thirteen modules of the example library, from propositions to rings and modules over rings
          with their views, and a check
+references  NUMBER theories with a constant, and a theory that includes them all and has as many constants with ten of these names each
+dependent   100 values of a constant that takes NUMBER arguments, where each second one's family names the first
+nested      100 values of NUMBER λs, with as many names of their variables
+definitions a theory of NUMBER definitions, each of which is the last one
+viewed      two theories of NUMBER constants, and a view that assigns each of them
+given       the same with the constants in a structure of the first theory
+shared      two theories of NUMBER structures of one theory, and a view that assigns each of them
+included    NUMBER theories with a constant, and a theory that includes them all
 levels   300 theories, each of which includes the last, and NUMBER edits of the first, the middle and the last one, each with a check
+bottom   NUMBER theories, each of which includes the last, a report of the last one, an edit of the first one, and the report again
+refused  the same theories without the edit, where the first one is refused
+backward the same theories, the last one put first, and a report of it
+rings    NUMBER theories, each of which includes twenty of all, so that most stand on rings, and a check
+lowest   NUMBER theories, each of which includes one of those before it, and a hundred edits of the first one, each with a report of the last
+middle   the same with a thousand edits of the one in the middle, each with its report
+highest  the same with a thousand edits of the last one, each with its report
 folder   NUMBER files of a megabyte
 """
 import pathlib
@@ -49,6 +64,14 @@ ELEVEN = "g (f (f z)) (g (f z) (f (g z z)))"
 
 def theory(name, body):
     return name, f"%sig {name} = {{ {body} }}."
+
+
+def constants(count):
+    return "".join(f"c{i} : type.\n" for i in range(count))
+
+
+def view(assignments):
+    return "V", f"%view V : A -> B = {{ {assignments} }}."
 
 
 def linked(count, body):
@@ -94,6 +117,41 @@ def modules(shape, count):
         case "applied":
             value = "f (" * 399 + "f z" + ")" * 399
             yield theory("M", HEAD + "".join(f"c{i} : a = {value}.\n" for i in range(count)))
+        case "references":
+            yield from (theory(f"T{i}", f"c{i} : type.") for i in range(count))
+            front = "".join(f"%include T{i}.\n" for i in range(count))
+            draw = random.Random(1)
+            names = [" -> ".join(f"c{draw.randrange(count)}" for _ in range(10)) for _ in range(count)]
+            yield theory("Top", front + "".join(f"r{i} : {named}.\n" for i, named in enumerate(names)))
+        case "dependent":
+            pairs = "".join(f"{{x{i}:a}} {{y{i}:p x{i}}} " for i in range(count // 2))
+            value = "k" + " z q" * (count // 2)
+            yield theory("M", f"a : type. p : a -> type. z : a. q : p z. k : {pairs}a.\n" + "".join(f"c{i} : a = {value}.\n" for i in range(100)))
+        case "nested":
+            family = "a -> " * count + "a"
+            binders = "".join(f"[x{i}:a] " for i in range(count))
+            value = f"{binders}k " + " ".join(f"x{i}" for i in range(count))
+            yield theory("M", f"a : type. k : {family}.\n" + "".join(f"c{i} : {family} = {value}.\n" for i in range(100)))
+        case "definitions":
+            yield theory("M", "a : type. z : a. d0 : a = z.\n" + "".join(f"d{i} : a = d{i - 1}.\n" for i in range(1, count)))
+        case "viewed":
+            yield theory("A", constants(count))
+            yield theory("B", constants(count))
+            yield view("".join(f"c{i} := c{i}.\n" for i in range(count)))
+        case "given":
+            yield theory("S", constants(count))
+            yield theory("A", "%struct s : S.")
+            yield theory("B", constants(count))
+            yield view("".join(f"s.c{i} := c{i}.\n" for i in range(count)))
+        case "shared":
+            yield theory("S", "a : type.")
+            structures = "".join(f"%struct s{i} : S.\n" for i in range(count))
+            yield theory("A", structures)
+            yield theory("B", structures)
+            yield view("".join(f"%struct s{i} := B.s{i}.\n" for i in range(count)))
+        case "included":
+            yield from (theory(f"T{i}", f"c{i} : type.") for i in range(count))
+            yield theory("Top", "".join(f"%include T{i}.\n" for i in range(count)))
         case "towers":
             yield from linked(count, "%struct s : {last}. c : s{path}a.")
 
@@ -196,6 +254,53 @@ def levels(count):
         yield "check\n"
 
 
+def includes(count, first):
+    yield theory("T0", first)
+    yield from (theory(f"T{i}", f"%include T{i - 1}.") for i in range(1, count))
+
+
+def bottom(count):
+    yield from (put(*module) for module in includes(count, "a : type."))
+    yield f"report T{count - 1}\n"
+    yield put(*theory("T0", "a : type. b : type."))
+    yield f"report T{count - 1}\n"
+
+
+def refused(count):
+    yield from (put(*module) for module in includes(count, "a : b."))
+    yield f"report T{count - 1}\n"
+
+
+def backward(count):
+    yield from (put(*module) for module in reversed(list(includes(count, "a : type."))))
+    yield f"report T{count - 1}\n"
+
+
+def rings(count):
+    draw = random.Random(1)
+    for i in range(count):
+        named = sorted(draw.sample(range(count), min(20, count)))
+        yield put(*theory(f"T{i}", " ".join(f"%include T{other}." for other in named if other != i)))
+    yield "check\n"
+
+
+def branching(count, edited_one, edits, told):
+    """Theories, each of which includes one of those before it, as the generator makes them, and edits of one of them."""
+    draw = random.Random(1)
+    last = [0] + [draw.randrange(i) for i in range(1, count)]
+
+    def at(i, revision):
+        front = f"%include T{last[i]}. " if i else "a : type. "
+        return theory(f"T{i}", front + f"c{i}x{revision} : type.")
+
+    for i in range(count):
+        yield put(*at(i, 0))
+    yield "check\n"
+    for revision in range(1, edits + 1):
+        yield put(*at(edited_one, revision))
+        yield f"report T{told}\n"
+
+
 def folder(count, path):
     """Files of a megabyte with theories of two thousand declarations: so the library stays below the most modules that it may have."""
     path.mkdir(parents=True, exist_ok=True)
@@ -230,6 +335,20 @@ def pieces(shape, count):
             yield from algebras(count)
         case "levels":
             yield from levels(count)
+        case "bottom":
+            yield from bottom(count)
+        case "refused":
+            yield from refused(count)
+        case "backward":
+            yield from backward(count)
+        case "rings":
+            yield from rings(count)
+        case "lowest":
+            yield from branching(count, 0, 100, count - 1)
+        case "middle":
+            yield from branching(count, count // 2, 1000, count // 2)
+        case "highest":
+            yield from branching(count, count - 1, 1000, count - 1)
         case _:
             name = ""
             for name, text in modules(shape, count):
