@@ -17,7 +17,7 @@ rest_free byte b bytes f = (and_parts (not (b == byte)) (list_all (λ c. not (c 
 first_same : {x y : ℕ} {xs ys : List ℕ} → x ∷ xs ≡ y ∷ ys → x ≡ y
 first_same e = cc
 
-rest_same : {x y : ℕ} {xs ys : List ℕ} → x ∷ xs ≡ y ∷ ys → xs ≡ ys
+pub rest_same : {x y : ℕ} {xs ys : List ℕ} → x ∷ xs ≡ y ∷ ys → xs ≡ ys
 rest_same e = cc
 
 -- a byte that is in the middle is not free

@@ -8,7 +8,7 @@ use Rattle.certificate_meaning.specs.Certificates.{Line, IsCertificate, Holds, H
 use Rattle.certificate_meaning.specs.Statements.{Statement}
 use Rattle.certificate_meaning.specs.Texts.{Word, words_text, line_text, next_number, first_line, IsAt, AreStepsAt, IsWritten, term_is_written, step_is_written, declaration_is_written, Writes, writes_nothing, writes_more, GoesOn, Begins, bad_first, bad_below}
 use Rattle.certificate_laws.specs.TextLaws.{WrittenIsCertified, WrittenIsOne, SignatureIsOne, BadIsNone, BadIsOne}
-use Rattle.certificate_laws.proofs.SplitWords.{IsFree, AreFree, not_free, last_cut, one_row}
+use Rattle.certificate_laws.proofs.SplitWords.{IsFree, AreFree, not_free, last_cut, one_row, rest_same}
 use Rattle.certificate_laws.proofs.TextRows.{RowOf, row_of, one_written}
 use Rattle.certificate_laws.proofs.PlainWords.{plain_words, without_feeds, without_spaces}
 
@@ -123,9 +123,6 @@ written_is_one text first second h w v = one_text w v refl h
 pub signature_is_one : SignatureIsOne
 signature_is_one text first second h w v = sym w.signature ∙ ap signature_of (one_text w.writes v.writes refl h) ∙ v.signature
 
-rests : {x y : ℕ} {xs ys : List ℕ} → x ∷ xs ≡ y ∷ ys → xs ≡ ys
-rests e = cc
-
 -- the last number of one list is one
 last_same : (xs ys : List ℕ) (x y : ℕ) → xs ++ x ∷ [] ≡ ys ++ y ∷ [] → y ≡ x
 last_same [] [] x y e = cc
@@ -133,7 +130,7 @@ last_same [] (b ∷ []) x y e = absurd cc
 last_same [] (b ∷ c ∷ ys) x y e = absurd cc
 last_same (b ∷ []) [] x y e = absurd cc
 last_same (b ∷ c ∷ xs) [] x y e = absurd cc
-last_same (b ∷ xs) (c ∷ ys) x y e = last_same xs ys x y (rests e)
+last_same (b ∷ xs) (c ∷ ys) x y e = last_same xs ys x y (rest_same e)
 
 -- two ways to cut a list: the second cut is at the first or behind it, or before it
 data Cuts (front rest other more : List ℕ) : Type 0 where
@@ -143,7 +140,7 @@ data Cuts (front rest other more : List ℕ) : Type 0 where
 cuts : (front rest other more : List ℕ) → front ++ rest ≡ other ++ more → Cuts front rest other more
 cuts [] rest other more e = behind other refl e
 cuts (b ∷ front) rest [] more e = before (b ∷ front) refl (sym e)
-cuts (b ∷ front) rest (c ∷ other) more e = by (cuts front rest other more (rests e))
+cuts (b ∷ front) rest (c ∷ other) more e = by (cuts front rest other more (rest_same e))
   where
     firsts : {x y : ℕ} {xs ys : List ℕ} → x ∷ xs ≡ y ∷ ys → x ≡ y
     firsts e = cc
